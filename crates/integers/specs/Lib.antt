@@ -1,0 +1,10 @@
+pub mod Ring
+pub mod Solver
+pub mod Solve
+pub mod Order
+pub mod Linear
+pub mod Sign
+pub mod Mach
+pub mod Cast
+pub mod Words
+pub mod Bools

@@ -1,0 +1,46 @@
+-- The pages of a list.
+use mathlib.Core.Bool.{Bool, true, false, cond, _&&_}
+use mathlib.Core.List.{List, [], _∷_, _++_}
+use Prim.Native.Nat.{ℕ, zero, suc, _-_}
+use lib.Dec.{eqb}
+use lib.ListN.{length, take, replicate}
+use Rattle.list.specs.declared.Key.{Key}
+use Rattle.list.specs.declared.Pair.{Pair}
+use Rattle.list.specs.declared.Source.{Source}
+use Rattle.list.specs.declared.Page.{Page}
+use Rattle.list.specs.Pairs.{none, after, lastOr, isNone}
+
+-- 13 "page of other editions": the number for a page of `b` and a book of `a`, 0 where they are of one list
+unfoldable pub sourceNo : Source → Source → ℕ
+sourceNo a b = cond (eqb (a .«p_edition») (b .«p_edition») && eqb (a .«q_edition») (b .«q_edition»)) 0 13
+
+-- sixteen pairs, the unused ones (0, 0)
+unfoldable pub padded : List Pair → List Pair
+padded l = l ++ replicate (16 - length l) none
+
+-- "the first `size` ring pairs strictly after the key (fewer if fewer follow)"
+unfoldable pub shown : List Pair → Key → ℕ → List Pair
+shown l k size = take size (after k l)
+
+-- "The page holds both editions, the key, the first `size` ring pairs strictly after the key (fewer if fewer follow), their number and an end
+-- mark, set exactly when no ring pair follows the last one shown, or follows the key if none is shown. Unused pairs are (0, 0)."
+unfoldable pub pageOf : Source → List Pair → Key → ℕ → Page
+pageOf s l k size =
+    record {
+      source = s;
+      key = k;
+      count = length (shown l k size);
+      end = isNone (after (lastOr k (shown l k size)) l);
+      pairs = padded (shown l k size);
+    }
+
+-- the pairs that a page shows
+unfoldable pub pagePairs : Page → List Pair
+pagePairs g = take (g .count) (g .pairs)
+
+-- the pages from `k` on, each next key the last pair shown, until the end mark (at most f pages)
+unfoldable pub followed : ℕ → (ℕ → ℕ) → Source → List Pair → Key → List Pair
+followed zero sizes s l k = []
+followed (suc f) sizes s l k =
+    pagePairs (pageOf s l k (sizes 0))
+    ++ cond (pageOf s l k (sizes 0) .end) [] (followed f (λ i. sizes (suc i)) s l (lastOr k (pagePairs (pageOf s l k (sizes 0)))))

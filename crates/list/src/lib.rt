@@ -1,0 +1,59 @@
+// The list of ring pairs and its pages, with no tree in sight: keys, pairs, what list a page is of, and the page.
+ghost use mathlib.Core.Path.{_≡_};
+ghost use Rattle.list.specs.Pairs.{keyOf, follows};
+ghost use Rattle.list.specs.Pages.{sourceNo};
+
+// A place in the list: a chamber's id, then a pump house's.
+#[repr(C)]
+pub struct Key {
+    pub q: u32,
+    pub p: u32,
+}
+
+// A chamber and a pump house, by their ids.
+#[repr(C)]
+pub struct Pair {
+    pub q: u32,
+    pub p: u32,
+}
+
+// What list a page or a book is of.
+#[repr(C)]
+pub struct Source {
+    pub p_edition: u32,
+    pub q_edition: u32,
+}
+
+// One page of a list: the pairs that follow a key, how many they are, and whether none follows them.
+#[repr(C)]
+pub struct Page {
+    pub source: Source,
+    pub key: Key,
+    pub count: usize,
+    pub end: bool,
+    pub pairs: [Pair; 16],
+}
+
+// The key of a pair.
+pub fn key_of(v: Pair) -> Key
+    ensures { λ r. ⌜ r ≡ keyOf v ⌝ }
+{
+    Key { q: v.q, p: v.p }
+}
+
+// Whether `v` stands strictly after `k`.
+pub fn is_after(k: Key, v: Key) -> bool
+    ensures { λ r. ⌜ r ≡ follows k v ⌝ }
+{
+    (k.q < v.q) | ((k.q == v.q) & (k.p < v.p))
+}
+
+// The number of refusal for a page of `b` handed to a book of `a`, 0 where they are of one list.
+pub fn source_no(a: Source, b: Source) -> u32
+    ensures { λ r. ⌜ r ≡ sourceNo a b ⌝ }
+{
+    if (a.p_edition == b.p_edition) & (a.q_edition == b.q_edition) {
+        return 0;
+    }
+    13
+}

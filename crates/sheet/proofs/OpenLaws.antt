@@ -1,0 +1,50 @@
+-- What a right trailer says.
+-- Assumes nothing.
+use mathlib.Core.Path.{_≡_, refl, sym, ap, subst, _∙_}
+use mathlib.Core.Bool.{Bool, true, false, not, cond, _&&_, Bool·beq}
+use mathlib.Core.Logic.{_⊎_, inl, inr, ⊎-elim}
+use mathlib.Core.List.{List}
+use Prim.Native.Nat.{ℕ, _+_, _*_, _<_, _≤_}
+use native.Mathlib.Omega.{arith}
+use lib.Dec.{ltb, eqb}
+use lib.IntN.{ℤ, pos}
+use lib.ListN.{length}
+use borrow.Author.Tests.{ltb-false, eqb-true}
+use Rattle.words.specs.Word.{within, eqZ}
+use Rattle.integers.specs.Bools.{and-left, and-right}
+use Rattle.words.proofs.Signs.{within-num}
+use Rattle.sheet.specs.Layout.{form, nWord, mWord, edition, span, root, points, nodes, rootWord, countsOk, layoutOk, trailerNo}
+use Rattle.sheet.specs.Nodes.{nodesOk, tableOk}
+
+pub record Trailer (w : List ℤ) : Type 0 where
+  pub long : 6 ≤ length w
+  pub n-le : points w ≤ 1000
+  pub m-le : nodes w ≤ 400
+  pub size : length w ≡ 5 * points w + 7 * nodes w + 6
+
+-- no refusal means that all four tests hold
+four : (a b c d : Bool) → _≡_ {A = ℕ} (cond a 1 (cond (not b) 2 (cond (not c) 3 (cond (not d) 4 0)))) 0 → (a ≡ false) × (c ≡ true) × (d ≡ true)
+four true b c d e = absurd (omega arith)
+four false false c d e = absurd (omega arith)
+four false true false d e = absurd (omega arith)
+four false true true false e = absurd (omega arith)
+four false true true true e = (refl, refl, refl)
+
+pub trailer-facts : (w : List ℤ) → trailerNo w ≡ 0 → Trailer w
+unfolding trailerNo countsOk layoutOk
+trailer-facts w e =
+    let f = four (ltb (length w) 6) (eqZ (form w) (pos 1)) (countsOk w) (layoutOk w) e in
+    let a = within (pos 0) (pos 1000) (nWord w) in
+    let b = within (pos 0) (pos 400) (mWord w) in
+    let c = within (pos 1) (pos 1000000000) (edition w) in
+    let e₁ = and-left (a && b) c (f .1) in
+    record {
+      long = ltb-false (length w) 6 (f .0);
+      n-le = within-num 0 1000 (nWord w) (and-left a b e₁) .1;
+      m-le = within-num 0 400 (mWord w) (and-right a b e₁) .1;
+      size = eqb-true (length w) (5 * points w + 7 * nodes w + 6) (and-right (eqZ (span w) (pos (5 * points w + 7 * nodes w)) && eqZ (root w) (pos (rootWord (nodes w)))) (eqb (length w) (5 * points w + 7 * nodes w + 6)) (f .2));
+    }
+
+pub nodes-table : (w : List ℤ) (n m : ℕ) → nodesOk w n m ≡ true → tableOk w n m ≡ true
+unfolding nodesOk
+nodes-table w n m e = and-right (Bool·beq (eqb n 0) (eqb m 0)) (tableOk w n m) e

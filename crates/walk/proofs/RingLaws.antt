@@ -1,0 +1,299 @@
+-- What the ring walk of one sheet means. For every sheet that opens, every pair a, b and every position `end` of the sheet that stands at a or at b:
+--     `clear-iff`     the walk is clear exactly if no position but `end` blocks a, b
+--     `point-blocks`     a point answer names a position other than `end` that blocks
+--     `side-blocks`     a side answer names a node below which such a position stands
+--     `ring-opened`     at most m nodes are opened
+-- Assumes nothing.
+use mathlib.Core.Path.{_≡_, refl, sym, ap, subst, _∙_}
+use mathlib.Core.Bool.{Bool, true, false, cond, not, _&&_, false≢true}
+use mathlib.Core.Logic.{_⊎_, inl, inr, ⊎-elim, _↔_}
+use mathlib.Core.List.{List}
+use Prim.Native.Nat.{ℕ, zero, suc, _+_, _-_, _<_, _≤_}
+use native.Mathlib.Omega.{arith}
+use lib.Dec.{eqb, ltb}
+use lib.IntN.{ℤ, pos}
+use lib.Signed.{_<ℤ_}
+use borrow.Author.Tests.{eqb-true, eqb-false, eq-eqb, ne-eqb, ltb-true, not-true}
+use Rattle.integers.specs.Bools.{and-left, and-right, decide, clash}
+use Rattle.plane.specs.declared.Spot.{Spot}
+use Rattle.plane.specs.Rule.{dot, blocks, far, sideIn}
+use Rattle.plane.proofs.RuleLaws.{far-clear, side-strict, strict-blocks, strict-not-left, strict-not-right}
+use Rattle.sheet.specs.Layout.{points, nodes}
+use Rattle.sheet.specs.Order.{orderOf, rankOf, orderOk}
+use Rattle.sheet.specs.Nodes.{levelOf, tableOk}
+use Rattle.sheet.specs.Boxes.{Below, tightOk, treeSize}
+use Rattle.sheet.specs.Places.{spotOf, boxOf}
+use Rattle.sheet.specs.Open.{openNo}
+use Rattle.sheet.proofs.OrderLaws.{order-below, rank-below, order-rank}
+use Rattle.sheet.proofs.PlaceLaws.{in-box, touching, touching-below, on-sides, below-place}
+use Rattle.sheet.proofs.SheetLaws.{open-facts}
+use Rattle.walk.specs.declared.Blocker.{Blocker}
+use Rattle.walk.specs.declared.Hit.{Hit}
+use Rattle.walk.specs.declared.Hit.the-variants.{Clear, Point, Side}
+use Rattle.walk.specs.declared.Answer.{Answer}
+use Rattle.walk.specs.Walk.{walk, walkAll}
+use Rattle.walk.specs.RingWalk.{clear, clearAt, unlessHit, meet, ringTake, enter, ringVisit, ringNode, ringOn, ringWalk}
+use Rattle.walk.proofs.WalkLaws.{Steps, Does, walk-does, all-does, walk-opened, all-opened, all-shift}
+
+-- position i is not the end, and blocks
+pub record Blocks (w : List ℤ) (n : ℕ) (a b : Spot) (end i : ℕ) : Type 0 where
+  pub below : i < n
+  pub other : i ≡ end → ⊥
+  pub blocking : blocks a b (spotOf w i) ≡ true
+
+-- no position but the end blocks
+abbrev pub Free : List ℤ → ℕ → Spot → Spot → ℕ → Type 0
+Free w n a b end = (i : ℕ) → i < n → (i ≡ end → ⊥) → blocks a b (spotOf w i) ≡ false
+
+-- a place below node j at which such a position stands
+pub record BlocksBelow (w : List ℤ) (n : ℕ) (a b : Spot) (end j : ℕ) : Type 0 where
+  pub place : ℕ
+  pub under : Below w n (levelOf w n j) j place
+  pub there : Blocks w n a b end (orderOf w n place)
+
+-- what an answer says is so
+abbrev pub Truth : ℕ → List ℤ → ℕ → ℕ → Spot → Spot → ℕ → Hit → Type 0
+Truth set w n m a b end Clear = Unit {0}
+Truth set w n m a b end (Point x) = (x .set ≡ set) × Blocks w n a b end (x .position)
+Truth set w n m a b end (Side s j) = (s ≡ set) × (j < m) × BlocksBelow w n a b end j
+
+pub record True (set : ℕ) (w : List ℤ) (n m : ℕ) (a b : Spot) (end : ℕ) (s : Answer) : Type 0 where
+  pub so : Truth set w n m a b end (s .hit)
+
+-- an answer that is clear was clear before
+pub record Since (s t : Answer) : Type 0 where
+  pub clear-before : clear (t .hit) ≡ true → clear (s .hit) ≡ true
+
+-- where the answer is clear, the position at place r is the end or does not block
+pub record Passed (w : List ℤ) (n : ℕ) (a b : Spot) (end : ℕ) (s : Answer) (r : ℕ) : Type 0 where
+  pub passes : clear (s .hit) ≡ true → (orderOf w n r ≡ end → ⊥) → blocks a b (spotOf w (orderOf w n r)) ≡ false
+
+module _ (set : ℕ) (w : List ℤ) (n m : ℕ) (a b : Spot) (end : ℕ) where
+  ring-steps : Steps (True set w n m a b end) Since (Passed w n a b end)
+  ring-steps =
+      record {
+        same = λ s. record { clear-before = λ e. e };
+        after = λ s t u x y. record { clear-before = λ e. x .clear-before (y .clear-before e) };
+        still = λ s t k x d. record { passes = λ e. d .passes (x .clear-before e) };
+      }
+
+  abbrev Rings : Answer → Answer → (ℕ → Type 0) → Type 0
+  Rings = Does (True set w n m a b end) Since (Passed w n a b end)
+
+  -- nothing is done after a hit
+  stopped : (s : Answer) (C : ℕ → Type 0) → clear (s .hit) ≡ false → True set w n m a b end s → Rings s s C
+  stopped s C e g = record { good = g; more = record { clear-before = λ x. x }; done = λ k c. record { passes = λ x. clash x e } }
+
+  -- and a hit deals with everything
+  hit-does : (s : Answer) (h : Hit) (o : ℕ) (C : ℕ → Type 0) → clear h ≡ false → Truth set w n m a b end h → Rings s (record { hit = h; opened = o }) C
+  hit-does s h o C e t = record { good = record { so = t }; more = record { clear-before = λ x. clash x e }; done = λ k c. record { passes = λ x. clash x e } }
+
+  module _ (ordered : orderOk w n ≡ true) (ok : tableOk w n m ≡ true) (tight : tightOk w n m ≡ true) (at-end : (spotOf w end ≡ a) ⊎ (spotOf w end ≡ b)) where
+    take-does : (r : ℕ) → r < n → (s : Answer) → True set w n m a b end s → Rings s (ringTake set w n a b end r s) (λ i. i ≡ r)
+    unfolding ringTake meet
+    take-does r h s g = by (clear (s .hit)) refl
+      where
+        i : ℕ
+        i = orderOf w n r
+
+        test : (t : Bool) → (not (eqb i end) && blocks a b (spotOf w i)) ≡ t → Rings s (cond t (record { hit = Point (record { set = set; position = i }); opened = s .opened }) s) (λ k. k ≡ r)
+        test true e =
+            hit-does s _ _ _ refl
+            (refl, record { below = order-below w n ordered r h; other = eqb-false i end (not-true _ (and-left (not (eqb i end)) (blocks a b (spotOf w i)) e)); blocking = and-right (not (eqb i end)) (blocks a b (spotOf w i)) e })
+        test false e =
+            record {
+              good = g;
+              more = record { clear-before = λ x. x };
+              done = λ k c. subst (Passed w n a b end s) (sym c) (record { passes = λ x ne. subst (λ (t : Bool). (not t && blocks a b (spotOf w i)) ≡ false) (ne-eqb i end ne) e });
+            }
+
+        by : (t : Bool) → clear (s .hit) ≡ t → Rings s (cond t (meet set w a b end i s) s) (λ k. k ≡ r)
+        by true e = test (not (eqb i end) && blocks a b (spotOf w i)) refl
+        by false e = stopped s _ e g
+
+    -- a point strictly inside is not the end
+    strict-other : (i : ℕ) → dot a b (spotOf w i) <ℤ pos 0 → i ≡ end → ⊥
+    strict-other i h e =
+        ⊎-elim
+        (λ (x : spotOf w end ≡ a). strict-not-left a b (spotOf w i) h (ap (spotOf w) e ∙ x))
+        (λ (x : spotOf w end ≡ b). strict-not-right a b (spotOf w i) h (ap (spotOf w) e ∙ x))
+        at-end
+
+    -- where a side lies strictly inside, a position below the node blocks
+    side-below : (j : ℕ) → j < m → sideIn a b (boxOf w n j) < 4 → BlocksBelow w n a b end j
+    side-below j h q =
+        let l = levelOf w n j in
+        let k = touching w n m ok tight l j h refl (sideIn a b (boxOf w n j)) in
+        let u = touching-below w n m ok tight l j h refl (sideIn a b (boxOf w n j)) in
+        let d = side-strict a b (boxOf w n j) _ (on-sides w n m ok tight l j h refl) q in
+        record {
+          place = k;
+          under = u;
+          there = record { below = order-below w n ordered k (below-place w n m ok tight l j h refl k u); other = strict-other (orderOf w n k) d; blocking = strict-blocks a b (spotOf w (orderOf w n k)) d };
+        }
+
+    visit-does : (l j : ℕ) → j < m → levelOf w n j ≡ l → (go : Answer → Answer) → ((s : Answer) → True set w n m a b end s → Rings s (go s) (Below w n l j)) → (s : Answer) → True set w n m a b end s → Rings s (ringVisit set w n a b j go s) (Below w n l j)
+    unfolding ringVisit enter
+    visit-does l j h e go does s g = by (clear (s .hit)) refl
+      where
+        counted : Answer
+        counted = record { hit = s .hit; opened = s .opened + 1 }
+
+        side : Answer
+        side = record { hit = Side set j; opened = s .opened }
+
+        inner : (t : Bool) → ltb (sideIn a b (boxOf w n j)) 4 ≡ t → Rings s (cond t side (go counted)) (Below w n l j)
+        inner true q = hit-does s _ _ _ refl (refl, h, side-below j h (ltb-true (sideIn a b (boxOf w n j)) 4 q))
+        inner false q = let d = does counted (record { so = g .so }) in record { good = d .good; more = record { clear-before = λ x. d .more .clear-before x }; done = d .done }
+
+        outer : (t : Bool) → far a b (boxOf w n j) ≡ t → Rings s (cond t s (cond (ltb (sideIn a b (boxOf w n j)) 4) side (go counted))) (Below w n l j)
+        outer true f =
+            record {
+              good = g;
+              more = record { clear-before = λ x. x };
+              done = λ k c. record { passes = λ x ne. far-clear a b (boxOf w n j) (spotOf w (orderOf w n k)) f (in-box w n m ok tight l j h e k c) };
+            }
+        outer false f = inner (ltb (sideIn a b (boxOf w n j)) 4) refl
+
+        by : (t : Bool) → clear (s .hit) ≡ t → Rings s (cond t (enter set w n a b j go s) s) (Below w n l j)
+        by true c = outer (far a b (boxOf w n j)) refl
+        by false c = stopped s _ c g
+
+    pub ring-does : (m ≡ 0 → n ≡ 0) → (s : Answer) → True set w n m a b end s → Rings s (walkAll w n m (ringVisit set w n a b) (ringTake set w n a b end) s) (λ r. r < n)
+    ring-does z = all-does (True set w n m a b end) Since (Passed w n a b end) ring-steps w n m ok (ringVisit set w n a b) (ringTake set w n a b end) take-does visit-does z
+
+-- ---- nodes opened
+
+take-opened : (set : ℕ) (w : List ℤ) (n : ℕ) (a b : Spot) (end r : ℕ) (s : Answer) → ringTake set w n a b end r s .opened ≡ s .opened
+unfolding ringTake meet
+take-opened set w n a b end r s = go (clear (s .hit)) (not (eqb (orderOf w n r) end) && blocks a b (spotOf w (orderOf w n r)))
+  where
+    go : (c t : Bool) → cond c (cond t (record { hit = Point (record { set = set; position = orderOf w n r }); opened = s .opened }) s) s .opened ≡ s .opened
+    go true true = refl
+    go true false = refl
+    go false t = refl
+
+visit-opened : (set : ℕ) (w : List ℤ) (n : ℕ) (a b : Spot) (j c : ℕ) (go : Answer → Answer) → ((s : Answer) → go s .opened ≤ s .opened + c) → (s : Answer) → ringVisit set w n a b j go s .opened ≤ s .opened + suc c
+unfolding ringVisit enter
+visit-opened set w n a b j c go h s = by (clear (s .hit)) (far a b (boxOf w n j)) (ltb (sideIn a b (boxOf w n j)) 4)
+  where
+    by : (x y z : Bool) → cond x (cond y s (cond z (record { hit = Side set j; opened = s .opened }) (go (record { hit = s .hit; opened = s .opened + 1 })))) s .opened ≤ s .opened + suc c
+    by true true z = omega arith
+    by true false true = omega arith
+    by true false false = omega (arith, h (record { hit = s .hit; opened = s .opened + 1 }))
+    by false y z = omega arith
+
+-- from node j down at most the nodes from there down are opened: what keeps a count in its range
+pub ring-node-opened : (set : ℕ) (w : List ℤ) (n : ℕ) (a b : Spot) (end l j : ℕ) (s : Answer) → ringNode set w n a b end l j s .opened ≤ s .opened + treeSize w n l j
+unfolding ringNode
+ring-node-opened set w n a b end = walk-opened (λ (s : Answer). s .opened) w n (ringVisit set w n a b) (ringTake set w n a b end) (take-opened set w n a b end) (visit-opened set w n a b)
+
+-- ---- nothing is done after a hit, and nodes opened before are added
+
+pub node-stops : (set : ℕ) (w : List ℤ) (n : ℕ) (a b : Spot) (end l j : ℕ) (s : Answer) → clear (s .hit) ≡ false → ringNode set w n a b end l j s ≡ s
+unfolding ringNode walk ringVisit
+node-stops set w n a b end zero j s e = rw e
+node-stops set w n a b end (suc l) j s e = rw e
+
+pub on-stops : (set : ℕ) (w : List ℤ) (a b : Spot) (end : ℕ) (s : Answer) → clear (s .hit) ≡ false → ringOn set w a b end s ≡ s
+unfolding ringOn walkAll ringNode
+on-stops set w a b end s e = go (eqb (nodes w) 0)
+  where
+    go : (t : Bool) → cond t s (ringNode set w (points w) a b end (levelOf w (points w) (nodes w - 1)) (nodes w - 1) s) ≡ s
+    go true = refl
+    go false = node-stops set w (points w) a b end (levelOf w (points w) (nodes w - 1)) (nodes w - 1) s e
+
+-- an answer that is clear says only how many nodes are opened
+pub only-clear : (s : Answer) → clear (s .hit) ≡ true → s ≡ clearAt (s .opened)
+only-clear s e = ap (λ (h : Hit). record { hit = h; opened = s .opened }) (go (s .hit) e)
+  where
+    go : (h : Hit) → clear h ≡ true → h ≡ Clear
+    go Clear e = refl
+    go (Point x) e = clash e refl
+    go (Side x y) e = clash e refl
+
+-- an answer, with c more nodes opened
+abbrev pub plus : ℕ → Answer → Answer
+plus c s = record { hit = s .hit; opened = c + s .opened }
+
+take-plus : (c set : ℕ) (w : List ℤ) (n : ℕ) (a b : Spot) (end r : ℕ) (s : Answer) → ringTake set w n a b end r (plus c s) ≡ plus c (ringTake set w n a b end r s)
+unfolding ringTake meet
+take-plus c set w n a b end r s = go (clear (s .hit)) (not (eqb (orderOf w n r) end) && blocks a b (spotOf w (orderOf w n r)))
+  where
+    go : (x y : Bool) → cond x (cond y (record { hit = Point (record { set = set; position = orderOf w n r }); opened = c + s .opened }) (plus c s)) (plus c s) ≡ plus c (cond x (cond y (record { hit = Point (record { set = set; position = orderOf w n r }); opened = s .opened }) s) s)
+    go true true = refl
+    go true false = refl
+    go false y = refl
+
+visit-plus : (c set : ℕ) (w : List ℤ) (n : ℕ) (a b : Spot) (j : ℕ) (go : Answer → Answer) → ((s : Answer) → go (plus c s) ≡ plus c (go s)) → (s : Answer) → ringVisit set w n a b j go (plus c s) ≡ plus c (ringVisit set w n a b j go s)
+unfolding ringVisit enter
+visit-plus c set w n a b j go h s = by (clear (s .hit)) (far a b (boxOf w n j)) (ltb (sideIn a b (boxOf w n j)) 4)
+  where
+    one : go (record { hit = s .hit; opened = c + s .opened + 1 }) ≡ plus c (go (record { hit = s .hit; opened = s .opened + 1 }))
+    one = let e : c + s .opened + 1 ≡ c + (s .opened + 1) = omega arith in ap (λ (o : ℕ). go (record { hit = s .hit; opened = o })) e ∙ h (record { hit = s .hit; opened = s .opened + 1 })
+
+    by : (x y z : Bool) → cond x (cond y (plus c s) (cond z (record { hit = Side set j; opened = c + s .opened }) (go (record { hit = s .hit; opened = c + s .opened + 1 })))) (plus c s) ≡ plus c (cond x (cond y s (cond z (record { hit = Side set j; opened = s .opened }) (go (record { hit = s .hit; opened = s .opened + 1 })))) s)
+    by true true z = refl
+    by true false true = refl
+    by true false false = one
+    by false y z = refl
+
+-- a walk that goes on from c nodes opened is the walk by itself, with c nodes more
+pub on-adds : (set : ℕ) (w : List ℤ) (a b : Spot) (end c : ℕ) → ringOn set w a b end (clearAt c) ≡ plus c (ringWalk set w a b end)
+unfolding ringOn ringWalk
+on-adds set w a b end c =
+    let e : c + 0 ≡ c = omega arith in
+    ap (λ (o : ℕ). ringOn set w a b end (clearAt o)) (sym e)
+    ∙ all-shift (plus c) w (points w) (ringVisit set w (points w) a b) (ringTake set w (points w) a b end) (take-plus c set w (points w) a b end) (visit-plus c set w (points w) a b) (nodes w) (clearAt 0)
+
+-- ---- the sheet
+
+module _ (set : ℕ) (w : List ℤ) (opens : openNo w ≡ 0) (a b : Spot) (end : ℕ) (at-end : (spotOf w end ≡ a) ⊎ (spotOf w end ≡ b)) where
+  whole : Does (True set w (points w) (nodes w) a b end) Since (Passed w (points w) a b end) (clearAt 0) (ringWalk set w a b end) (λ r. r < points w)
+  unfolding ringWalk ringOn
+  whole =
+      let o = open-facts w opens in
+      ring-does set w (points w) (nodes w) a b end (o .ordered) (o .table) (o .tight) at-end (o .empty) (clearAt 0) (record { so = tt })
+
+  -- A point answer names a position that is not the end, and blocks.
+  pub point-blocks : (x : Blocker) → ringWalk set w a b end .hit ≡ Point x → (x .set ≡ set) × Blocks w (points w) a b end (x .position)
+  point-blocks x e = subst (Truth set w (points w) (nodes w) a b end) e (whole .good .so)
+
+  -- A side answer names a node below which such a position stands.
+  pub side-blocks : (s j : ℕ) → ringWalk set w a b end .hit ≡ Side s j → (s ≡ set) × (j < nodes w) × BlocksBelow w (points w) a b end j
+  side-blocks s j e = subst (Truth set w (points w) (nodes w) a b end) e (whole .good .so)
+
+  -- Where the walk is clear, no position but the end blocks.
+  clear-free : clear (ringWalk set w a b end .hit) ≡ true → Free w (points w) a b end
+  clear-free c i h ne =
+      let o = open-facts w opens in
+      let r = rankOf w (points w) i in
+      let e = order-rank w (points w) (o .ordered) i h in
+      let p = whole .done r (rank-below w (points w) (o .ordered) i h) in
+      subst (λ (x : ℕ). blocks a b (spotOf w x) ≡ false) e (p .passes c (λ z. ne (sym e ∙ z)))
+
+  -- And where none blocks, it is clear.
+  free-clear : Free w (points w) a b end → clear (ringWalk set w a b end .hit) ≡ true
+  free-clear f = go (ringWalk set w a b end .hit) (whole .good .so)
+    where
+      no : (i : ℕ) → Blocks w (points w) a b end i → false ≡ true
+      no i x = clash (x .blocking) (f i (x .below) (x .other))
+
+      go : (h : Hit) → Truth set w (points w) (nodes w) a b end h → clear h ≡ true
+      go Clear t = refl
+      go (Point x) t = no (x .position) (t .1)
+      go (Side s j) t = no _ (t .2 .there)
+
+  pub clear-iff : (clear (ringWalk set w a b end .hit) ≡ true) ↔ Free w (points w) a b end
+  clear-iff = (clear-free, free-clear)
+
+-- At most m nodes are opened.
+pub opened-by : (set : ℕ) (w : List ℤ) (n m : ℕ) (a b : Spot) (end : ℕ) → points w ≡ n → nodes w ≡ m → tableOk w n m ≡ true → ringWalk set w a b end .opened ≤ m
+unfolding ringWalk ringOn
+opened-by set w n m a b end e f ok =
+    let t = subst (λ (x : ℕ). tableOk w x (nodes w) ≡ true) (sym e) (subst (λ (y : ℕ). tableOk w n y ≡ true) (sym f) ok) in
+    let x = all-opened (λ (s : Answer). s .opened) w (points w) (ringVisit set w (points w) a b) (ringTake set w (points w) a b end) (take-opened set w (points w) a b end) (visit-opened set w (points w) a b) (nodes w) t (clearAt 0) in
+    omega arith
+
+pub ring-opened : (set : ℕ) (w : List ℤ) → openNo w ≡ 0 → (a b : Spot) (end : ℕ) → ringWalk set w a b end .opened ≤ nodes w
+ring-opened set w opens a b end = opened-by set w (points w) (nodes w) a b end refl refl (open-facts w opens .table)
