@@ -1,0 +1,77 @@
+-- The document's listing with its pages, and the starred examples that speak of another record on one spot: each by computation.
+-- Assumes nothing.
+use mathlib.Core.Path.{_≡_, refl}
+use mathlib.Core.Bool.{true, false}
+use mathlib.Core.List.{List, [], _∷_, _++_}
+use Prim.Native.Nat.{ℕ}
+use lib.IntN.{pos}
+use lib.ListN.{replicate}
+use Rattle.words.specs.All.{allB}
+use Rattle.plane.specs.Rule.{spot, blocks}
+use Rattle.plane.specs.Point.{Point}
+use Rattle.list.specs.declared.Key.{Key}
+use Rattle.list.specs.declared.Pair.{Pair}
+use Rattle.list.specs.declared.Source.{Source}
+use Rattle.list.specs.declared.Page.{Page}
+use Rattle.list.specs.Pairs.{start, none, follows, after, lastOr, isNone}
+use Rattle.list.specs.Pages.{padded, shown, pageOf}
+use Rattle.list.specs.Rows.{row, rows, listBy}
+use Rattle.list.specs.RingList.{unblocked, ringPair, ringList}
+
+abbrev at : ℕ → ℕ → ℕ → Point
+at i x y = record { id = i; spot = spot (pos x) (pos y) }
+
+abbrev to : ℕ → ℕ → Pair
+to q p = record { q = q; p = p }
+
+abbrev key : ℕ → ℕ → Key
+key q p = record { q = q; p = p }
+
+-- P, edition 7, and Q, edition 9
+abbrev pumps : List Point
+pumps = at 1 0 0 ∷ at 2 10 0 ∷ []
+
+abbrev chambers : List Point
+chambers = at 5 4 0 ∷ at 6 16 1 ∷ []
+
+abbrev source : Source
+source = record { «p_edition» = 7; «q_edition» = 9 }
+
+abbrev page : Key → ℕ → Page
+page k size = pageOf source (ringList pumps chambers) k size
+
+-- the page that shows one pair, (6, 2), with the end mark
+abbrev last : Key → Page
+last k = record { source = source; key = k; count = 1; end = true; pairs = to 6 2 ∷ replicate 15 none }
+
+pub record Listed : Type 0 where
+  listing : ringList pumps chambers ≡ to 5 1 ∷ to 5 2 ∷ to 6 2 ∷ []
+  -- "Size 2 from (0,0) gives two pairs, no end mark; from (5,2) one pair with the mark; from (6,2) none, with the mark. Key (5,3) gives (6,2)."
+  first : page start 2 ≡ record { source = source; key = start; count = 2; end = false; pairs = to 5 1 ∷ to 5 2 ∷ replicate 14 none }
+  second : page (key 5 2) 2 ≡ last (key 5 2)
+  third : page (key 6 2) 2 ≡ record { source = source; key = key 6 2; count = 0; end = true; pairs = replicate 16 none }
+  between : page (key 5 3) 2 ≡ last (key 5 3)
+  -- "a full last page has it too"
+  full : page (key 5 2) 1 ≡ last (key 5 2)
+
+pub listed : Listed
+unfolding ringList listBy rows row ringPair unblocked allB blocks pageOf padded shown after follows lastOr isNone
+listed = record { listing = refl; first = refl; second = refl; third = refl; between = refl; full = refl }
+
+-- an end is told by set and position: a record of either set at the place of an end is another point
+pub record Starred : Type 0 where
+  -- (0,0),(4,0)
+  alone : ringPair (at 1 4 0 ∷ []) (at 1 0 0 ∷ []) 0 0 ≡ true
+  beside : ringPair (at 1 4 0 ∷ []) (at 1 0 0 ∷ at 2 2 3 ∷ []) 0 0 ≡ true
+  on-end-q : ringPair (at 1 4 0 ∷ []) (at 1 0 0 ∷ at 2 0 0 ∷ []) 0 0 ≡ false
+  on-end-p : ringPair (at 1 4 0 ∷ at 2 0 0 ∷ []) (at 1 0 0 ∷ []) 0 0 ≡ false
+  -- (7,7),(7,7)
+  one-spot : ringPair (at 1 7 7 ∷ []) (at 1 7 7 ∷ []) 0 0 ≡ true
+  one-off : ringPair (at 1 7 7 ∷ []) (at 1 7 7 ∷ at 2 7 8 ∷ []) 0 0 ≡ true
+  third-q : ringPair (at 1 7 7 ∷ []) (at 1 7 7 ∷ at 2 7 7 ∷ []) 0 0 ≡ false
+  third-p : ringPair (at 1 7 7 ∷ at 2 7 7 ∷ []) (at 1 7 7 ∷ []) 0 0 ≡ false
+
+pub starred : Starred
+unfolding ringPair unblocked allB blocks
+starred =
+    record { alone = refl; beside = refl; on-end-q = refl; on-end-p = refl; one-spot = refl; one-off = refl; third-q = refl; third-p = refl }

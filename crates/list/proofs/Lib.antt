@@ -1,0 +1,4 @@
+pub mod Order
+pub mod PageLaws
+pub mod RowLaws
+pub mod Examples

@@ -1,0 +1,183 @@
+-- The list that a rule makes: it ascends, and holds a pair exactly if the rule holds of its positions. And so the ring pairs' list.
+-- Assumes nothing.
+use mathlib.Core.Path.{_≡_, refl, sym, ap, ap₂, _∙_}
+use mathlib.Core.Bool.{Bool, true, false, cond}
+use mathlib.Core.Logic.{_↔_, ⊎-elim}
+use mathlib.Core.List.{List, [], _∷_, _++_, List·Memᴰ, List·Memᴰ·head, List·Memᴰ·tail, List·Memᴰ·not-nil, List·Memᴰ·cases-cons, Memᴰ·append-left, Memᴰ·append-right, List·Memᴰ·append-cases}
+use Prim.Native.Nat.{ℕ, zero, suc, _+_, _≤_, _<_}
+use native.Mathlib.Omega.{arith}
+use native.Mathlib.Numerals.{add-one}
+use native.Mathlib.Nat.{eq-or-lt-of-le, le-antisymm}
+use lib.Dec.{ltb}
+use borrow.Author.Tests.{ltb-true, ltb-false}
+use lib.ListN.{length, getD}
+use Rattle.integers.specs.Bools.{decide, and-both}
+use Rattle.plane.specs.Point.{Point, idAt}
+use Rattle.list.specs.declared.Key.{Key}
+use Rattle.list.specs.declared.Pair.{Pair}
+use Rattle.list.specs.declared.Source.{Source}
+use Rattle.list.specs.Pairs.{start, none, keyOf, follows, ascends, lastOr}
+use Rattle.list.specs.Pages.{followed}
+use Rattle.list.specs.Rows.{row, rows, listBy, Rising, Named}
+use Rattle.list.specs.RingList.{ringPair, pairAt, ringList}
+use Rattle.list.proofs.Order.{by-q, by-p, asc-append, once}
+use Rattle.list.proofs.PageLaws.{pages-list}
+
+-- ids of later positions are greater
+pub rises-far : (id : ℕ → ℕ) (n : ℕ) → Rising id n → (i j : ℕ) → i < j → j < n → id i < id j
+rises-far id n r i zero h g = absurd (omega arith)
+rises-far id n r i (suc j) h g =
+    let s : id j < id (suc j) = rw add-one at (r .rises j (omega arith)) in
+    ⊎-elim
+    (λ (e : i ≡ j). rw e s)
+    (λ (x : i < j). omega (arith, rises-far id n r i j x (omega arith)))
+    (eq-or-lt-of-le {n = i} {m = j} (omega arith))
+
+-- a position is known by its id
+pub by-id : (id : ℕ → ℕ) (n : ℕ) → Rising id n → (i j : ℕ) → i < n → j < n → id i ≡ id j → i ≡ j
+by-id id n r i j a b e =
+    ⊎-elim
+    (λ (x : ltb i j ≡ true). let z = rises-far id n r i j (ltb-true i j x) b in absurd (omega arith))
+    (λ (x : ltb i j ≡ false).
+    ⊎-elim
+    (λ (y : ltb j i ≡ true). let z = rises-far id n r j i (ltb-true j i y) a in absurd (omega arith))
+    (λ (y : ltb j i ≡ false). le-antisymm (ltb-false j i y) (ltb-false i j x))
+    (decide (ltb j i)))
+    (decide (ltb i j))
+
+-- a pair that the rule makes, with its positions
+pub record Placed (rule : ℕ → ℕ → Bool) (pair : ℕ → ℕ → Pair) (np nq : ℕ) (v : Pair) : Type 0 where
+  pub at-q : ℕ
+  pub at-p : ℕ
+  pub q-in : at-q < nq
+  pub p-in : at-p < np
+  pub holds : rule at-q at-p ≡ true
+  pub is : v ≡ pair at-q at-p
+
+module _ (rule : ℕ → ℕ → Bool) (pair : ℕ → ℕ → Pair) (qid pid : ℕ → ℕ) (nm : Named pair qid pid) (nq np : ℕ) (rq : Rising qid nq) (rp : Rising pid np) where
+  row-asc : (j k i : ℕ) (key : Key) → i + k ≤ np → ((u : ℕ) → i ≤ u → u < np → follows key (keyOf (pair j u)) ≡ true) → ascends key (row rule pair j k i) ≡ true
+  unfolding row ascends
+  row-asc j zero i key h f = refl
+  row-asc j (suc k) i key h f =
+      ⊎-elim
+      (λ (e : rule j i ≡ true).
+      rw e
+      (and-both (follows key (keyOf (pair j i))) (ascends (keyOf (pair j i)) (row rule pair j k (i + 1))) (f i (omega arith) (omega arith))
+      (row-asc j k (i + 1) (keyOf (pair j i)) (omega arith) (λ u a b. by-p (keyOf (pair j i)) (keyOf (pair j u)) (nm .q-is j i ∙ sym (nm .q-is j u)) (omega (arith, nm .p-is j i, nm .p-is j u, rises-far pid np rp i u (omega arith) b))))))
+      (λ (e : rule j i ≡ false). rw e (row-asc j k (i + 1) key (omega arith) (λ u a b. f u (omega arith) b)))
+      (decide (rule j i))
+
+  row-last : (j k i : ℕ) (key : Key) → key .q ≤ qid j → lastOr key (row rule pair j k i) .q ≤ qid j
+  unfolding row lastOr
+  row-last j zero i key h = h
+  row-last j (suc k) i key h =
+      ⊎-elim
+      (λ (e : rule j i ≡ true). rw e (row-last j k (i + 1) (keyOf (pair j i)) (omega (arith, nm .q-is j i))))
+      (λ (e : rule j i ≡ false). rw e (row-last j k (i + 1) key h))
+      (decide (rule j i))
+
+  rows-asc : (k j : ℕ) (key : Key) → j + k ≤ nq → ((u : ℕ) → j ≤ u → u < nq → key .q < qid u) → ascends key (rows rule pair np k j) ≡ true
+  unfolding rows ascends
+  rows-asc zero j key h f = refl
+  rows-asc (suc k) j key h f =
+      let s = f j (omega arith) (omega arith) in
+      asc-append key (row rule pair j np 0) (rows rule pair np k (j + 1))
+      (row-asc j np 0 key (omega arith) (λ u a b. by-q key (keyOf (pair j u)) (omega (arith, nm .q-is j u))))
+      (rows-asc k (j + 1) (lastOr key (row rule pair j np 0)) (omega arith)
+      (λ u a b. omega (arith, row-last j np 0 key (omega arith), rises-far qid nq rq j u (omega arith) b)))
+
+  -- the list ascends strictly in (q id, p id)
+  pub list-ascends : ascends start (listBy rule pair np nq) ≡ true
+  unfolding listBy
+  list-ascends = rows-asc nq 0 start (omega arith) (λ u a b. rq .low u b)
+
+  -- ---- what it holds
+
+  row-placed : (j k i : ℕ) (v : Pair) → j < nq → i + k ≤ np → List·Memᴰ v (row rule pair j k i) → Placed rule pair np nq v
+  unfolding row
+  row-placed j zero i v a h m = absurd (List·Memᴰ·not-nil m)
+  row-placed j (suc k) i v a h m = go (row-placed j k (i + 1) v a (omega arith)) (rule j i) refl m
+    where
+      go : (List·Memᴰ v (row rule pair j k (i + 1)) → Placed rule pair np nq v) → (b : Bool) → rule j i ≡ b
+          → List·Memᴰ v (cond b (pair j i ∷ row rule pair j k (i + 1)) (row rule pair j k (i + 1))) → Placed rule pair np nq v
+      go ih true e n =
+          ⊎-elim
+          (λ (x : v ≡ pair j i). record { at-q = j; at-p = i; q-in = a; p-in = omega arith; holds = e; is = x })
+          (λ x. ih x)
+          (List·Memᴰ·cases-cons n)
+      go ih false e n = ih n
+
+  rows-placed : (k j : ℕ) (v : Pair) → j + k ≤ nq → List·Memᴰ v (rows rule pair np k j) → Placed rule pair np nq v
+  unfolding rows
+  rows-placed zero j v h m = absurd (List·Memᴰ·not-nil m)
+  rows-placed (suc k) j v h m =
+      ⊎-elim
+      (λ x. row-placed j np 0 v (omega arith) (omega arith) x)
+      (λ x. rows-placed k (j + 1) v (omega arith) x)
+      (List·Memᴰ·append-cases (row rule pair j np 0) m)
+
+  placed-row : (j k i u : ℕ) → i ≤ u → u < i + k → rule j u ≡ true → List·Memᴰ (pair j u) (row rule pair j k i)
+  unfolding row
+  placed-row j zero i u a b e = absurd (omega arith)
+  placed-row j (suc k) i u a b e =
+      ⊎-elim
+      (λ (x : i ≡ u). rw (x, e) (List·Memᴰ·head refl))
+      (λ (x : i < u).
+      let m = placed-row j k (i + 1) u (omega arith) (omega arith) e in
+      ⊎-elim (λ (f : rule j i ≡ true). rw f (List·Memᴰ·tail m)) (λ (f : rule j i ≡ false). rw f m) (decide (rule j i)))
+      (eq-or-lt-of-le a)
+
+  placed-rows : (k j t u : ℕ) → j ≤ t → t < j + k → u < np → rule t u ≡ true → List·Memᴰ (pair t u) (rows rule pair np k j)
+  unfolding rows
+  placed-rows zero j t u a b c e = absurd (omega arith)
+  placed-rows (suc k) j t u a b c e =
+      ⊎-elim
+      (λ (x : j ≡ t). rw x (Memᴰ·append-left (rows rule pair np k (t + 1)) (placed-row t np 0 u (omega arith) (omega arith) e)))
+      (λ (x : j < t). Memᴰ·append-right (row rule pair j np 0) (placed-rows k (j + 1) t u (omega arith) (omega arith) c e))
+      (eq-or-lt-of-le a)
+
+  -- every pair of the list is one that the rule makes
+  pub listed-holds : (v : Pair) → List·Memᴰ v (listBy rule pair np nq) → Placed rule pair np nq v
+  unfolding listBy
+  listed-holds v m = rows-placed nq 0 v (omega arith) m
+
+  -- a pair of ids stands in the list exactly if the rule makes it one
+  pub listed-iff : (j i : ℕ) → j < nq → i < np → List·Memᴰ (pair j i) (listBy rule pair np nq) ↔ (rule j i ≡ true)
+  unfolding listBy
+  listed-iff j i a b = (
+    λ m.
+        let z = listed-holds (pair j i) m in
+        let e : j ≡ z .at-q = by-id qid nq rq j (z .at-q) a (z .q-in) (sym (nm .q-is j i) ∙ ap (λ (v : Pair). v .q) (z .is) ∙ nm .q-is (z .at-q) (z .at-p)) in
+        let f : i ≡ z .at-p = by-id pid np rp i (z .at-p) b (z .p-in) (sym (nm .p-is j i) ∙ ap (λ (v : Pair). v .p) (z .is) ∙ nm .p-is (z .at-q) (z .at-p)) in
+        ap₂ rule e f ∙ z .holds,
+    λ e. placed-rows nq 0 j i (omega arith) (omega arith) b e,
+  )
+
+-- ---- the list of the ring pairs
+
+pub named : (P Q : List Point) → Named (pairAt P Q) (idAt Q) (idAt P)
+named P Q = record { q-is = λ j i. refl; p-is = λ j i. refl }
+
+module _ (P Q : List Point) (rp : Rising (idAt P) (length P)) (rq : Rising (idAt Q) (length Q)) where
+  -- it runs by q id, then p id
+  pub ring-ascends : ascends start (ringList P Q) ≡ true
+  unfolding ringList
+  ring-ascends = list-ascends _ _ (idAt Q) (idAt P) (named P Q) _ _ rq rp
+
+  -- it holds a chamber and a pump house, by ids, exactly if the ring rule makes them a pair ..
+  pub ring-iff : (j i : ℕ) → j < length Q → i < length P → List·Memᴰ (pairAt P Q j i) (ringList P Q) ↔ (ringPair P Q j i ≡ true)
+  unfolding ringList
+  ring-iff j i a b = listed-iff _ _ (idAt Q) (idAt P) (named P Q) _ _ rq rp j i a b
+
+  -- .. it holds nothing else ..
+  pub ring-only : (v : Pair) → List·Memᴰ v (ringList P Q) → Placed (ringPair P Q) (pairAt P Q) (length P) (length Q) v
+  unfolding ringList
+  ring-only v m = listed-holds _ _ (idAt Q) (idAt P) (named P Q) _ _ rq rp v m
+
+  -- .. and each once
+  pub ring-once : (a b : ℕ) → a < b → b < length (ringList P Q) → getD (ringList P Q) a none ≡ getD (ringList P Q) b none → ⊥
+  ring-once a b h g e = once start (ringList P Q) ring-ascends a b h g e
+
+  -- the pages of it, followed from (0, 0), give it
+  pub ring-pages : (sizes : ℕ → ℕ) (s : Source) → ((k : ℕ) → 0 < sizes k) → followed (length (ringList P Q)) sizes s (ringList P Q) start ≡ ringList P Q
+  ring-pages sizes s some = pages-list sizes s (ringList P Q) some ring-ascends
