@@ -25,7 +25,6 @@ returns c =
     let p = n .before .before .before .before in
     (then (p .put .ensures) (n .put-number .ensures .0), omega (arith, p .put .ensures .place, n .put-number .ensures .1))
 
-
 pub put-end-spec : {M : Type 1} → statement M
 put-end-spec =
     tie.close (tie.spec slice-aggregate-put put-requires put-number-requires same-length returns)

@@ -20,6 +20,5 @@ returns c =
     let p = c .before .before in
     (p .put .ensures, omega (arith, p .put .ensures .place))
 
-
 pub put-input-spec : {M : Type 1} → statement M
 put-input-spec = tie.close (tie.spec slice-aggregate-put put-requires same-length returns)

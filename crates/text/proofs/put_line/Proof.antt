@@ -43,7 +43,6 @@ returns c =
       omega (arith, f1 .put-number .ensures .1, f2 .put-number2 .ensures .1, f3 .put-whole .ensures .1, f4 .put-whole2 .ensures .1, f5 .put-number3 .ensures .1),
     )
 
-
 pub put-line-spec : {M : Type 1} → statement M
 put-line-spec =
     tie.close

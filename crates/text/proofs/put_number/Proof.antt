@@ -20,6 +20,5 @@ returns c =
     let g = y .before .before .before .before in
     (then (g .put-decimal .ensures .0) (byte (y .put-byte .ensures .0) (y .put-byte .ensures .1)), omega (arith, y .put-byte .ensures .0, g .put-decimal .ensures .1))
 
-
 pub put-number-spec : {M : Type 1} → statement M
 put-number-spec = tie.close (tie.spec put-decimal-requires put-byte-requires same-length returns)

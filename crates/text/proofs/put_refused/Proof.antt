@@ -35,7 +35,6 @@ returns c =
       omega (arith, p .put .ensures .place, a .put-byte .ensures .0, b .put-byte2 .ensures .0, n .put-number .ensures .1),
     )
 
-
 pub put-refused-spec : {M : Type 1} → statement M
 put-refused-spec =
     tie.close
