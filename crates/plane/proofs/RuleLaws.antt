@@ -1,8 +1,8 @@
--- What the rules of boxes say of the places in a box.
+-- What the rules of boxes say of the places in a box: `box-drops`, `far-clear`, `side-inside`, `strict-blocks`, `strict-not-left`, `strict-not-right`.
 -- Assumes nothing.
 use mathlib.Core.Path.{_≡_, refl, sym, ap, subst, _∙_}
 use mathlib.Core.Bool.{Bool, true, false, cond, _&&_}
-use Prim.Native.Nat.{ℕ, _<_}
+use Prim.Native.Nat.{ℕ, zero, suc, _<_}
 use native.Mathlib.Omega.{arith}
 use lib.IntN.{ℤ, pos, _+ℤ_, _-ℤ_, _*ℤ_}
 use lib.Signed.{leZ, ltZ, _≤ℤ_, _<ℤ_}
@@ -37,7 +37,7 @@ not-lt a e h = let x : pos 0 <ℤ pos 0 = subst (λ (z : ℤ). z <ℤ pos 0) e h
 
 -- ---- the rules
 
--- a kept p that drops all four corners of a box drops each place in it
+-- the half-plane rule: a box behind the line holds only points behind it
 pub box-drops : (q p : Spot) (o : Boxed) (z : Spot) → dropsBox q p o ≡ true → In o z → drops q p z ≡ true
 unfolding dropsBox drops blocks
 box-drops q p o z e i =
@@ -57,12 +57,12 @@ box-drops q p o z e i =
     })
     i)
 
--- rule (1): no place in a far box blocks
+-- rule (1): a far box holds no point that blocks
 pub far-clear : (a b : Spot) (o : Boxed) (z : Spot) → far a b o ≡ true → In o z → blocks a b z ≡ false
 unfolding far blocks
 far-clear a b o z e i = no-le _ _ (far-none a b o z (lt-of _ _ e) i)
 
--- rule (2): where a side lies strictly inside, a place of the box on that side is strictly inside
+-- rule (2): places on the four sides of a box
 pub record OnSides (o : Boxed) (t : ℕ → Spot) : Type 0 where
   pub within : (q : ℕ) → q < 4 → In o (t q)
   pub left : t 0 .x ≡ o .xmin
@@ -77,26 +77,30 @@ first-of P false false true s₃ a b c d h = c refl
 first-of P false false false true a b c d h = d refl
 first-of P false false false false a b c d h = absurd (omega arith)
 
-pub side-strict : (a b : Spot) (o : Boxed) (t : ℕ → Spot) → OnSides o t → sideIn a b o < 4 → dot a b (t (sideIn a b o)) <ℤ pos 0
-unfolding sideIn inside
-side-strict a b o t s =
-    first-of (λ q. dot a b (t q) <ℤ pos 0) (ll && lh) (ll && hl) (hl && hh) (lh && hh)
-    (λ e.
-    let i = s .within 0 (omega arith) in
-    subst (λ (x : ℤ). dot a b (spot x (t 0 .y)) <ℤ pos 0) (sym (s .left))
-    (side-y a b (o .xmin) (o .ymin) (o .ymax) (t 0 .y) (lt-of _ _ (and-left ll lh e)) (lt-of _ _ (and-right ll lh e)) (i .low) (i .high)))
-    (λ e.
-    let i = s .within 1 (omega arith) in
-    subst (λ (y : ℤ). dot a b (spot (t 1 .x) y) <ℤ pos 0) (sym (s .bottom))
-    (side-x a b (o .ymin) (o .xmin) (o .xmax) (t 1 .x) (lt-of _ _ (and-left ll hl e)) (lt-of _ _ (and-right ll hl e)) (i .left) (i .right)))
-    (λ e.
-    let i = s .within 2 (omega arith) in
-    subst (λ (x : ℤ). dot a b (spot x (t 2 .y)) <ℤ pos 0) (sym (s .right))
-    (side-y a b (o .xmax) (o .ymin) (o .ymax) (t 2 .y) (lt-of _ _ (and-left hl hh e)) (lt-of _ _ (and-right hl hh e)) (i .low) (i .high)))
-    (λ e.
-    let i = s .within 3 (omega arith) in
-    subst (λ (y : ℤ). dot a b (spot (t 3 .x) y) <ℤ pos 0) (sym (s .top))
-    (side-x a b (o .ymax) (o .xmin) (o .xmax) (t 3 .x) (lt-of _ _ (and-left lh hh e)) (lt-of _ _ (and-right lh hh e)) (i .left) (i .right)))
+-- z is on side s of the box: 0 left, 1 bottom, 2 right, 3 top
+unfoldable pub OnSide : ℕ → Boxed → Spot → Type 0
+OnSide zero o z = z .x ≡ o .xmin
+OnSide (suc zero) o z = z .y ≡ o .ymin
+OnSide (suc (suc zero)) o z = z .x ≡ o .xmax
+OnSide (suc (suc (suc s))) o z = z .y ≡ o .ymax
+
+-- every point of a side whose two corners lie strictly inside lies strictly inside
+pub side-inside : (a b : Spot) (o : Boxed) → sideIn a b o < 4 → (z : Spot) → In o z → OnSide (sideIn a b o) o z → dot a b z <ℤ pos 0
+unfolding sideIn inside OnSide
+side-inside a b o =
+    first-of (λ s. (z : Spot) → In o z → OnSide s o z → dot a b z <ℤ pos 0) (ll && lh) (ll && hl) (hl && hh) (lh && hh)
+    (λ e z i on.
+    subst (λ (x : ℤ). dot a b (spot x (z .y)) <ℤ pos 0) (sym on)
+    (side-y a b (o .xmin) (o .ymin) (o .ymax) (z .y) (lt-of _ _ (and-left ll lh e)) (lt-of _ _ (and-right ll lh e)) (i .low) (i .high)))
+    (λ e z i on.
+    subst (λ (y : ℤ). dot a b (spot (z .x) y) <ℤ pos 0) (sym on)
+    (side-x a b (o .ymin) (o .xmin) (o .xmax) (z .x) (lt-of _ _ (and-left ll hl e)) (lt-of _ _ (and-right ll hl e)) (i .left) (i .right)))
+    (λ e z i on.
+    subst (λ (x : ℤ). dot a b (spot x (z .y)) <ℤ pos 0) (sym on)
+    (side-y a b (o .xmax) (o .ymin) (o .ymax) (z .y) (lt-of _ _ (and-left hl hh e)) (lt-of _ _ (and-right hl hh e)) (i .low) (i .high)))
+    (λ e z i on.
+    subst (λ (y : ℤ). dot a b (spot (z .x) y) <ℤ pos 0) (sym on)
+    (side-x a b (o .ymax) (o .xmin) (o .xmax) (z .x) (lt-of _ _ (and-left lh hh e)) (lt-of _ _ (and-right lh hh e)) (i .left) (i .right)))
   where
     ll : Bool
     ll = inside a b (spot (o .xmin) (o .ymin))
@@ -110,7 +114,18 @@ side-strict a b o t s =
     hh : Bool
     hh = inside a b (spot (o .xmax) (o .ymax))
 
--- what is strictly inside blocks, and is at neither end
+-- so of places that stand on the four sides, the one on the side that rule (2) names is strictly inside
+pub side-strict : (a b : Spot) (o : Boxed) (t : ℕ → Spot) → OnSides o t → sideIn a b o < 4 → dot a b (t (sideIn a b o)) <ℤ pos 0
+side-strict a b o t s h = side-inside a b o h (t (sideIn a b o)) (s .within (sideIn a b o) h) (on (sideIn a b o) h)
+  where
+    on : (q : ℕ) → q < 4 → OnSide q o (t q)
+    on zero l = unfold OnSide in s .left
+    on (suc zero) l = unfold OnSide in s .bottom
+    on (suc (suc zero)) l = unfold OnSide in s .right
+    on (suc (suc (suc zero))) l = unfold OnSide in s .top
+    on (suc (suc (suc (suc q)))) l = absurd (omega arith)
+
+-- what is strictly inside blocks
 pub strict-blocks : (a b z : Spot) → dot a b z <ℤ pos 0 → blocks a b z ≡ true
 unfolding blocks
 strict-blocks a b z h = lt-le _ _ h
@@ -121,6 +136,7 @@ dot-left a b = solve₄ (λ ax ay bx by. (ax :- ax) :* (bx :- ax) :+ (ay :- ay) 
 dot-right : (a b : Spot) → dot a b b ≡ pos 0
 dot-right a b = solve₄ (λ ax ay bx by. (ax :- bx) :* (bx :- bx) :+ (ay :- by) :* (by :- by) := con (pos 0)) refl (a .x) (a .y) (b .x) (b .y)
 
+-- an end of the pair never lies strictly inside
 pub strict-not-left : (a b z : Spot) → dot a b z <ℤ pos 0 → z ≡ a → ⊥
 strict-not-left a b z h e = not-lt _ (ap (dot a b) e ∙ dot-left a b) h
 

@@ -1,2 +1,3 @@
 pub mod Rule
 pub mod Point
+pub mod Examples
