@@ -1,0 +1,44 @@
+-- "Beside the page stands its count of nodes opened: each q in id order from the lowest id not below the key's is filtered once, its kept
+-- partners after the key are ring-walked in id order, and the work stops at the first pair beyond the size, or after the last q."
+-- The count is said here of the walks that are done, one after the other; no page is made.
+use mathlib.Core.Bool.{Bool, true, false, cond, not, _&&_}
+use mathlib.Core.List.{List, [], _∷_, _++_}
+use Prim.Native.Nat.{ℕ, zero, suc, _+_, _-_}
+use lib.Dec.{ltb}
+use Rattle.words.specs.All.{firstB}
+use Rattle.list.specs.declared.Key.{Key}
+use Rattle.list.specs.Pairs.{keyOf, follows}
+use Rattle.join.specs.Walks.{Walks}
+
+-- a walk that is done: the nodes that it opens, and whether it finds a ring pair
+pub record Step : Type 0 where
+  pub opened : ℕ
+  pub finds : Bool
+
+-- of nq chambers, the first whose id is not below the key's, or nq
+unfoldable pub firstFrom : Walks → Key → ℕ → ℕ
+firstFrom w key nq = firstB nq (λ j. not (ltb (w .qid j) (key .q)))
+
+module _ (w : Walks) (key : Key) where
+  -- "its kept partners after the key are ring-walked in id order": for the q at j, of the k positions of P from i on
+  unfoldable pub ringSteps : ℕ → ℕ → ℕ → List Step
+  ringSteps j zero i = []
+  ringSteps j (suc k) i =
+      cond (w .kept j i && follows key (keyOf (w .pair j i)))
+      (record { opened = w .clearOpened j i; finds = w .clear j i } ∷ ringSteps j k (i + 1))
+      (ringSteps j k (i + 1))
+
+  -- "each q .. is filtered once", and its partners follow: the k positions of Q from j on, with n positions of P
+  unfoldable pub steps : ℕ → ℕ → ℕ → List Step
+  steps n zero j = []
+  steps n (suc k) j = record { opened = w .keptOpened j; finds = false } ∷ (ringSteps j n 0 ++ steps n k (j + 1))
+
+-- the nodes opened, until a pair beyond the next `size` ones is found
+unfoldable pub spentOn : ℕ → List Step → ℕ
+spentOn size [] = 0
+spentOn zero (s ∷ l) = s .opened + cond (s .finds) 0 (spentOn zero l)
+spentOn (suc size) (s ∷ l) = s .opened + cond (s .finds) (spentOn size l) (spentOn (suc size) l)
+
+-- the page's count of nodes opened, for np pump houses and nq chambers
+unfoldable pub pageOpened : Walks → Key → ℕ → ℕ → ℕ → ℕ
+pageOpened w key size np nq = spentOn size (steps w key np (nq - firstFrom w key nq) (firstFrom w key nq))
