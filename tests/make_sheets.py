@@ -1,0 +1,356 @@
+#!/usr/bin/env python3
+"""The cases of crates/try_sheets: sheets to open and point lists to pack, with the number that each must get.
+
+    make_sheets.py        writes crates/try_sheets/stdin and stdout
+
+The input, in words: 1, a length and that many words, a sheet to open; or 2, n (low and high half), the numbers of point words and of order words, an
+edition, the length of the lent output, the point words and the order words, to pack; 0 ends it. A packed sheet is printed whole, and opened again; of a
+refused one the program says whether each lent word is as it was.
+"""
+import collections
+import itertools
+import random
+
+import reading
+import trees
+from stored import Cases
+
+BIG = 2 ** 31 - 1
+SMALL = -2 ** 31
+
+
+# ---------------------------------------------------------------- faults of a sheet
+
+def put(words, at, word):
+    changed = list(words)
+    changed[at] = word
+    return changed
+
+
+def node_word(words, j, field):
+    """Where a word of node j stands: field 0 to 6 is level, first, count, xmin, ymin, xmax, ymax."""
+    return 5 * words[-4] + 7 * j + field
+
+
+def faults(words):
+    """Faults of a sheet that opens, with at least four points and three nodes: number, label, and the sheet with the fault."""
+    n, m = words[-4], words[-3]
+    last = m - 1
+    out = []
+
+    def fault(number, label, at, word):
+        out.append((number, label, lambda w, at=at, word=word: put(w, at, word)))
+
+    for form in (0, 2, -1, BIG, SMALL):
+        fault(2, "form %d" % form, -1, form)
+    for count in (1001, -1, BIG, SMALL):
+        fault(3, "n %d" % count, -4, count)
+    for count in (401, -1, BIG, SMALL):
+        fault(3, "m %d" % count, -3, count)
+    for edition in (0, reading.EDITION + 1, -1, BIG, SMALL):
+        fault(3, "edition %d" % edition, -2, edition)
+    span = words[-6]
+    for wrong in (span - 1, span + 1, 0, -span, BIG):
+        fault(4, "span %d" % wrong, -6, wrong)
+    for root in (0, 6, 8, 14, -7):
+        fault(4, "root %d" % root, -5, root)
+    fault(5, "id 0", 0, 0)
+    fault(5, "id past the last", 3 * (n - 1), reading.ID + 1)
+    fault(5, "id below 0", 0, -1)
+    fault(5, "an id twice", 3, words[0])
+    fault(5, "ids fall", 3 * (n - 1), words[3 * (n - 2)] - 1)
+    for field in (1, 2):
+        for wrong in (reading.COORDINATE + 1, -reading.COORDINATE - 1):
+            fault(5, "coordinate %d" % wrong, 3 * (n - 2) + field, wrong)
+    for at, name in ((3 * n, "order"), (4 * n, "rank")):
+        for wrong in (n, -1, BIG):
+            fault(6, "%s %d" % (name, wrong), at + 1, wrong)
+        fault(6, "%s twice" % name, at, words[at + 1])
+        out.append((6, "two of the %s exchanged" % name, lambda w, at=at: put(put(w, at, w[at + 2]), at + 2, w[at])))
+    fault(7, "first node on level 1", node_word(words, 0, 0), 1)
+    fault(7, "root one level down", node_word(words, last, 0), words[node_word(words, last, 0)] - 1)
+    fault(7, "root one level up", node_word(words, last, 0), words[node_word(words, last, 0)] + 1)
+    fault(7, "level below 0", node_word(words, 1, 0), -1)
+    for count in (0, 17, -1, words[node_word(words, 1, 2)] + 1, words[node_word(words, 1, 2)] - 1):
+        fault(7, "count %d" % count, node_word(words, 1, 2), count)
+    for first in (words[node_word(words, 1, 1)] - 1, words[node_word(words, 1, 1)] + 1, -1, 0):
+        fault(7, "first %d" % first, node_word(words, 1, 1), first)
+    fault(7, "root's first", node_word(words, last, 1), words[node_word(words, last, 1)] + 1)
+    for j in (0, last):
+        for field in (3, 4, 5, 6):
+            for step in (-1, 1):
+                fault(8, "node %d side %d by %d" % (j, field - 3, step), node_word(words, j, field), words[node_word(words, j, field)] + step)
+    fault(8, "a box far too large", node_word(words, last, 3), -reading.COORDINATE)
+    return out
+
+
+# ---------------------------------------------------------------- sheets
+
+def points(rng, n, reach=20):
+    return [(number, rng.randint(-reach, reach), rng.randint(-reach, reach)) for number in trees.ids(rng, n)]
+
+
+def packed(rng, n, reach=20, edition=None):
+    made = points(rng, n, reach)
+    return reading.pack(made, trees.shuffled(rng, n), edition or rng.randint(1, 1000))
+
+
+def uneven(rng, n, highest, reach=20):
+    made = points(rng, n, reach)
+    return trees.sheet(made, trees.shuffled(rng, n), trees.uneven(rng, n, highest), rng.randint(1, 1000))
+
+
+def shaped(rng, counts, reach=20):
+    """A sheet over a tree given by the counts of each level, right or wrong."""
+    n = sum(counts[0])
+    made = points(rng, n, reach)
+    return trees.sheet(made, trees.shuffled(rng, n), trees.runs(counts), 5)
+
+
+class Sheets:
+    def __init__(self):
+        self.cases = Cases("try_sheets")
+        self.seen = collections.Counter()
+        self.opened = self.packs = 0
+        self.pack_seen = collections.Counter()
+
+    def open(self, label, words, expect=None):
+        number = reading.open_number(words)
+        assert expect is None or number == expect, (label, number, expect)
+        self.cases.add("open: " + label, [1, len(words)] + list(words), ["open %d" % number])
+        self.seen[number] += 1
+        self.opened += 1
+
+    def pack(self, label, given, expect=None):
+        n, point_words, order, edition, lent = given
+        number = reading.pack_number(n, point_words, order, edition, lent)
+        assert expect is None or number == expect, (label, number, expect)
+        if number == 0:
+            words = reading.pack([tuple(point_words[3 * i:3 * i + 3]) for i in range(n)], order, edition)
+            assert len(words) == lent and reading.open_number(words) == 0
+            line = "pack 0 open 0:" + "".join(" %d" % word for word in words)
+        else:
+            line = "pack %d as it was" % number
+        head = [2, n % 2 ** 32, n // 2 ** 32, len(point_words), len(order), edition, lent]
+        self.cases.add("pack: " + label, head + list(point_words) + list(order), [line])
+        self.pack_seen[number] += 1
+        self.packs += 1
+
+
+def right_sheets(out, rng):
+    """Sheets that open: every size and shape that the rules name, and every range at its bound."""
+    out.open("n 0", packed(rng, 0), 0)
+    out.open("n 1", packed(rng, 1), 0)
+    out.open("n 16", packed(rng, 16), 0)
+    out.open("n 17", packed(rng, 17), 0)
+    out.open("n 1000, packed by 16", packed(rng, 1000, 1_000_000), 0)
+    many = trees.uneven(random.Random(0), 1000, 3)
+    out.open("n 1000, uneven", trees.sheet(points(rng, 1000), trees.shuffled(rng, 1000), many, 3), 0)
+    full = [trees.parts(rng, 1000, 370), trees.parts(rng, 370, 27), trees.parts(rng, 27, 2), [2]]
+    assert sum(map(len, full)) == 400
+    out.open("n 1000, m 400", shaped(rng, full), 0)
+    tall = [[1] * 64] * 6 + [trees.parts(rng, 64, 15), [15]]
+    assert sum(map(len, tall)) == 400 and len(tall) == 8
+    out.open("m 400, level 7", shaped(rng, tall), 0)
+    for n in (2, 3, 16):
+        for highest in range(1, 8):
+            if highest in (1, 2, 7) or n == 2:
+                out.open("%d singles to level %d" % (n, highest), shaped(rng, [[1] * n] * highest + [[n]]), 0)
+    for n in range(2, 17):
+        out.open("one leaf of %d" % n, packed(rng, n), 0)
+    for _ in range(60):
+        n = rng.randint(2, 14)
+        out.open("uneven", uneven(rng, n, rng.randint(1, 7)), 0)
+    for n in (31, 32, 33, 48, 49, 256, 257):
+        out.open("packed, n %d" % n, packed(rng, n), 0)
+    out.open("uneven, n 300", uneven(rng, 300, 4), 0)
+    for edition in (1, reading.EDITION):
+        out.open("edition %d" % edition, packed(rng, 3, edition=edition), 0)
+    far = reading.COORDINATE
+    bounds = [(1, -far, far), (2, far, -far), (reading.ID - 1, far, far), (reading.ID, -far, -far)]
+    out.open("ids and coordinates at their bounds", reading.pack(bounds, [2, 0, 3, 1], 1), 0)
+    out.open("one point at the lowest id", reading.pack([(1, far, far)], [0], 1), 0)
+    out.open("one point at the highest id", reading.pack([(reading.ID, -far, far)], [0], 1), 0)
+    out.open("several records on one spot", reading.pack([(k, 7, 7) for k in range(1, 20)], list(range(19)), 1), 0)
+
+
+def wrong_sheets(out, rng):
+    """What the rules refuse, beyond one word changed."""
+    for length in range(6):
+        out.open("%d words of zero" % length, [0] * length, 1)
+        words = packed(rng, 5)
+        out.open("the last %d words" % length, words[len(words) - length:], 1)
+    out.open("six words of zero", [0] * 6, 2)
+    empty = packed(rng, 0)
+    out.open("an empty sheet, root 7", put(empty, 1, 7), 4)
+    out.open("an empty sheet with a word more", [0] + empty, 4)
+    for n in (1001, 1002):
+        made = [(k + 1, 0, 0) for k in range(n)]
+        out.open("n %d, all else right" % n, reading.pack(made, list(range(n)), 1), 3)
+    over = [[1] * 64] * 6 + [trees.parts(rng, 64, 16), [16]]
+    assert sum(map(len, over)) == 401
+    out.open("m 401, all else right", shaped(rng, over), 3)
+    for _ in range(6):
+        words = packed(rng, rng.randint(0, 8))
+        out.open("a word more in front", [rng.randint(-3, 3)] + words, 4)
+        out.open("a word less in front", words[1:], 4 if len(words) > 6 else 1)
+        out.open("a word more at the end", words + [1], None)
+    for n in (2, 3, 5):
+        out.open("%d singles to level 8" % n, shaped(rng, [[1] * n] * 8 + [[n]]), 7)
+    out.open("a leaf of 17", shaped(rng, [[17]]), 7)
+    out.open("a node over 17", shaped(rng, [[1] * 17, [17]]), 7)
+    out.open("two nodes at the top", shaped(rng, [[2, 3]]), 7)
+    out.open("two roots", shaped(rng, [[2, 3], [1, 1]]), 7)
+    out.open("a lower level with one node", shaped(rng, [[3], [1]]), 7)
+    out.open("a lower level with one node above two", shaped(rng, [[2, 3], [2], [1]]), 7)
+    out.open("points and no node", [1, 0, 0, 0, 0, 5, 0, 1, 0, 1, 1], 7)
+    out.open("a node and no point", [0, 0, 1, 0, 0, 0, 0, 7, 7, 0, 1, 1, 1], 7)
+    out.open("a node and no point, of no count", [0, 0, 0, 0, 0, 0, 0, 7, 7, 0, 1, 1, 1], 7)
+    for _ in range(8):
+        n = rng.randint(4, 12)
+        words = shaped(rng, [[n - 2, 2], [2]])
+        first = node_word(words, 1, 1)
+        out.open("a run that leaves a gap", put(put(words, first, words[first] + 1), first + 1, 1), 7)
+        out.open("a run that covers a place again", put(put(words, first, words[first] - 1), first + 1, 3), 7)
+
+
+def single_faults(out, rng):
+    base = shaped(rng, [[3, 2, 4], [2, 1], [2]])
+    assert reading.open_number(base) == 0
+    for number, label, change in faults(base):
+        out.open(label, change(base), number)
+
+
+def double_faults(out, rng):
+    """For every two numbers of `open` that can apply together, sheets with both faults. 1 leaves no whole trailer, so no points, order or nodes are told:
+    it goes together with 2, 3 and 4 only."""
+    base = shaped(rng, [[3, 2, 4], [2, 1], [2]])
+    known = collections.defaultdict(list)
+    for number, label, change in faults(base):
+        known[number].append((label, change))
+    for earlier, later in itertools.combinations(range(2, 9), 2):
+        done = 0
+        for (label, change), (other, more) in itertools.product(rng.sample(known[earlier], 4), rng.sample(known[later], 4)):
+            both = change(more(base))
+            if both != more(change(base)) or done == 3:
+                continue
+            assert reading.open_number(change(base)) == earlier and reading.open_number(more(base)) == later
+            out.open("%s and %s" % (label, other), both, earlier)
+            done += 1
+        assert done == 3, (earlier, later)
+    for later in (2, 3, 4):
+        for label, change in known[later][:3]:
+            out.open("under 6 words and " + label, change(base)[-5:], 1)
+
+
+def changed_words(out, rng):
+    """One word of a right sheet changed by chance, or two exchanged: whatever that gives."""
+    for _ in range(150):
+        n = rng.randint(1, 9)
+        words = packed(rng, n) if rng.random() < 0.3 else uneven(rng, max(2, n), rng.randint(1, 4))
+        at, other = rng.randrange(len(words)), rng.randrange(len(words))
+        if rng.random() < 0.3:
+            changed = put(put(words, at, words[other]), other, words[at])
+        else:
+            changed = put(words, at, rng.choice([words[at] + 1, words[at] - 1, 0, -1, 1, BIG, SMALL, rng.randint(-20, 20)]))
+        out.open("a word changed at %d" % at, changed)
+
+
+# ---------------------------------------------------------------- packs
+
+def given(rng, n, reach=20, order=None, edition=None):
+    flat = [word for point in points(rng, n, reach) for word in point]
+    return (n, flat, order or trees.shuffled(rng, n), edition or rng.randint(1, 1000), reading.packed_length(n))
+
+
+def pack_faults(base):
+    """Faults of what is handed to the packer: number, label, and the change."""
+    n, flat, order, edition, lent = base
+
+    def with_part(k, value):
+        return lambda g: g[:k] + (value(g),) + g[k + 1:]
+
+    out = [
+        (18, "point words one short", with_part(1, lambda g: g[1][:-1])),
+        (18, "point words three more", with_part(1, lambda g: g[1] + [reading.ID, 0, 0])),
+        (18, "order one short", with_part(2, lambda g: g[2][:-1])),
+        (18, "order one more", with_part(2, lambda g: g[2] + [n])),
+        (18, "no order", with_part(2, lambda g: [])),
+    ]
+    for wrong in (0, reading.EDITION + 1, -1, SMALL):
+        out.append((3, "edition %d" % wrong, with_part(3, lambda g, wrong=wrong: wrong)))
+    for label, at, word in (
+        ("id 0", 0, 0), ("id past the last", 3 * (n - 1), reading.ID + 1), ("an id twice", 3, flat[0]), ("ids fall", 3 * (n - 1), flat[3 * (n - 2)] - 1),
+        ("x too small", 4, -reading.COORDINATE - 1), ("y too large", 5, reading.COORDINATE + 1),
+    ):
+        out.append((5, label, with_part(1, lambda g, at=at, word=word: put(g[1], at, word))))
+    for label, at, word in (("order n", 0, n), ("order -1", 1, -1), ("order twice", 0, order[1]), ("order far off", 1, BIG)):
+        out.append((6, label, with_part(2, lambda g, at=at, word=word: put(g[2], at, word))))
+    for label, length in (("output one short", lent - 1), ("output one long", lent + 1), ("no output", 0), ("output six words", 6)):
+        out.append((17, label, with_part(4, lambda g, length=length: length)))
+    return out
+
+
+def right_packs(out, rng):
+    for n in (0, 1, 2, 15, 16, 17, 31, 32, 33, 255, 256, 257, 272):
+        out.pack("n %d" % n, given(rng, n), 0)
+    out.pack("n 1000", given(rng, 1000, 1_000_000), 0)
+    for _ in range(30):
+        n = rng.randint(0, 40)
+        out.pack("n %d" % n, given(rng, n, rng.choice([1, 20, 1_000_000])), 0)
+    for edition in (1, reading.EDITION):
+        out.pack("edition %d" % edition, given(rng, 4, edition=edition), 0)
+    far = reading.COORDINATE
+    out.pack("ids and coordinates at their bounds", (3, [1, -far, far, 2, far, -far, reading.ID, far, far], [2, 0, 1], 1, 28), 0)
+    for n, nodes in ((0, 0), (16, 1), (17, 3), (1000, 68)):
+        assert len(reading.runs_of_sixteen(n)) == nodes
+
+
+def wrong_packs(out, rng):
+    for n in (4, 18):
+        base = given(rng, n)
+        known = collections.defaultdict(list)
+        for number, label, change in pack_faults(base):
+            known[number].append((label, change))
+            out.pack(label, change(base), number)
+        for earlier, later in itertools.combinations((18, 3, 5, 6, 17), 2):
+            done = 0
+            for (label, change), (other, more) in itertools.product(known[earlier], rng.sample(known[later], 4)):
+                both = change(more(base))
+                if both != more(change(base)) or done == 2:
+                    continue
+                assert reading.pack_number(*change(base)) == earlier and reading.pack_number(*more(base)) == later
+                out.pack("%s and %s" % (label, other), both, earlier)
+                done += 1
+            assert done == 2, (earlier, later)
+    for n in (1001, 1100):
+        flat = [word for k in range(n) for word in (k + 1, 0, 0)]
+        out.pack("n %d" % n, (n, flat, list(range(n)), 1, 6), 3)
+    third = 2 ** 64 // 3
+    for n in (2 ** 63, 2 ** 64 - 1, third, third + 1, 2 ** 32, 2 ** 32 + 1, 6148914691236517206):
+        out.pack("n %d, nothing handed in" % n, (n, [], [], 1, 6), 18)
+        out.pack("n %d, one point handed in" % n, (n, [1, 0, 0], [0], 1, 18), 18)
+
+
+def cases():
+    rng = random.Random("sheets")
+    out = Sheets()
+    right_sheets(out, rng)
+    wrong_sheets(out, rng)
+    single_faults(out, rng)
+    double_faults(out, rng)
+    changed_words(out, rng)
+    if PACKS:
+        right_packs(out, rng)
+        wrong_packs(out, rng)
+        assert out.packs >= 100
+        assert all(out.pack_seen[number] >= 10 for number in (0, 18, 3, 5, 6, 17)), out.pack_seen
+    assert out.opened >= 400
+    assert all(out.seen[number] >= 10 for number in range(9)), out.seen
+    return out.cases
+
+
+PACKS = False
+
+if __name__ == "__main__":
+    cases().store()

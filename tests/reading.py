@@ -1,0 +1,522 @@
+"""A plain reading of the rules in Python, standard library only.
+
+It is written from the sentences of the rules, which stand above each function, and shares nothing with the Rattle code: the generators beside it take
+from here what every call must answer. It is slow and says each thing the long way.
+
+A point is (id, x, y), a place is (x, y). 0 is P, 1 is Q. Positions go q's first, then p's.
+"""
+
+COORDINATE = 1_000_000
+ID = 2_000_000_000
+EDITION = 1_000_000_000
+POINTS = 1_000
+NODES = 400
+LEVEL = 7
+COVERED = 16
+SIZE = 16
+
+
+# ---------------------------------------------------------------- the sheet
+
+class Sheet:
+    """The parts of a sheet's words. "With n points and m nodes, in this order: points, order, rank, nodes, trailer." """
+
+    def __init__(self, words):
+        span, root, n, m, edition, form = words[-6:]
+        self.n, self.m, self.edition = n, m, edition
+        self.points = [tuple(words[3 * i:3 * i + 3]) for i in range(n)]
+        self.order = words[3 * n:4 * n]
+        self.rank = words[4 * n:5 * n]
+        self.nodes = [tuple(words[5 * n + 7 * j:5 * n + 7 * j + 7]) for j in range(m)]
+
+    def place(self, i):
+        return self.points[i][1:]
+
+
+# "Ids strictly ascending, 1 to 2,000,000,000; x and y from -1,000,000 to 1,000,000."
+def points_right(points):
+    for k, (number, x, y) in enumerate(points):
+        if number < 1 or number > ID:
+            return False
+        if k > 0 and points[k - 1][0] >= number:
+            return False
+        if x < -COORDINATE or x > COORDINATE or y < -COORDINATE or y > COORDINATE:
+            return False
+    return True
+
+
+# "order, n words: the position standing at each place; rank, n words: the place of each position. All are 0 to n-1, and order at rank of i is i for
+# every i."
+def order_right(n, order, rank):
+    for word in list(order) + list(rank):
+        if word < 0 or word > n - 1:
+            return False
+    for i in range(n):
+        if order[rank[i]] != i:
+            return False
+    return True
+
+
+# "n = 0 goes with m = 0 and no other way."
+# "Nodes stand level by level from 0, no level skipped, at most 7. Counts are 1 to 16. A leaf (level 0) covers `count` places from `first`; a higher node
+# covers nodes one level down, numbered from 0 over the whole table. Within a level the covered runs join without gap, start at the first place (or first
+# node of the level below) and end at its last. The highest level has one node, the root, which is the last node; every lower level has at least two."
+def nodes_right(n, nodes):
+    if (n == 0) != (len(nodes) == 0):
+        return False
+    if n == 0:
+        return True
+    levels = [node[0] for node in nodes]
+    if levels[0] != 0:
+        return False
+    for one, other in zip(levels, levels[1:]):
+        if other != one and other != one + 1:
+            return False
+    highest = levels[-1]
+    if highest > LEVEL:
+        return False
+    for node in nodes:
+        if node[2] < 1 or node[2] > COVERED:
+            return False
+    below = list(range(n))
+    for level in range(highest + 1):
+        here = [j for j in range(len(nodes)) if levels[j] == level]
+        if (len(here) == 1) != (level == highest):
+            return False
+        covered = []
+        for j in here:
+            first, count = nodes[j][1], nodes[j][2]
+            covered += range(first, first + count)
+        if covered != below:
+            return False
+        below = here
+    return True
+
+
+def places_below(nodes, j):
+    """The places below node j."""
+    level, first, count = nodes[j][:3]
+    if level == 0:
+        return list(range(first, first + count))
+    return [k for child in range(first, first + count) for k in places_below(nodes, child)]
+
+
+# "A box is the tightest one: least and greatest x and y of the points below it."
+def tightest(points, order, nodes, j):
+    below = [points[order[k]] for k in places_below(nodes, j)]
+    xs, ys = [p[1] for p in below], [p[2] for p in below]
+    return (min(xs), min(ys), max(xs), max(ys))
+
+
+def boxes_right(points, order, nodes):
+    return all(node[3:] == tightest(points, order, nodes, j) for j, node in enumerate(nodes))
+
+
+def open_number(words):
+    """The number of the first refusal of `open` that applies, in the order listed, or 0."""
+    # 1: under 6 words
+    if len(words) < 6:
+        return 1
+    span, root, n, m, edition, form = words[-6:]
+    # 2: form number not 1
+    if form != 1:
+        return 2
+    # 3: n, m or edition out of range. "n is 0 to 1,000, m 0 to 400, edition 1 to 1,000,000,000."
+    if n < 0 or n > POINTS or m < 0 or m > NODES or edition < 1 or edition > EDITION:
+        return 3
+    # 4: span, root word or length wrong. "span 5n+7m (words back to the start), root (7 words back, or 0 when m is 0)"; "exactly span+6 words"
+    if span != 5 * n + 7 * m or root != (0 if m == 0 else 7) or len(words) != span + 6:
+        return 4
+    sheet = Sheet(words)
+    # 5: an id or coordinate breaks its rule
+    if not points_right(sheet.points):
+        return 5
+    # 6: order and rank not as stated
+    if not order_right(n, sheet.order, sheet.rank):
+        return 6
+    # 7: level, first or count wrong, or n and m disagree on zero
+    if not nodes_right(n, sheet.nodes):
+        return 7
+    # 8: a box is not tightest
+    if not boxes_right(sheet.points, sheet.order, sheet.nodes):
+        return 8
+    return 0
+
+
+# ---------------------------------------------------------------- the packer
+
+def ranks(order):
+    rank = [0] * len(order)
+    for place, position in enumerate(order):
+        rank[position] = place
+    return rank
+
+
+def with_boxes(points, order, runs):
+    """The node words of runs (level, first, count), each with its tightest box."""
+    nodes = []
+    for run in runs:
+        nodes.append(run)
+        nodes[-1] = run + tightest(points, order, nodes, len(nodes) - 1)
+    return nodes
+
+
+def sheet_words(points, order, nodes, edition):
+    """The words of a sheet, its nodes given whole."""
+    n, m = len(points), len(nodes)
+    words = [word for point in points for word in point]
+    words += list(order) + ranks(order)
+    words += [word for node in nodes for word in node]
+    return words + [5 * n + 7 * m, 7 if m else 0, n, m, edition, 1]
+
+
+# "It makes nodes of 16, the last of a level taking the rest, until one node is left."
+def runs_of_sixteen(n):
+    runs = []
+    level, first, count = 0, 0, n
+    while count > 0:
+        here = len(runs)
+        for k in range(0, count, COVERED):
+            runs.append((level, first + k, min(COVERED, count - k)))
+        if len(runs) - here == 1:
+            break
+        level, first, count = level + 1, here, len(runs) - here
+    return runs
+
+
+def packed_length(n):
+    return 5 * n + 7 * len(runs_of_sixteen(n)) + 6
+
+
+def pack_number(n, point_words, order, edition, out_length):
+    """The number of the first refusal of `pack`: "Pack checks 18, 3, 5, 6, 17." """
+    # 18: point words not 3n, or order list not n long
+    if len(point_words) != 3 * n or len(order) != n:
+        return 18
+    # 3: n, m or edition out of range; m is what the packer makes of n
+    if n > POINTS or len(runs_of_sixteen(n)) > NODES or edition < 1 or edition > EDITION:
+        return 3
+    # 5: an id or coordinate breaks its rule
+    if not points_right([tuple(point_words[3 * i:3 * i + 3]) for i in range(n)]):
+        return 5
+    # 6: order not as stated: each position stands at one place
+    if sorted(order) != list(range(n)):
+        return 6
+    # 17: lent output not exactly the sheet's length
+    if out_length != packed_length(n):
+        return 17
+    return 0
+
+
+def pack(points, order, edition):
+    """The words that `pack` writes, of points (id, x, y)."""
+    nodes = with_boxes(points, order, runs_of_sixteen(len(points)))
+    return sheet_words(points, order, nodes, edition)
+
+
+# ---------------------------------------------------------------- the ring rule
+
+# "(a-x)·(b-x), the sum of the products of the x and y differences"
+def product(a, b, x):
+    return (a[0] - x[0]) * (b[0] - x[0]) + (a[1] - x[1]) * (b[1] - x[1])
+
+
+# "x blocks the pair a, b when (a-x)·(b-x) <= 0"
+def blocks(a, b, x):
+    return product(a, b, x) <= 0
+
+
+# "(q, p) is a ring pair when no other record of P or Q blocks it." "Every record of either set other than the two ends counts as another point, even at
+# the same place as an end."
+def is_ring_pair(p_points, q_points, j, i):
+    q, p = q_points[j][1:], p_points[i][1:]
+    for k, point in enumerate(p_points):
+        if k != i and blocks(q, p, point[1:]):
+            return False
+    for k, point in enumerate(q_points):
+        if k != j and blocks(q, p, point[1:]):
+            return False
+    return True
+
+
+# "The list runs by q id, then p id."
+def ring_list(p_points, q_points):
+    pairs = []
+    for j in range(len(q_points)):
+        for i in range(len(p_points)):
+            if is_ring_pair(p_points, q_points, j, i):
+                pairs.append((q_points[j][0], p_points[i][0]))
+    return sorted(pairs)
+
+
+# ---------------------------------------------------------------- the filter walk
+
+# "A point p' is skipped when some kept p has (q-p)·(p'-p) <= 0, else kept. A box is skipped when some kept p has this for all four corners, else its
+# node is opened."
+def behind(q, p, x):
+    return (q[0] - p[0]) * (x[0] - p[0]) + (q[1] - p[1]) * (x[1] - p[1]) <= 0
+
+
+def corners(box):
+    xmin, ymin, xmax, ymax = box
+    return [(xmin, ymin), (xmin, ymax), (xmax, ymin), (xmax, ymax)]
+
+
+# "Filter walk for q over P: from the root, depth first, in table order, kept set empty at the start."
+def filter_walk(sheet, q):
+    """The kept positions, ascending, and the nodes opened."""
+    kept = []
+    opened = 0
+
+    def visit(j):
+        nonlocal opened
+        level, first, count = sheet.nodes[j][:3]
+        box = sheet.nodes[j][3:]
+        for i in kept:
+            if all(behind(q, sheet.place(i), corner) for corner in corners(box)):
+                return
+        opened += 1
+        for k in range(first, first + count):
+            if level > 0:
+                visit(k)
+            else:
+                position = sheet.order[k]
+                if not any(behind(q, sheet.place(i), sheet.place(position)) for i in kept):
+                    kept.append(position)
+
+    if sheet.m > 0:
+        visit(sheet.m - 1)
+    assert opened <= sheet.m
+    return sorted(kept), opened
+
+
+# "The kept set is one bit a position in sixteen 64-bit words (position i is bit i mod 64, counted from the lowest, of word i div 64)"
+def kept_words(kept):
+    words = [0] * 16
+    for i in kept:
+        words[i // 64] |= 1 << (i % 64)
+    return words
+
+
+# ---------------------------------------------------------------- the ring walk
+
+# "Twice the centre is a+b; if its squared distance to the box with doubled coordinates is over |a-b| squared, skip."
+def far(a, b, box):
+    xmin, ymin, xmax, ymax = box
+    x, y = a[0] + b[0], a[1] + b[1]
+    dx = 2 * xmin - x if x < 2 * xmin else x - 2 * xmax if x > 2 * xmax else 0
+    dy = 2 * ymin - y if y < 2 * ymin else y - 2 * ymax if y > 2 * ymax else 0
+    return dx * dx + dy * dy > (a[0] - b[0]) ** 2 + (a[1] - b[1]) ** 2
+
+
+# "If both corners of some side lie strictly inside ((a-c)·(b-c) < 0), the pair is blocked, by that node's side."
+def side_inside(a, b, box):
+    xmin, ymin, xmax, ymax = box
+    left, right = [(xmin, ymin), (xmin, ymax)], [(xmax, ymin), (xmax, ymax)]
+    bottom, top = [(xmin, ymin), (xmax, ymin)], [(xmin, ymax), (xmax, ymax)]
+    return any(all(product(a, b, corner) < 0 for corner in side) for side in (left, bottom, right, top))
+
+
+CLEAR = ("clear",)
+
+
+# "at each box, the root's included, in this order. (1) .. skip. (2) .. blocked, by that node's side. (3) Otherwise open the node. In a leaf, the first
+# record that is not an end of the pair and blocks it stops the walk. The answer is clear, or blocked by a point (its set and position) or by a box side
+# (its set and node number), together with the nodes opened."
+def ring_walk(sheet, which, a, b, end):
+    """The walk for the pair a, b over one sheet, which is set `which`; `end` is the position in it that is an end of the pair."""
+    opened = 0
+
+    def visit(j):
+        nonlocal opened
+        level, first, count = sheet.nodes[j][:3]
+        box = sheet.nodes[j][3:]
+        if far(a, b, box):
+            return CLEAR
+        if side_inside(a, b, box):
+            return ("side", which, j)
+        opened += 1
+        for k in range(first, first + count):
+            if level > 0:
+                answer = visit(k)
+                if answer != CLEAR:
+                    return answer
+            else:
+                position = sheet.order[k]
+                if position != end and blocks(a, b, sheet.place(position)):
+                    return ("point", which, position)
+        return CLEAR
+
+    answer = visit(sheet.m - 1) if sheet.m > 0 else CLEAR
+    assert opened <= sheet.m
+    return answer, opened
+
+
+# "Q is walked first, then P if Q is clear; the counts add up."
+def pair_walk(p, q, j, i):
+    a, b = q.place(j), p.place(i)
+    answer, opened = ring_walk(q, 1, a, b, j)
+    if answer != CLEAR:
+        return answer, opened
+    answer, more = ring_walk(p, 0, a, b, i)
+    return answer, opened + more
+
+
+# ---------------------------------------------------------------- the calls open to callers
+
+# "A walk, page request or point reader open to callers checks its sheets first .. 1 to 8 for P, then for Q." "Walks name their points by position."
+# 9: "a position not below its sheet's n"
+def filter_call(p_words, q_words, j):
+    """(number, kept positions, opened) of a filter walk of position j of Q over P."""
+    number = open_number(p_words) or open_number(q_words)
+    if number:
+        return number, [], 0
+    p, q = Sheet(p_words), Sheet(q_words)
+    if j >= q.n:
+        return 9, [], 0
+    kept, opened = filter_walk(p, q.place(j))
+    return 0, kept, opened
+
+
+def ring_call(p_words, q_words, j, i):
+    """(number, answer, opened) of the ring walk of position j of Q and position i of P."""
+    number = open_number(p_words) or open_number(q_words)
+    if number:
+        return number, None, 0
+    p, q = Sheet(p_words), Sheet(q_words)
+    if j >= q.n or i >= p.n:
+        return 9, None, 0
+    answer, opened = pair_walk(p, q, j, i)
+    return 0, answer, opened
+
+
+def point_call(words, i):
+    """(number, point) of the point reader."""
+    number = open_number(words)
+    if number:
+        return number, (0, 0, 0)
+    sheet = Sheet(words)
+    if i >= sheet.n:
+        return 9, (0, 0, 0)
+    return 0, sheet.points[i]
+
+
+# ---------------------------------------------------------------- pages
+
+class Page:
+    """"The page holds both editions, the key, the first `size` ring pairs strictly after the key (fewer if fewer follow), their number and an end mark" """
+
+    def __init__(self, editions, key, pairs, end):
+        self.editions, self.key, self.pairs, self.end = editions, key, pairs, end
+
+
+# "an end mark, set exactly when no ring pair follows the last one shown, or follows the key if none is shown"
+def page_of(pairs, editions, key, size):
+    """The page of a list of ring pairs. No tree is in it."""
+    following = [pair for pair in pairs if pair > key]
+    return Page(editions, key, following[:size], len(following) <= size)
+
+
+# "each q in id order from the lowest id not below the key's is filtered once, its kept partners after the key are ring-walked in id order, and the work
+# stops at the first pair beyond the size, or after the last q"
+def page_opened(p, q, key, size):
+    """The nodes opened, and the pairs found on the way, the one beyond the size left out."""
+    opened, found = 0, []
+    for j in range(q.n):
+        q_id = q.points[j][0]
+        if q_id < key[0]:
+            continue
+        kept, more = filter_walk(p, q.place(j))
+        opened += more
+        for i in kept:
+            pair = (q_id, p.points[i][0])
+            if pair <= key:
+                continue
+            answer, more = pair_walk(p, q, j, i)
+            opened += more
+            if answer == CLEAR:
+                if len(found) == size:
+                    return opened, found
+                found.append(pair)
+    return opened, found
+
+
+# 9: "key out of range", each 0 to 2,000,000,000; 10: size out of range, 1 to 16
+def page_call(p_words, q_words, key, size, pairs=None):
+    """(number, page, opened) of a page request. `pairs` is the list of ring pairs, made anew where it is not handed in."""
+    number = open_number(p_words) or open_number(q_words)
+    if number:
+        return number, None, 0
+    if key[0] < 0 or key[0] > ID or key[1] < 0 or key[1] > ID:
+        return 9, None, 0
+    if size < 1 or size > SIZE:
+        return 10, None, 0
+    p, q = Sheet(p_words), Sheet(q_words)
+    if pairs is None:
+        pairs = ring_list(p.points, q.points)
+    page = page_of(pairs, (p.edition, q.edition), key, size)
+    opened, found = page_opened(p, q, key, size)
+    assert found == page.pairs
+    return 0, page, opened
+
+
+# ---------------------------------------------------------------- the book
+
+class Book:
+    """"A book is begun for two editions with nothing held, open, key (0, 0)." """
+
+    def __init__(self, editions):
+        self.editions, self.held, self.closed = editions, 0, False
+
+
+# 3: edition out of range
+def begin(editions):
+    if any(edition < 1 or edition > EDITION for edition in editions):
+        return 3, None
+    return 0, Book(editions)
+
+
+# "Its next key is its last pair." 11: held exceeds the slice's length. "Asking the next key refuses only by 11."
+def next_key(book, slots):
+    if book.held > len(slots):
+        return 11, None
+    if book.held == 0:
+        return 0, (0, 0)
+    return 0, slots[book.held - 1]
+
+
+# "Taking a page appends its pairs and closes the book if the end mark is set." `page_count` is the number that the page gives of its pairs.
+def take(book, slots, page, page_count=None):
+    """The number. Where it is 0, the book and its slots are changed."""
+    count = len(page.pairs) if page_count is None else page_count
+    # 11: held exceeds the slice's length
+    if book.held > len(slots):
+        return 11
+    # 12: book closed
+    if book.closed:
+        return 12
+    # 13: page of other editions
+    if page.editions != book.editions:
+        return 13
+    # 14: page key is not the book's next key
+    if page.key != next_key(book, slots)[1]:
+        return 14
+    # 15: over 16 pairs; an id outside 1 to 2,000,000,000; pairs not ascending strictly after the key; no pair and no end mark
+    if count > SIZE:
+        return 15
+    last = page.key
+    for pair in page.pairs[:count]:
+        if pair[0] < 1 or pair[0] > ID or pair[1] < 1 or pair[1] > ID or pair <= last:
+            return 15
+        last = pair
+    if count == 0 and not page.end:
+        return 15
+    # 16: more pairs than slots left
+    if count > len(slots) - book.held:
+        return 16
+    for pair in page.pairs[:count]:
+        slots[book.held] = pair
+        book.held += 1
+    if page.end:
+        book.closed = True
+    return 0
