@@ -1,0 +1,24 @@
+use mathlib.Core.Path.{_≡_, refl, sym, ap, _∙_}
+use mathlib.Core.Bool.{Bool, cond}
+use borrow.Author.Needs.{needs}
+use borrow.Author.Tests.{lt-ltb, le-ltb}
+use Rattle.book.specs.Rules.{askedAt, nextNo, nextBy}
+use Rattle.book.proofs.ask.Statement.{statement}
+use Rattle.book.proofs.ask.Tie as tie
+use Rattle.book.proofs.ask.Reads as reads
+use Rattle.book.proofs.ask.Lts as lts
+use Rattle.list.proofs.key_of.Reads as key-of-reads
+
+returns : tie.Need-returns
+unfolding askedAt nextNo nextBy
+returns c = rw (lt-ltb _ _ (c .if1 .taken))
+
+key-of-requires : tie.Need-key-of-requires
+key-of-requires c κs = search needs
+
+returns-2 : tie.Need-returns-2
+unfolding askedAt nextNo nextBy
+returns-2 c = rw (le-ltb _ _ (c .before .if1 .left), c .key-of .ensures)
+
+pub ask-spec : {M : Type 1} → statement M
+ask-spec = tie.close (tie.spec returns key-of-requires returns-2)

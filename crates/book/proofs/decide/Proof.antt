@@ -1,0 +1,28 @@
+use mathlib.Core.Path.{_≡_, sym, ap, _∙_}
+use native.Mathlib.Omega.{arith}
+use Rattle.book.proofs.TakeLaws.{passed-at}
+use Rattle.book.proofs.CoreLaws.{decided-no, decided-yes}
+use borrow.Author.Needs.{needs}
+use Rattle.book.proofs.decide.Statement.{statement}
+use Rattle.book.proofs.decide.Tie as tie
+use Rattle.book.proofs.decide.Reads as reads
+use Rattle.book.proofs.decide.Lts as lts
+use Rattle.book.proofs.take_number.Reads as take-number-reads
+
+take-number-requires : tie.Need-take-number-requires
+take-number-requires c κs = search needs
+
+returns : tie.Need-returns
+returns c = decided-no _ _ _ _ _ (c .before .take-number .ensures) (c .if1 .taken)
+
+add-t9 : tie.Need-add-t9
+add-t9 c =
+    let e = c .before .before .before in
+    let p = passed-at _ _ _ _ (sym (e .before .take-number .ensures) ∙ e .if1 .left) in
+    omega (arith, p .fits, e .before .before .fits .len)
+
+returns-2 : tie.Need-returns-2
+returns-2 c = let e = c .before .before .before in decided-yes _ _ _ _ (sym (e .before .take-number .ensures) ∙ e .if1 .left)
+
+pub decide-spec : {M : Type 1} → statement M
+decide-spec = tie.close (tie.spec take-number-requires returns add-t9 returns-2)

@@ -1,0 +1,146 @@
+-- The order book: begin, the next key, and what taking a page decides, stores and hands back.
+use mathlib.Core.Bool.{Bool, true, false, cond, not, _&&_, _||_}
+use mathlib.Core.List.{List, [], _∷_}
+use Prim.Native.Nat.{ℕ, zero, suc, _+_, _-_}
+use lib.Dec.{eqb, ltb, leb}
+use lib.Seq.{paste}
+use lib.ListN.{length, getD}
+use Rattle.list.specs.declared.Key.{Key}
+use Rattle.list.specs.declared.Pair.{Pair}
+use Rattle.list.specs.declared.Source.{Source}
+use Rattle.list.specs.declared.Page.{Page}
+use Rattle.list.specs.Pairs.{start, none, keyOf, ascends}
+use Rattle.list.specs.Pages.{sourceNo, pagePairs}
+use Rattle.book.specs.declared.Book.{Book}
+use Rattle.book.specs.declared.Begun.{Begun}
+use Rattle.book.specs.declared.Begun.the-variants as begun
+use Rattle.book.specs.declared.Next.{Next}
+use Rattle.book.specs.declared.Next.the-variants as next
+use Rattle.book.specs.declared.Asked.{Asked}
+use Rattle.book.specs.declared.Taken.{Taken}
+use Rattle.book.specs.declared.Decided.{Decided}
+
+-- ---- begin
+
+-- edition 1 to 1,000,000,000
+unfoldable pub editionOk : ℕ → Bool
+editionOk e = ltb 0 e && leb e 1000000000
+
+-- 3: an edition out of range
+unfoldable pub beginNo : Source → ℕ
+beginNo s = cond (editionOk (s .«p_edition») && editionOk (s .«q_edition»)) 0 3
+
+-- "A book is begun for two editions with nothing held, open, key (0, 0)."
+unfoldable pub begunBook : Source → Book
+begunBook s = record { held = 0; closed = false; source = s }
+
+-- the document's number for each case of the answer
+unfoldable pub begunNo : Begun → ℕ
+begunNo (begun.Open b) = 0
+begunNo (begun.Refused n) = n
+
+-- the answer by its number: 0 goes with the book, "Every refusal gives only its number"
+unfoldable pub begunBy : ℕ → Book → Begun
+begunBy zero b = begun.Open b
+begunBy (suc n) b = begun.Refused (suc n)
+
+-- the answer of begin
+unfoldable pub begunFor : Source → Begun
+begunFor s = begunBy (beginNo s) (begunBook s)
+
+-- ---- the next key
+
+-- "Its next key is its last pair": the key of the last held slot, and (0, 0) where nothing is held
+unfoldable pub lastKey : ℕ → List Pair → Key
+lastKey zero slots = start
+lastKey (suc n) slots = keyOf (getD slots n none)
+
+-- the slot of the last of `held` pairs, and `len` where nothing is held
+unfoldable pub lastSlot : ℕ → ℕ → ℕ
+lastSlot zero len = len
+lastSlot (suc n) len = n
+
+-- 11: held exceeds the slice's length. "Asking the next key refuses only by 11."
+unfoldable pub nextNo : Book → ℕ → ℕ
+nextNo b len = cond (ltb len (b .held)) 11 0
+
+-- the document's number for each case of the answer
+unfoldable pub askedNo : Next → ℕ
+askedNo (next.After k) = 0
+askedNo (next.Refused n) = n
+
+-- the answer by its number: 0 goes with the key
+unfoldable pub nextBy : ℕ → Key → Next
+nextBy zero k = next.After k
+nextBy (suc n) k = next.Refused (suc n)
+
+-- the answer of next key, for a slice of `len` slots of which the last held one has the key k
+unfoldable pub askedAt : Book → ℕ → Key → Asked
+askedAt b len k = record { next = nextBy (nextNo b len) k; book = b }
+
+-- the answer of next key
+unfoldable pub asked : Book → List Pair → Asked
+asked b slots = askedAt b (length slots) (lastKey (b .held) slots)
+
+-- ---- take
+
+-- ids are 1 to 2,000,000,000
+unfoldable pub idOk : ℕ → Bool
+idOk n = ltb 0 n && leb n 2000000000
+
+unfoldable pub idsOk : List Pair → Bool
+idsOk [] = true
+idsOk (v ∷ l) = idOk (v .q) && idOk (v .p) && idsOk l
+
+unfoldable pub sameKey : Key → Key → Bool
+sameKey a b = eqb (a .q) (b .q) && eqb (a .p) (b .p)
+
+-- 15: "over 16 pairs; an id outside 1 to 2,000,000,000; pairs not ascending strictly after the key; no pair and no end mark"
+unfoldable pub pageBad : Page → Bool
+pageBad g =
+    ltb 16 (g .count) || not (idsOk (pagePairs g)) || not (ascends (g .key) (pagePairs g)) || (eqb (g .count) 0 && not (g .end))
+
+-- "The first that applies, in the order listed": a number, or what comes after it where it is 0
+unfoldable pub firstNo : ℕ → ℕ → ℕ
+firstNo zero rest = rest
+firstNo (suc n) rest = suc n
+
+-- the number of refusal in the document's order, 0 where the page is taken: for a slice of `len` slots of which the last held one has the key k.
+-- 11 held exceeds the slice's length; 12 book closed; 13 page of other editions; 14 page key is not the book's next key; 15; 16 more pairs than
+-- slots left
+unfoldable pub takeNoAt : Book → ℕ → Key → Page → ℕ
+takeNoAt b len k g =
+    cond (ltb len (b .held)) 11
+    (cond (b .closed) 12
+    (firstNo (sourceNo (b .source) (g .source))
+    (cond (not (sameKey (g .key) k)) 14
+    (cond (pageBad g) 15
+    (cond (ltb (len - b .held) (g .count)) 16
+    0)))))
+
+-- "Taking a page appends its pairs and closes the book if the end mark is set."
+unfoldable pub advanced : Book → Page → Book
+advanced b g = record { held = b .held + g .count; closed = g .end; source = b .source }
+
+-- what is decided by a number: a taken page is appended whole, a refused one appends nothing "and leaves .. book state as [it] stood"
+unfoldable pub decidedBy : ℕ → Book → Page → Decided
+decidedBy zero b g = record { n = g .count; taken = record { number = 0; book = advanced b g } }
+decidedBy (suc m) b g = record { n = 0; taken = record { number = suc m; book = b } }
+
+unfoldable pub decidedAt : Book → ℕ → Key → Page → Decided
+decidedAt b len k g = decidedBy (takeNoAt b len k g) b g
+
+-- the number of refusal of a page, of any state and slice
+unfoldable pub takeNo : Book → List Pair → Page → ℕ
+takeNo b slots g = takeNoAt b (length slots) (lastKey (b .held) slots) g
+
+unfoldable pub decided : Book → List Pair → Page → Decided
+decided b slots g = decidedBy (takeNo b slots g) b g
+
+-- the answer of take
+unfoldable pub taken : Book → List Pair → Page → Taken
+taken b slots g = decided b slots g .taken
+
+-- the slots after it: the page's pairs stand from the held ones on, and every other slot is as it was
+unfoldable pub takenSlots : Book → List Pair → Page → List Pair
+takenSlots b slots g = paste slots (b .held) (g .pairs) (decided b slots g .n)
