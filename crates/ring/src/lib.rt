@@ -1,0 +1,27 @@
+// The calls open to callers, on plain slices: every input is answered, and a refusal gives only its number.
+// Each checks its sheets first, P then Q, by 1 to 8; then its positions by 9. A well-formed sheet is checked once a call.
+pub mod open;
+pub mod point;
+
+// What a check of words finds: 0, how many words the sheet covers, its points and its nodes; or the number of refusal and zeros.
+#[repr(C)]
+pub struct Head {
+    pub number: u32,
+    pub len: usize,
+    pub n: usize,
+    pub m: usize,
+}
+
+// A record of a sheet, a pump house or a chamber: its id and where it stands.
+#[repr(C)]
+pub struct Asset {
+    pub id: u32,
+    pub x: i32,
+    pub y: i32,
+}
+
+// What the point reader answers: the record, or the number of refusal.
+pub enum Pointed {
+    At(Asset),
+    Refused(u32),
+}
