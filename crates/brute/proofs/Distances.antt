@@ -1,0 +1,90 @@
+-- Laws of clipped words and of distances. Assumes nothing.
+use mathlib.Core.Path.{_≡_, refl, sym, ap, subst, _∙_}
+use mathlib.Core.Bool.{Bool, true, false, cond, not}
+use mathlib.Core.List.{List, [], _∷_}
+use Prim.Native.Nat.{ℕ, _+_, _*_, _-_, _≤_, _<_, _^_}
+use native.Mathlib.Nat.{mul-le-mul}
+use native.Mathlib.Omega.{arith}
+use lib.Dec.{T, leb}
+use lib.IntN.{ℤ, pos, negsuc, negℤ, natAbs, _-ℤ_}
+use lib.Signed.{leZ, ltZ, nonNeg, mag, _≤ℤ_, yes-nonNeg}
+use mir.Syntax.{w32, w64}
+use mir.Val.{Fits, toZ, ofZ}
+use mir.Facts.{toZ-ofZ}
+use borrow.Author.Tests.{le-leb, lt-leb, leb-true}
+use Rattle.integers.specs.Bools.{test-iff, decide}
+use Rattle.integers.specs.Order.{Within, in--, in-up, in-lit, sfits-in, abs-of, zl, diff, absN, leZ-not, le-true, sum, pp, nn}
+use Rattle.integers.specs.Cast.{result-is}
+use Rattle.brute.specs.declared.Place.{Place}
+use Rattle.brute.specs.Brute.{clip, across, apart, covers}
+
+-- ---- clipped words
+
+pub clip-low : (z : ℤ) → ltZ z (negsuc 999999999) ≡ true → pos 0 ≡ clip z
+unfolding clip
+clip-low z e = rw (leZ-not (negsuc 999999999) z, e)
+
+pub clip-high : (z : ℤ) → ltZ z (negsuc 999999999) ≡ false → ltZ (pos 1000000000) z ≡ true → pos 0 ≡ clip z
+unfolding clip
+clip-high z e f = rw (leZ-not (negsuc 999999999) z, e, leZ-not z (pos 1000000000), f)
+
+pub clip-is : (z : ℤ) → ltZ z (negsuc 999999999) ≡ false → ltZ (pos 1000000000) z ≡ false → z ≡ clip z
+unfolding clip
+clip-is z e f = rw (leZ-not (negsuc 999999999) z, e, leZ-not z (pos 1000000000), f)
+
+pub clip-in : (z : ℤ) → Within 1000000000 (clip z)
+unfolding clip
+clip-in z = go (leZ (negsuc 999999999) z) (leZ z (pos 1000000000)) refl refl
+  where
+    go : (s t : Bool) → leZ (negsuc 999999999) z ≡ s → leZ z (pos 1000000000) ≡ t → Within 1000000000 (cond s (cond t z (pos 0)) (pos 0))
+    go true true e f = record { abs = abs-of z 1000000000 (omega (arith, le-true z (pos 1000000000) f)) (omega (arith, le-true (negsuc 999999999) z e)) }
+    go true false e f = in-lit tt
+    go false t e f = in-lit tt
+
+-- ---- differences
+
+pub abs-swap : (a b : ℤ) → natAbs (b -ℤ a) ≡ natAbs (a -ℤ b)
+abs-swap a b = flip (a -ℤ b) (b -ℤ a) (omega (arith, diff a b, diff b a))
+  where
+    flip : (x y : ℤ) → pp x + pp y ≡ nn x + nn y → natAbs y ≡ natAbs x
+    flip (pos m) (pos n) h = omega arith
+    flip (pos m) (negsuc n) h = omega arith
+    flip (negsuc m) (pos n) h = omega arith
+    flip (negsuc m) (negsuc n) h = absurd (omega arith)
+
+pub less-from : (a b : ℤ) → ltZ a b ≡ true → pos 0 ≤ℤ (b -ℤ a)
+less-from a b e = omega (zl, diff b a)
+
+pub not-less-from : (a b : ℤ) → ltZ a b ≡ false → pos 0 ≤ℤ (a -ℤ b)
+not-less-from a b e = omega (zl, diff a b)
+
+-- a difference that is not negative may be cast to a u64
+pub cast-diff : {x y : ℤ} → x ≡ y → Within 4000000000 y → pos 0 ≤ℤ y → T (nonNeg x) × Fits w64 (natAbs x)
+cast-diff {x} {y} e w h = subst (λ (z : ℤ). T (nonNeg z) × Fits w64 (natAbs z)) (sym e) (yes-nonNeg h, record { fits = omega (arith, w .abs) })
+
+-- ---- squares
+
+pub square-le : {d m : ℕ} → d ≤ m → d * d ≤ m * m
+square-le h = mul-le-mul h h
+
+-- a coordinate, read back from its bits
+pub back : {z : ℤ} → Within 1000000000 z → toZ w64 (ofZ w64 z) ≡ z
+back w = toZ-ofZ (sfits-in {w = w64} w tt)
+
+-- a word of a slice, clipped by a call
+pub clipped-is : (z : ℤ) {r : ℤ} → mag z < 2 ^ 31 → mag r < 2 ^ 63 → r ≡ clip (toZ w32 (ofZ w32 z)) → toZ w64 (ofZ w64 r) ≡ clip z
+clipped-is z h k e = result-is k (e ∙ ap clip (toZ-ofZ {w = w32} {z = z} (record { sfits = h })))
+
+-- ---- the test that the code makes axis by axis is that of the sums
+module _ (a b z : Place) {e f x y : ℕ} (ex : e ≡ across (a .x) (b .x)) (ey : f ≡ across (a .y) (b .y)) (zx : x ≡ apart (a .x) (b .x) (z .x)) (zy : y ≡ apart (a .y) (b .y) (z .y)) where
+  sums : leb (x + y) (e + f) ≡ covers a b z
+  unfolding covers
+  sums = λ i. leb (zx i + zy i) (ex i + ey i)
+
+  pub covers-not : e + f < x → false ≡ covers a b z
+  covers-not h = sym (lt-leb (x + y) (e + f) (omega arith)) ∙ sums
+
+  pub covers-by : x ≤ e + f → leb y (e + f - x) ≡ covers a b z
+  covers-by h =
+      test-iff _ _ (λ t. le-leb (x + y) (e + f) (omega (arith, leb-true y (e + f - x) t))) (λ t. le-leb y (e + f - x) (omega (arith, leb-true (x + y) (e + f) t)))
+      ∙ sums

@@ -1,0 +1,49 @@
+-- `brute::apart` meets its contract. Assumes nothing.
+use mathlib.Core.Path.{_≡_, ap, subst, sym, _∙_}
+use mathlib.Core.List.{List, [], _∷_}
+use Prim.Native.Nat.{ℕ, _*_, _≤_}
+use native.Mathlib.Omega.{arith}
+use lib.IntN.{ℤ, pos, natAbs, _-ℤ_, _+ℤ_, _*ℤ_}
+use mir.Syntax.{w64}
+use Rattle.integers.specs.Order.{Within}
+use Rattle.integers.specs.Solver.{Expr, con, _:+_, _:*_, v0, v1, v2}
+use Rattle.integers.specs.Mach.{Each, fits, runs, eval-in}
+use Rattle.brute.proofs.Distances.{square-le}
+use Rattle.brute.proofs.apart.Statement.{statement}
+use Rattle.brute.proofs.apart.Tie as tie
+
+abbrev β : List ℕ
+β = 1000000000 ∷ 1000000000 ∷ 1000000000 ∷ []
+
+abbrev ρ : tie.Start → List ℤ
+ρ c = c .args .a ∷ c .args .b ∷ c .args .z ∷ []
+
+each : (c : tie.Start) → Each (ρ c) β
+each c = (c .pre .0, (c .pre .1, (c .pre .2, tt)))
+
+abbrev twice : Expr
+twice = con (pos 2) :* v2
+
+said : (c : tie.After-gap) → c .gap .result ≡ natAbs (pos 2 *ℤ c .before .args .z -ℤ (c .before .args .a +ℤ c .before .args .b))
+said c = let s = c .before in c .gap .ensures .0 ∙ (λ i. natAbs (runs w64 (ρ s) β (each s) twice tt i -ℤ runs w64 (ρ s) β (each s) (v0 :+ v1) tt i))
+
+mul-gap : tie.Need-mul-gap
+mul-gap c = fits w64 (ρ c) β (each c) twice tt
+
+add-gap : tie.Need-add-gap
+add-gap c = fits w64 (ρ c) β (each c) (v0 :+ v1) tt
+
+gap-requires : tie.Need-gap-requires
+gap-requires c κs = (
+  subst (Within 2000000000) (sym (runs w64 (ρ c) β (each c) twice tt)) (eval-in (ρ c) β (each c) twice),
+  subst (Within 2000000000) (sym (runs w64 (ρ c) β (each c) (v0 :+ v1) tt)) (eval-in (ρ c) β (each c) (v0 :+ v1)),
+)
+
+mul-result : tie.Need-mul-result
+mul-result c = record { fits = omega (arith, square-le (c .gap .ensures .1)) }
+
+returns : tie.Need-returns
+returns c = λ i. said c i * said c i
+
+pub apart-spec : {M : Type 1} → statement M
+apart-spec = tie.close (tie.spec mul-gap add-gap gap-requires mul-result returns)

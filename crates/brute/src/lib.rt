@@ -1,0 +1,169 @@
+// A second, unrelated join, to compare the first one with: plain loops over the points, and the ring rule by distances to the doubled centre. It takes
+// the points' words of two sets, asks nothing of them, and stops at the first blocker of a pair.
+ghost use mathlib.Core.Path.{_≡_};
+ghost use mathlib.Core.Bool.{false};
+ghost use Prim.Native.Nat.{ℕ, _≤_, _<_};
+ghost use lib.IntN.{natAbs, _-ℤ_};
+ghost use lib.ListN.{length, getD};
+ghost use Rattle.integers.specs.Order.{Within};
+ghost use Rattle.brute.specs.Brute.{clip, placeAt, covers, clear, empty, pairs, FirstOf, Next};
+
+pub struct Place {
+    pub x: i64,
+    pub y: i64,
+}
+
+// A pair by its positions: q's in Q, p's in P. Where there is none, q is past all of Q.
+pub struct Found {
+    pub q: usize,
+    pub p: usize,
+}
+
+// A word as a coordinate.
+fn clipped(w: i32) -> i64
+    ensures { λ r. ⌜ (r ≡ clip w) × Within 1000000000 (clip w) ⌝ }
+{
+    if w < -1000000000 {
+        return 0;
+    }
+    if 1000000000 < w {
+        return 0;
+    }
+    w as i64
+}
+
+// Where the point at position k stands.
+fn place_at(s: &[i32], k: usize) -> Place
+    requires { ⌜ k < Rattle.brute.specs.Brute.size (now s) ⌝ }
+    ensures { λ r. ⌜ r ≡ placeAt (now (s .entry)) k ⌝ }
+    ensures { λ r. ⌜ Within 1000000000 (r .x) × Within 1000000000 (r .y) ⌝ }
+{
+    Place {
+        x: clipped(s[3 * k + 1]),
+        y: clipped(s[3 * k + 2]),
+    }
+}
+
+// How far a and b are apart.
+fn gap(a: i64, b: i64) -> u64
+    requires { ⌜ Within 2000000000 a × Within 2000000000 b ⌝ }
+    ensures { λ r. ⌜ (r ≡ natAbs (a -ℤ b)) × (r ≤ 4000000000) ⌝ }
+{
+    if a < b {
+        return (b - a) as u64;
+    }
+    (a - b) as u64
+}
+
+// The square of it.
+fn across(a: i64, b: i64) -> u64
+    requires { ⌜ Within 1000000000 a × Within 1000000000 b ⌝ }
+    ensures { λ r. ⌜ (r ≡ Rattle.brute.specs.Brute.across a b) × (r ≤ 4000000000000000000) ⌝ }
+{
+    let d = gap(a, b);
+    d * d
+}
+
+// The squared distance from the doubled centre.
+fn apart(a: i64, b: i64, z: i64) -> u64
+    requires { ⌜ Within 1000000000 a × Within 1000000000 b × Within 1000000000 z ⌝ }
+    ensures { λ r. ⌜ r ≡ Rattle.brute.specs.Brute.apart a b z ⌝ }
+{
+    let d = gap(2 * z, a + b);
+    d * d
+}
+
+// Whether z is in the closed circle on a, b.
+fn is_covered(a: Place, b: Place, z: Place) -> bool
+    requires { ⌜ Within 1000000000 (a .x) × Within 1000000000 (a .y) ⌝ }
+    requires { ⌜ Within 1000000000 (b .x) × Within 1000000000 (b .y) ⌝ }
+    requires { ⌜ Within 1000000000 (z .x) × Within 1000000000 (z .y) ⌝ }
+    ensures { λ r. ⌜ r ≡ covers a b z ⌝ }
+{
+    let d = across(a.x, b.x) + across(a.y, b.y);
+    let x = apart(a.x, b.x, z.x);
+    let y = apart(a.y, b.y, z.y);
+    if d < x {
+        return false;
+    }
+    y <= d - x
+}
+
+// Whether the point at position k of s is the one at position `end`, or is not in the circle on a, b.
+fn is_clear(s: &[i32], a: Place, b: Place, end: usize, k: usize) -> bool
+    requires { ⌜ Within 1000000000 (a .x) × Within 1000000000 (a .y) ⌝ }
+    requires { ⌜ Within 1000000000 (b .x) × Within 1000000000 (b .y) ⌝ }
+    requires { ⌜ k < Rattle.brute.specs.Brute.size (now s) ⌝ }
+    ensures { λ r. ⌜ r ≡ clear (now (s .entry)) a b end k ⌝ }
+{
+    if k == end {
+        return true;
+    }
+    !is_covered(a, b, place_at(s, k))
+}
+
+// Whether no point of s but the one at position `end` is in the circle on a, b.
+fn is_empty(s: &[i32], a: Place, b: Place, end: usize) -> bool
+    requires { ⌜ Within 1000000000 (a .x) × Within 1000000000 (a .y) ⌝ }
+    requires { ⌜ Within 1000000000 (b .x) × Within 1000000000 (b .y) ⌝ }
+    ensures { λ r. ⌜ r ≡ empty (now (s .entry)) a b end ⌝ }
+{
+    let n = s.len() / 3;
+    let mut k = 0;
+    while k < n {
+        if !is_clear(s, a, b, end, k) {
+            return false;
+        }
+        k += 1;
+    }
+    true
+}
+
+// Whether q at position j and p at position i are a pair.
+fn is_pair(p: &[i32], q: &[i32], j: usize, i: usize) -> bool
+    requires { ⌜ j < Rattle.brute.specs.Brute.size (now q) ⌝ }
+    requires { ⌜ i < Rattle.brute.specs.Brute.size (now p) ⌝ }
+    ensures { λ r. ⌜ r ≡ pairs (now (p .entry)) (now (q .entry)) j i ⌝ }
+{
+    let a = place_at(q, j);
+    let b = place_at(p, i);
+    if !is_empty(q, a, b, j) {
+        return false;
+    }
+    is_empty(p, a, b, i)
+}
+
+// The first position of P from `i` on that is a pair with position j of Q, or past all of P.
+fn first_from(p: &[i32], q: &[i32], j: usize, i: usize) -> usize
+    requires { ⌜ j < Rattle.brute.specs.Brute.size (now q) ⌝ }
+    ensures { λ r. ⌜ FirstOf (now (p .entry)) (now (q .entry)) j i r ⌝ }
+{
+    let n = p.len() / 3;
+    let mut k = i;
+    while k < n {
+        if is_pair(p, q, j, k) {
+            return k;
+        }
+        k += 1;
+    }
+    k
+}
+
+// The first pair from position j of Q and position i of P on, in the list's order: by q, then by p.
+pub fn next(p: &[i32], q: &[i32], j: usize, i: usize) -> Found
+    ensures { λ r. ⌜ Next (now (p .entry)) (now (q .entry)) j i r ⌝ }
+{
+    let np = p.len() / 3;
+    let nq = q.len() / 3;
+    let mut row = j;
+    let mut from = i;
+    while row < nq {
+        let at = first_from(p, q, row, from);
+        if at < np {
+            return Found { q: row, p: at };
+        }
+        row += 1;
+        from = 0;
+    }
+    Found { q: row, p: 0 }
+}
