@@ -11,15 +11,18 @@ use lib.IntN.{ℤ, pos}
 use lib.ListN.{length}
 use borrow.Author.Tests.{ltb-false, eqb-true}
 use Rattle.words.specs.Word.{within, eqZ}
+use Rattle.words.specs.Range.{editionWord}
 use Rattle.integers.specs.Bools.{and-left, and-right}
 use Rattle.words.proofs.Signs.{within-num}
 use Rattle.sheet.specs.Layout.{form, nWord, mWord, edition, span, root, points, nodes, rootWord, countsOk, layoutOk, trailerNo}
 use Rattle.sheet.specs.Nodes.{nodesOk, tableOk}
+use Rattle.sheet.specs.declared.Limits.{Limits}
 
-pub record Trailer (w : List ℤ) : Type 0 where
+pub record Trailer (lim : Limits) (w : List ℤ) : Type 0 where
   pub long : 6 ≤ length w
-  pub n-le : points w ≤ 1000
-  pub m-le : nodes w ≤ 400
+  pub n-le : points w ≤ lim .points
+  pub m-le : nodes w ≤ lim .nodes
+  pub edition-in : editionWord (edition w) ≡ true
   pub size : length w ≡ 5 * points w + 7 * nodes w + 6
 
 -- no refusal means that all four tests hold
@@ -30,18 +33,19 @@ four false true false d e = absurd (omega arith)
 four false true true false e = absurd (omega arith)
 four false true true true e = (refl, refl, refl)
 
-pub trailer-facts : (w : List ℤ) → trailerNo w ≡ 0 → Trailer w
+pub trailer-facts : (lim : Limits) (w : List ℤ) → trailerNo lim w ≡ 0 → Trailer lim w
 unfolding trailerNo countsOk layoutOk
-trailer-facts w e =
-    let f = four (ltb (length w) 6) (eqZ (form w) (pos 1)) (countsOk w) (layoutOk w) e in
-    let a = within (pos 0) (pos 1000) (nWord w) in
-    let b = within (pos 0) (pos 400) (mWord w) in
-    let c = within (pos 1) (pos 1000000000) (edition w) in
+trailer-facts lim w e =
+    let f = four (ltb (length w) 6) (eqZ (form w) (pos 1)) (countsOk lim w) (layoutOk w) e in
+    let a = within (pos 0) (pos (lim .points)) (nWord w) in
+    let b = within (pos 0) (pos (lim .nodes)) (mWord w) in
+    let c = editionWord (edition w) in
     let e₁ = and-left (a && b) c (f .1) in
     record {
       long = ltb-false (length w) 6 (f .0);
-      n-le = within-num 0 1000 (nWord w) (and-left a b e₁) .1;
-      m-le = within-num 0 400 (mWord w) (and-right a b e₁) .1;
+      n-le = within-num 0 (lim .points) (nWord w) (and-left a b e₁) .1;
+      m-le = within-num 0 (lim .nodes) (mWord w) (and-right a b e₁) .1;
+      edition-in = and-right (a && b) c (f .1);
       size = eqb-true (length w) (5 * points w + 7 * nodes w + 6) (and-right (eqZ (span w) (pos (5 * points w + 7 * nodes w)) && eqZ (root w) (pos (rootWord (nodes w)))) (eqb (length w) (5 * points w + 7 * nodes w + 6)) (f .2));
     }
 

@@ -10,7 +10,10 @@ use lib.Dec.{eqb}
 use lib.IntN.{ℤ}
 use borrow.Author.Tests.{eqb-true, eq-eqb}
 use Rattle.integers.specs.Bools.{and-left, decide}
-use Rattle.sheet.specs.Layout.{points, nodes, trailerNo}
+use Rattle.words.specs.Range.{editionWord}
+use Rattle.sheet.specs.declared.Limits.{Limits}
+use Rattle.sheet.specs.Limits.{Fair, form1}
+use Rattle.sheet.specs.Layout.{edition, points, nodes, trailerNo}
 use Rattle.sheet.specs.Points.{pointsOk}
 use Rattle.sheet.specs.Order.{orderOk}
 use Rattle.sheet.specs.Nodes.{tableOk, nodesOk}
@@ -44,20 +47,32 @@ empties n m e z = eqb-true n 0 (left (eqb n 0) (eqb m 0) e (eq-eqb m 0 z))
     left false false e f = f
 
 -- a sheet that opens passes every test
-pub open-facts : (w : List ℤ) → openNo w ≡ 0 → Opens w (points w) (nodes w)
+pub open-facts : (lim : Limits) → Fair lim → (w : List ℤ) → openNo lim w ≡ 0 → Opens w (points w) (nodes w)
 unfolding openNo bodyNo nodesOk
-open-facts w e =
-    let s = split (trailerNo w) (bodyNo w (points w) (nodes w)) (eqb (trailerNo w) 0) refl e in
-    let t = trailer-facts w (s .0) in
-    let f = five (pointsOk w (points w)) (orderOk w (points w)) (nodesOk w (points w) (nodes w)) (tightOk w (points w) (nodes w)) (s .1) in
+open-facts lim fair w e =
+    let s = split (trailerNo lim w) (bodyNo lim w (points w) (nodes w)) (eqb (trailerNo lim w) 0) refl e in
+    let t = trailer-facts lim w (s .0) in
+    let f = five (pointsOk lim w (points w)) (orderOk w (points w)) (nodesOk w (points w) (nodes w)) (tightOk w (points w) (nodes w)) (s .1) in
     record {
+      lim = lim;
+      fair = fair;
       n-is = refl;
       m-is = refl;
-      n-le = t .n-le;
-      m-le = t .m-le;
+      n-le = omega (arith, t .n-le, fair .points-le);
+      m-le = omega (arith, t .m-le, fair .nodes-le);
+      long = t .size;
       pointed = f .0;
       ordered = f .1;
       table = nodes-table w (points w) (nodes w) (f .2);
       tight = f .3;
       empty = empties (points w) (nodes w) (and-left (Bool·beq (eqb (points w) 0) (eqb (nodes w) 0)) (tableOk w (points w) (nodes w)) (f .2));
     }
+
+-- its numbers are within the limits of its form
+pub open-trailer : (lim : Limits) (w : List ℤ) → openNo lim w ≡ 0 → Trailer lim w
+unfolding openNo
+open-trailer lim w e = trailer-facts lim w (split (trailerNo lim w) (bodyNo lim w (points w) (nodes w)) (eqb (trailerNo lim w) 0) refl e .0)
+
+pub form1-fair : Fair form1
+unfolding form1
+form1-fair = record { points-le = omega arith; nodes-le = omega arith; coordinate-from = record { le = tt }; coordinate-to = record { le = tt } }

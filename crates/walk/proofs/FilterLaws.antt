@@ -21,11 +21,10 @@ use Rattle.sheet.specs.Order.{orderOf, rankOf, orderOk}
 use Rattle.sheet.specs.Nodes.{levelOf, tableOk}
 use Rattle.sheet.specs.Boxes.{Below, tightOk, treeSize}
 use Rattle.sheet.specs.Places.{spotOf, boxOf}
-use Rattle.sheet.specs.Open.{openNo}
+use Rattle.sheet.specs.Open.{Opens}
 use Rattle.sheet.proofs.OrderLaws.{order-below, rank-below, order-rank}
 use Rattle.sheet.proofs.TreeLaws.{leaf}
 use Rattle.sheet.proofs.PlaceLaws.{in-box}
-use Rattle.sheet.proofs.SheetLaws.{open-facts}
 use Rattle.bits.specs.declared.Kept.{Kept}
 use Rattle.bits.specs.Set.{at, kept, with, keep, none, some, card}
 use Rattle.bits.proofs.KeptLaws.{with-length, kept-same, kept-more, kept-only, not-kept-at, some-one, none-kept, none-length, card-first}
@@ -149,12 +148,11 @@ filter-node-opened w n q = walk-opened (λ (k : Kept). k .opened) w n (filterVis
 
 -- ---- the sheet
 
-module _ (w : List ℤ) (opens : openNo w ≡ 0) (q : Spot) where
+module _ (w : List ℤ) (o : Opens w (points w) (nodes w)) (few : points w ≤ 1000) (q : Spot) where
   whole : Does (Right (points w)) Grows (Met w (points w) q) none (filterKept w q) (λ r. r < points w)
   unfolding filterKept
   whole =
-      let o = open-facts w opens in
-      filter-does w (points w) (nodes w) q (o .n-le) (o .ordered) (o .table) (o .tight) (o .empty) none (record { sixteen = none-length; low = λ i e. clash e (none-kept i) })
+      filter-does w (points w) (nodes w) q few (o .ordered) (o .table) (o .tight) (o .empty) none (record { sixteen = none-length; low = λ i e. clash e (none-kept i) })
 
   -- every kept position is below n
   pub kept-below : (i : ℕ) → kept (filterWalk w q .bits) i ≡ true → i < points w
@@ -178,13 +176,12 @@ module _ (w : List ℤ) (opens : openNo w ≡ 0) (q : Spot) where
   count-set = refl
 
   pub count-kept : filterWalk w q .count ≡ card (filterWalk w q .bits) (points w) 0
-  count-kept = count-set ∙ card-first (filterWalk w q .bits) (points w) (omega (arith, open-facts w opens .n-le)) kept-below
+  count-kept = count-set ∙ card-first (filterWalk w q .bits) (points w) (omega arith) kept-below
 
   -- A position that is not kept is dropped by another that is kept, and that one blocks its pair with q.
   pub kept-partner : (i : ℕ) → i < points w → kept (filterWalk w q .bits) i ≡ false → Dropper w (points w) q (filterWalk w q .bits) i
   unfolding filterWalk
   kept-partner i h e =
-      let o = open-facts w opens in
       let r = rankOf w (points w) i in
       let m : Met w (points w) q (filterKept w q) r = whole .done r (rank-below w (points w) (o .ordered) i h) in
       let s : Settled w (points w) q (filterKept w q) i = subst (λ (x : ℕ). Settled w (points w) q (filterKept w q) x) (order-rank w (points w) (o .ordered) i h) m in
@@ -202,6 +199,5 @@ module _ (w : List ℤ) (opens : openNo w ≡ 0) (q : Spot) where
   pub filter-opened : filterWalk w q .opened ≤ nodes w
   unfolding filterWalk filterKept none
   filter-opened =
-      let o = open-facts w opens in
       let x = all-opened (λ (k : Kept). k .opened) w (points w) (filterVisit w (points w) q) (filterTake w (points w) q) (take-opened w (points w) q) (visit-opened w (points w) q) (nodes w) (o .table) none in
       omega arith

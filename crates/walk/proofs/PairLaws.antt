@@ -22,7 +22,7 @@ use Rattle.plane.specs.declared.Spot.{Spot}
 use Rattle.plane.specs.Rule.{blocks}
 use Rattle.sheet.specs.Layout.{points, nodes}
 use Rattle.sheet.specs.Places.{spotOf}
-use Rattle.sheet.specs.Open.{openNo}
+use Rattle.sheet.specs.Open.{Opens}
 use Rattle.bits.specs.Set.{kept}
 use Rattle.walk.specs.declared.Blocker.{Blocker}
 use Rattle.walk.specs.declared.Hit.{Hit}
@@ -54,7 +54,7 @@ unfolding free
 says-free w a b end f = all-make _ (points w) (λ i h. either (eqb i end) (blocks a b (spotOf w i)) (λ e. f i h (λ z. clash (eq-eqb i end z) e)))
 
 -- a ring walk of a sheet is clear exactly if the sheet is free of blockers
-pub walk-free : (set : ℕ) (w : List ℤ) → openNo w ≡ 0 → (a b : Spot) (end : ℕ) → (spotOf w end ≡ a) ⊎ (spotOf w end ≡ b) → clear (ringWalk set w a b end .hit) ≡ free (points w) (spotOf w) a b end
+pub walk-free : (set : ℕ) (w : List ℤ) → Opens w (points w) (nodes w) → (a b : Spot) (end : ℕ) → (spotOf w end ≡ a) ⊎ (spotOf w end ≡ b) → clear (ringWalk set w a b end .hit) ≡ free (points w) (spotOf w) a b end
 walk-free set w o a b end at-end =
     let c = clear-iff set w o a b end at-end in
     test-iff _ _ (λ e. says-free w a b end (c .0 e)) (λ e. c .1 (free-says w a b end e))
@@ -74,7 +74,7 @@ module _ (P Q : List ℤ) (i j : ℕ) where
       go true e = ap (ringOn 0 P (spotOf Q j) (spotOf P i) i) (only-clear x e) ∙ on-adds 0 P (spotOf Q j) (spotOf P i) i (x .opened)
       go false e = on-stops 0 P (spotOf Q j) (spotOf P i) i x e
 
-  module _ (p-opens : openNo P ≡ 0) (q-opens : openNo Q ≡ 0) where
+  module _ (p-opens : Opens P (points P) (nodes P)) (q-opens : Opens Q (points Q) (nodes Q)) where
     -- The pair walk is clear exactly for a ring pair.
     pub pair-clear : clear (pairWalk P Q i j .hit) ≡ ringOf P Q i j
     unfolding ringPair
@@ -112,15 +112,15 @@ module _ (P Q : List ℤ) (i j : ℕ) where
         go false h = inl (side-blocks 1 Q q-opens (spotOf Q j) (spotOf P i) j (inl refl) s v h)
 
   -- q's filter walk over P keeps each ring partner of q.
-  pub ring-partner-kept : openNo P ≡ 0 → i < points P → ringOf P Q i j ≡ true → kept (filterWalk P (spotOf Q j) .bits) i ≡ true
+  pub ring-partner-kept : Opens P (points P) (nodes P) → points P ≤ 1000 → i < points P → ringOf P Q i j ≡ true → kept (filterWalk P (spotOf Q j) .bits) i ≡ true
   unfolding ringPair
-  ring-partner-kept o h e =
-      partner-kept P o (spotOf Q j) i h
+  ring-partner-kept o few h e =
+      partner-kept P o few (spotOf Q j) i h
       (free-says P (spotOf Q j) (spotOf P i) i (and-right (free (points Q) (spotOf Q) (spotOf Q j) (spotOf P i) j) (free (points P) (spotOf P) (spotOf Q j) (spotOf P i) i) e))
 
   -- So the ring partners of q are exactly the kept positions whose ring walk is clear: what a page maker may rely on.
-  pub pair-exact : openNo P ≡ 0 → openNo Q ≡ 0 → i < points P → ringOf P Q i j ≡ (kept (filterWalk P (spotOf Q j) .bits) i && clear (pairWalk P Q i j .hit))
-  pair-exact o o′ h =
+  pub pair-exact : Opens P (points P) (nodes P) → Opens Q (points Q) (nodes Q) → points P ≤ 1000 → i < points P → ringOf P Q i j ≡ (kept (filterWalk P (spotOf Q j) .bits) i && clear (pairWalk P Q i j .hit))
+  pair-exact o o′ few h =
       test-iff _ _
-      (λ e. and-both (kept (filterWalk P (spotOf Q j) .bits) i) (clear (pairWalk P Q i j .hit)) (ring-partner-kept o h e) (pair-clear o o′ ∙ e))
+      (λ e. and-both (kept (filterWalk P (spotOf Q j) .bits) i) (clear (pairWalk P Q i j .hit)) (ring-partner-kept o few h e) (pair-clear o o′ ∙ e))
       (λ e. sym (pair-clear o o′) ∙ and-right (kept (filterWalk P (spotOf Q j) .bits) i) (clear (pairWalk P Q i j .hit)) e)

@@ -23,10 +23,9 @@ use Rattle.sheet.specs.Order.{orderOf, rankOf, orderOk}
 use Rattle.sheet.specs.Nodes.{levelOf, tableOk}
 use Rattle.sheet.specs.Boxes.{Below, tightOk, treeSize}
 use Rattle.sheet.specs.Places.{spotOf, boxOf}
-use Rattle.sheet.specs.Open.{openNo}
+use Rattle.sheet.specs.Open.{Opens}
 use Rattle.sheet.proofs.OrderLaws.{order-below, rank-below, order-rank}
 use Rattle.sheet.proofs.PlaceLaws.{in-box, touching, touching-below, on-sides, below-place}
-use Rattle.sheet.proofs.SheetLaws.{open-facts}
 use Rattle.walk.specs.declared.Blocker.{Blocker}
 use Rattle.walk.specs.declared.Hit.{Hit}
 use Rattle.walk.specs.declared.Hit.the-variants.{Clear, Point, Side}
@@ -248,11 +247,10 @@ on-adds set w a b end c =
 
 -- ---- the sheet
 
-module _ (set : ℕ) (w : List ℤ) (opens : openNo w ≡ 0) (a b : Spot) (end : ℕ) (at-end : (spotOf w end ≡ a) ⊎ (spotOf w end ≡ b)) where
+module _ (set : ℕ) (w : List ℤ) (o : Opens w (points w) (nodes w)) (a b : Spot) (end : ℕ) (at-end : (spotOf w end ≡ a) ⊎ (spotOf w end ≡ b)) where
   whole : Does (True set w (points w) (nodes w) a b end) Since (Passed w (points w) a b end) (clearAt 0) (ringWalk set w a b end) (λ r. r < points w)
   unfolding ringWalk ringOn
   whole =
-      let o = open-facts w opens in
       ring-does set w (points w) (nodes w) a b end (o .ordered) (o .table) (o .tight) at-end (o .empty) (clearAt 0) (record { so = tt })
 
   -- A point answer names a position that is not the end, and blocks.
@@ -266,7 +264,6 @@ module _ (set : ℕ) (w : List ℤ) (opens : openNo w ≡ 0) (a b : Spot) (end :
   -- Where the walk is clear, no position but the end blocks.
   clear-free : clear (ringWalk set w a b end .hit) ≡ true → Free w (points w) a b end
   clear-free c i h ne =
-      let o = open-facts w opens in
       let r = rankOf w (points w) i in
       let e = order-rank w (points w) (o .ordered) i h in
       let p = whole .done r (rank-below w (points w) (o .ordered) i h) in
@@ -295,5 +292,5 @@ opened-by set w n m a b end e f ok =
     let x = all-opened (λ (s : Answer). s .opened) w (points w) (ringVisit set w (points w) a b) (ringTake set w (points w) a b end) (take-opened set w (points w) a b end) (visit-opened set w (points w) a b) (nodes w) t (clearAt 0) in
     omega arith
 
-pub ring-opened : (set : ℕ) (w : List ℤ) → openNo w ≡ 0 → (a b : Spot) (end : ℕ) → ringWalk set w a b end .opened ≤ nodes w
-ring-opened set w opens a b end = opened-by set w (points w) (nodes w) a b end refl refl (open-facts w opens .table)
+pub ring-opened : (set : ℕ) (w : List ℤ) → Opens w (points w) (nodes w) → (a b : Spot) (end : ℕ) → ringWalk set w a b end .opened ≤ nodes w
+ring-opened set w o a b end = opened-by set w (points w) (nodes w) a b end refl refl (o .table)

@@ -1,2 +1,4 @@
 pub mod Signs
 pub mod AllLaws
+pub mod TabLaws
+pub mod RangeLaws

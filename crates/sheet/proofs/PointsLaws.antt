@@ -1,0 +1,69 @@
+-- Laws of the list of a sheet's points.
+-- Assumes nothing.
+use mathlib.Core.Path.{_≡_, refl, sym, ap, subst, _∙_}
+use mathlib.Core.Bool.{Bool, true, false, cond, _&&_}
+use mathlib.Core.List.{List}
+use Prim.Native.Nat.{ℕ, suc, _+_, _-_, _<_, _≤_}
+use native.Mathlib.Omega.{arith}
+use lib.Dec.{eqb}
+use lib.IntN.{ℤ, pos, negsuc}
+use lib.ListN.{length}
+use lib.Signed.{ltZ}
+use borrow.Author.Tests.{ltb-true, ne-eqb}
+use Rattle.integers.specs.Bools.{and-left, and-right}
+use Rattle.plane.specs.Point.{Point, pointAt}
+use Rattle.words.specs.Word.{num, before}
+use Rattle.words.specs.Range.{idWord, coordWord, idOk}
+use Rattle.words.proofs.AllLaws.{all-at}
+use Rattle.words.proofs.TabLaws.{length-tab, at-tab}
+use Rattle.words.proofs.RangeLaws.{id-num, id-is, id-bounds}
+use Rattle.sheet.specs.Layout.{points}
+use Rattle.sheet.specs.Points.{idAt, xAt, yAt, fieldsOk, risesOk, pointOk, pointsOk}
+use Rattle.sheet.specs.Places.{pointOf, pointsOf}
+use Rattle.sheet.specs.Open.{Opens}
+
+pub length-points : (w : List ℤ) → length (pointsOf w) ≡ points w
+unfolding pointsOf
+length-points w = length-tab (points w) (pointOf w)
+
+-- the record at a position
+pub point-at : (w : List ℤ) (i : ℕ) → i < points w → pointAt (pointsOf w) i ≡ pointOf w i
+unfolding pointsOf
+point-at w i h = at-tab (points w) (pointOf w) _ i h
+
+before-num : (a b : ℤ) → a ≡ pos (num a) → b ≡ pos (num b) → before a b ≡ true → num a < num b
+unfolding before num
+before-num (pos a) (pos b) e f t = ltb-true a b t
+before-num (pos a) (negsuc b) e f t = absurd (not-pos b f)
+  where
+    not-pos : (k : ℕ) → negsuc k ≡ pos 0 → ⊥
+    not-pos k e = let z : _≡_ {A = ℕ} 0 1 = cc in omega arith
+before-num (negsuc a) b e f t = absurd (not-pos a e)
+  where
+    not-pos : (k : ℕ) → negsuc k ≡ pos 0 → ⊥
+    not-pos k e = let z : _≡_ {A = ℕ} 0 1 = cc in omega arith
+
+-- "Ids strictly ascending, 1 to 2,000,000,000"
+module _ {w : List ℤ} {n m : ℕ} (o : Opens w n m) where
+  pub id-word-at : (i : ℕ) → i < n → idWord (idAt w i) ≡ true
+  unfolding pointsOk pointOk fieldsOk
+  id-word-at i h =
+      let a = idWord (idAt w i) in
+      let b = coordWord (o .lim .coordinate) (xAt w i) in
+      let c = coordWord (o .lim .coordinate) (yAt w i) in
+      and-left a b (and-left (a && b) c (and-left (a && b && c) (risesOk w i) (all-at (pointOk (o .lim) w) n (o .pointed) i h)))
+
+  pub id-low : (i : ℕ) → i < n → 0 < num (idAt w i)
+  id-low i h = let b = id-bounds (num (idAt w i)) (id-num (idAt w i) (id-word-at i h)) in omega arith
+
+  pub id-high : (i : ℕ) → i < n → num (idAt w i) ≤ 2000000000
+  id-high i h = id-bounds (num (idAt w i)) (id-num (idAt w i) (id-word-at i h)) .1
+
+  pub id-rises : (i : ℕ) → i + 1 < n → num (idAt w i) < num (idAt w (i + 1))
+  unfolding pointsOk pointOk risesOk
+  id-rises i h =
+      let r : risesOk w (i + 1) ≡ true = and-right (fieldsOk (o .lim) w (i + 1)) (risesOk w (i + 1)) (all-at (pointOk (o .lim) w) n (o .pointed) (i + 1) h) in
+      let b : before (idAt w (i + 1 - 1)) (idAt w (i + 1)) ≡ true = rw (ne-eqb (i + 1) 0 (λ z. omega arith)) at r in
+      let e : i + 1 - 1 ≡ i = omega arith in
+      let b′ : before (idAt w i) (idAt w (i + 1)) ≡ true = subst (λ (k : ℕ). before (idAt w k) (idAt w (i + 1)) ≡ true) e b in
+      before-num (idAt w i) (idAt w (i + 1)) (id-is _ (id-word-at i (omega arith))) (id-is _ (id-word-at (i + 1) h)) b′

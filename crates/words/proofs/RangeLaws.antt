@@ -1,0 +1,151 @@
+-- Laws of the ranges: what a test of a word says of the number, and what the functions that test need.
+-- Assumes nothing.
+use mathlib.Core.Path.{_≡_, refl, sym, ap, subst, _∙_}
+use mathlib.Core.Bool.{Bool, true, false, not, _&&_, true≢false}
+use Prim.Native.Nat.{ℕ, zero, suc, _+_, _≤_, _<_}
+use native.Mathlib.Omega.{arith}
+use lib.Dec.{T, leb, ltb}
+use lib.IntN.{ℤ, pos, negsuc, negℤ, natAbs, _+ℤ_}
+use lib.Signed.{leZ, ltZ, nonNeg, mag, _≤ℤ_}
+use mir.Syntax.{w32}
+use mir.Val.{Fits, SFits}
+use borrow.Author.Tests.{leb-true, le-leb, ltb-true}
+use Rattle.integers.specs.Bools.{and-left, and-right, and-both, test-iff}
+use Rattle.integers.specs.Order.{zl, pp, nn, sum, pp-neg, nn-neg, Within, in-between}
+use Rattle.words.specs.Word.{within, num}
+use Rattle.words.specs.Range.{lastId, lastEdition, idWord, editionWord, coordWord, idOk, editionOk}
+
+-- ---- a word and its number
+
+pub id-num : (z : ℤ) → idWord z ≡ true → idOk (num z) ≡ true
+unfolding idWord idOk within num
+id-num (pos k) e = e
+id-num (negsuc k) e = e
+
+pub id-pos : (k : ℕ) → idWord (pos k) ≡ idOk k
+unfolding idWord idOk within
+id-pos k = refl
+
+pub edition-num : (z : ℤ) → editionWord z ≡ true → editionOk (num z) ≡ true
+unfolding editionWord editionOk within num
+edition-num (pos k) e = e
+edition-num (negsuc k) e = e
+
+pub edition-pos : (k : ℕ) → editionWord (pos k) ≡ editionOk k
+unfolding editionWord editionOk within
+edition-pos k = refl
+
+-- a word that is an id, or an edition, is its number
+pub id-is : (z : ℤ) → idWord z ≡ true → z ≡ pos (num z)
+unfolding idWord within num
+id-is (pos k) e = refl
+id-is (negsuc k) e = absurd (true≢false (sym e))
+
+pub edition-is : (z : ℤ) → editionWord z ≡ true → z ≡ pos (num z)
+unfolding editionWord within num
+edition-is (pos k) e = refl
+edition-is (negsuc k) e = absurd (true≢false (sym e))
+
+-- ---- what the tests say
+
+pub id-bounds : (k : ℕ) → idOk k ≡ true → (1 ≤ k) × (k ≤ 2000000000)
+unfolding idOk
+id-bounds k e = (leb-true 1 k (and-left (leb 1 k) (leb k lastId) e), leb-true k lastId (and-right (leb 1 k) (leb k lastId) e))
+
+pub id-make : (k : ℕ) → 1 ≤ k → k ≤ 2000000000 → idOk k ≡ true
+unfolding idOk
+id-make k h l = and-both (leb 1 k) (leb k lastId) (le-leb 1 k h) (le-leb k lastId l)
+
+pub edition-bounds : (k : ℕ) → editionOk k ≡ true → (1 ≤ k) × (k ≤ 1000000000)
+unfolding editionOk
+edition-bounds k e = (leb-true 1 k (and-left (leb 1 k) (leb k lastEdition) e), leb-true k lastEdition (and-right (leb 1 k) (leb k lastEdition) e))
+
+pub edition-make : (k : ℕ) → 1 ≤ k → k ≤ 1000000000 → editionOk k ≡ true
+unfolding editionOk
+edition-make k h l = and-both (leb 1 k) (leb k lastEdition) (le-leb 1 k h) (le-leb k lastEdition l)
+
+-- a coordinate of a form is within any bound of its limit
+pub coord-in : (c z : ℤ) (n : ℕ) → c ≤ℤ pos n → coordWord c z ≡ true → Within n z
+unfolding coordWord within
+coord-in c z n h e = in-between (low (and-left (leZ (negℤ c) z) (leZ z c) e)) (high (and-right (leZ (negℤ c) z) (leZ z c) e))
+  where
+    low : leZ (negℤ c) z ≡ true → negℤ (pos n) ≤ℤ z
+    low t = omega (zl, pp-neg c, nn-neg c, pp-neg (pos n), nn-neg (pos n))
+
+    high : leZ z c ≡ true → z ≤ℤ pos n
+    high t = omega zl
+
+-- ---- the functions
+
+pub id-neg : (x y : ℤ) → y ≡ x → ltZ y (pos 0) ≡ true → false ≡ idWord x
+unfolding idWord within
+id-neg (pos n) y e t = let t′ : ltb n 0 ≡ true = rw e at t in let h = ltb-true n 0 t′ in absurd (omega arith)
+id-neg (negsuc n) y e t = refl
+
+pub id-abs : (x y : ℤ) → y ≡ x → ltZ y (pos 0) ≡ false → idOk (natAbs y) ≡ idWord x
+unfolding idWord idOk within
+id-abs (pos n) y e t = rw e
+id-abs (negsuc n) y e t = let t′ : true ≡ false = rw e at t in absurd (true≢false t′)
+
+pub edition-neg : (x y : ℤ) → y ≡ x → ltZ y (pos 0) ≡ true → false ≡ editionWord x
+unfolding editionWord within
+edition-neg (pos n) y e t = let t′ : ltb n 0 ≡ true = rw e at t in let h = ltb-true n 0 t′ in absurd (omega arith)
+edition-neg (negsuc n) y e t = refl
+
+pub edition-abs : (x y : ℤ) → y ≡ x → ltZ y (pos 0) ≡ false → editionOk (natAbs y) ≡ editionWord x
+unfolding editionWord editionOk within
+edition-abs (pos n) y e t = rw e
+edition-abs (negsuc n) y e t = let t′ : true ≡ false = rw e at t in absurd (true≢false t′)
+
+-- a word that is not negative may be cast to a u32
+pub cast-short : (x y : ℤ) → y ≡ x → SFits w32 x → ltZ y (pos 0) ≡ false → T (nonNeg y) × Fits w32 (natAbs y)
+cast-short (pos n) y e f t = rw e (tt, record { fits = omega (arith, f .sfits) })
+cast-short (negsuc n) y e f t = let t′ : true ≡ false = rw e at t in absurd (true≢false t′)
+
+pub upto-neg : (a y : ℤ) (k : ℕ) → y ≡ a → ltZ y (pos 0) ≡ true → false ≡ within (pos 0) (pos k) a
+unfolding within
+upto-neg (pos n) y k e t = let t′ : ltb n 0 ≡ true = rw e at t in let h = ltb-true n 0 t′ in absurd (omega arith)
+upto-neg (negsuc n) y k e t = refl
+
+pub upto-abs : (a y : ℤ) (k : ℕ) → y ≡ a → ltZ y (pos 0) ≡ false → leb (natAbs y) k ≡ within (pos 0) (pos k) a
+unfolding within
+upto-abs (pos n) y k e t = rw (e, le-leb 0 n (omega arith))
+upto-abs (negsuc n) y k e t = let t′ : true ≡ false = rw e at t in absurd (true≢false t′)
+
+-- from -c to c, by the signs of both
+pub range-none : (c x : ℤ) → ltZ c (pos 0) ≡ true → false ≡ coordWord c x
+unfolding coordWord within
+range-none c x h = test-iff _ _ (λ e. absurd (true≢false (sym e))) (λ e. absurd (no (and-left (leZ (negℤ c) x) (leZ x c) e) (and-right (leZ (negℤ c) x) (leZ x c) e)))
+  where
+    no : leZ (negℤ c) x ≡ true → leZ x c ≡ true → ⊥
+    no s t = omega (zl, pp-neg c, nn-neg c)
+
+pub range-low : (c x : ℤ) → ltZ c (pos 0) ≡ false → ltZ x (pos 0) ≡ true → leZ (pos 0) (x +ℤ c) ≡ coordWord c x
+unfolding coordWord within
+range-low c x g h = test-iff _ _ (λ e. and-both (leZ (negℤ c) x) (leZ x c) (low e) (high e)) (λ e. back (and-left (leZ (negℤ c) x) (leZ x c) e))
+  where
+    low : leZ (pos 0) (x +ℤ c) ≡ true → leZ (negℤ c) x ≡ true
+    low e = omega (zl, pp-neg c, nn-neg c, sum x c)
+
+    high : leZ (pos 0) (x +ℤ c) ≡ true → leZ x c ≡ true
+    high e = omega (zl, sum x c)
+
+    back : leZ (negℤ c) x ≡ true → leZ (pos 0) (x +ℤ c) ≡ true
+    back e = omega (zl, pp-neg c, nn-neg c, sum x c)
+
+pub range-high : (c x : ℤ) → ltZ c (pos 0) ≡ false → ltZ x (pos 0) ≡ false → leZ x c ≡ coordWord c x
+unfolding coordWord within
+range-high c x g h = test-iff _ _ (λ e. and-both (leZ (negℤ c) x) (leZ x c) low e) (λ e. and-right (leZ (negℤ c) x) (leZ x c) e)
+  where
+    low : leZ (negℤ c) x ≡ true
+    low = omega (zl, pp-neg c, nn-neg c)
+
+-- the sum of a negative word and one that is not fits
+pub range-fits : (c x : ℤ) → SFits w32 c → SFits w32 x → ltZ c (pos 0) ≡ false → ltZ x (pos 0) ≡ true → SFits w32 (x +ℤ c)
+range-fits (pos c) (pos x) f g h k = let l = ltb-true x 0 k in absurd (omega arith)
+range-fits (pos c) (negsuc x) f g h k = go (negsuc x +ℤ pos c) (sum (negsuc x) (pos c))
+  where
+    go : (z : ℤ) → pp z + suc x + 0 ≡ nn z + 0 + c → SFits w32 z
+    go (pos z) e = record { sfits = omega (arith, f .sfits) }
+    go (negsuc z) e = record { sfits = omega (arith, g .sfits) }
+range-fits (negsuc c) x f g h k = absurd (true≢false h)

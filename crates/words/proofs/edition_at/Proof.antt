@@ -1,0 +1,23 @@
+use mathlib.Core.Path.{_∙_, ap}
+use lib.IntN.{ℤ, pos}
+use Rattle.words.specs.Word.{within, eqZ}
+use Rattle.words.proofs.Signs.{handed}
+use borrow.Author.Needs.{needs}
+use Rattle.words.proofs.edition_at.Statement.{statement}
+use Rattle.words.proofs.edition_at.Tie as tie
+use Rattle.words.proofs.edition_at.Reads as reads
+use Rattle.words.proofs.edition_at.Lts as lts
+use Rattle.words.proofs.at.Reads as at-reads
+use Rattle.words.proofs.edition_word.Reads as edition-word-reads
+
+at-requires : tie.Need-at-requires
+at-requires c κs = search needs
+
+edition-word-requires : tie.Need-edition-word-requires
+edition-word-requires c κs = search needs
+
+returns : tie.Need-returns
+returns c = c .edition-word .ensures ∙ rw (handed (c .before .at .ok) (c .before .at .ensures))
+
+pub edition-at-spec : {M : Type 1} → statement M
+edition-at-spec = tie.close (tie.spec at-requires edition-word-requires returns)
