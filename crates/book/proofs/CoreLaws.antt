@@ -14,7 +14,7 @@ use borrow.Author.Tests.{lt-ltb, le-ltb, not-true, not-false}
 use Rattle.list.specs.declared.Key.{Key}
 use Rattle.list.specs.declared.Pair.{Pair}
 use Rattle.list.specs.declared.Page.{Page}
-use Rattle.list.specs.Pairs.{none, keyOf, follows, ascends}
+use Rattle.list.specs.Pairs.{none, keyOf, follows, ascends, lastOr}
 use Rattle.list.specs.Pages.{sourceNo, pagePairs}
 use Rattle.book.specs.declared.Book.{Book}
 use Rattle.book.specs.declared.Decided.{Decided}
@@ -89,6 +89,13 @@ a-slot (suc n) len e = omega arith
 past-end : (l : List Pair) → getD l (length l) none ≡ none
 past-end [] = refl
 past-end (v ∷ l) = past-end l
+
+-- the last of the first n + 1 pairs
+pub last-at : (k : Key) (l : List Pair) (n : ℕ) → n < length l → lastOr k (take (suc n) l) ≡ keyOf (getD l n none)
+unfolding lastOr
+last-at k [] n h = absurd (omega arith)
+last-at k (v ∷ l) zero h = refl
+last-at k (v ∷ l) (suc n) h = last-at (keyOf v) l n (omega arith)
 
 -- what is read there is the next key
 pub last-read : (h : ℕ) (l : List Pair) → keyOf (getD l (lastSlot h (length l)) none) ≡ lastKey h l

@@ -1,2 +1,4 @@
 pub mod TakeLaws
 pub mod CoreLaws
+pub mod Once
+pub mod Story

@@ -1,0 +1,55 @@
+-- The world of demand 3: sheets with one edition number hold the same points; pages are not altered or invented; one book, begun empty.
+use mathlib.Core.Path.{_≡_}
+use mathlib.Core.List.{List}
+use Prim.Native.Nat.{ℕ, zero, suc, _≤_, _<_}
+use lib.ListN.{length, take}
+use Rattle.plane.specs.Point.{Point, idAt}
+use Rattle.list.specs.declared.Key.{Key}
+use Rattle.list.specs.declared.Pair.{Pair}
+use Rattle.list.specs.declared.Source.{Source}
+use Rattle.list.specs.declared.Page.{Page}
+use Rattle.list.specs.Pages.{pageOf}
+use Rattle.list.specs.Rows.{Rising}
+use Rattle.list.specs.RingList.{ringList}
+use Rattle.book.specs.declared.Book.{Book}
+use Rattle.book.specs.declared.Begun.the-variants as begun
+use Rattle.book.specs.Rules.{begunFor, lastKey, taken, takenSlots}
+
+-- each edition number has one list of points for P and one for Q, their ids ascending strictly
+pub record World : Type 0 where
+  pub pumps : ℕ → List Point
+  pub chambers : ℕ → List Point
+  pub pumps-rise : (e : ℕ) → Rising (idAt (pumps e)) (length (pumps e))
+  pub chambers-rise : (e : ℕ) → Rising (idAt (chambers e)) (length (chambers e))
+
+module _ (w : World) where
+  -- the list of a page or a book
+  abbrev pub listOf : Source → List Pair
+  listOf s = ringList (w .pumps (s .«p_edition»)) (w .chambers (s .«q_edition»))
+
+  -- a page that answers some request on two sheets of this world
+  pub record Honest (g : Page) : Type 0 where
+    pub of : Source
+    pub after : Key
+    pub size : ℕ
+    pub some : 0 < size
+    pub most : size ≤ 16
+    pub is : g ≡ pageOf of (listOf of) after size
+
+  -- a book and the slots lent to it, as they can come to stand: begun; handed honest pages in any order, any of them any number of times, those
+  -- that it refuses too; lent another slice that holds the same pairs. (Asking the next key changes nothing, and a slice that is too short is
+  -- refused by 11 with nothing changed: neither is a step.)
+  pub data Reached : Book → List Pair → Type 0 where
+    began : (s : Source) (b : Book) (slots : List Pair) → begunFor s ≡ begun.Open b → Reached b slots
+    took : {b : Book} {slots : List Pair} (g : Page) → Reached b slots → Honest g → Reached (taken b slots g .book) (takenSlots b slots g)
+    lent : {b : Book} {slots : List Pair} (other : List Pair) → Reached b slots → b .held ≤ length other → take (b .held) other ≡ take (b .held) slots → Reached b other
+
+  -- the page that answers a book's own next request
+  abbrev pub ownPage : Book → List Pair → ℕ → Page
+  ownPage b slots size = pageOf (b .source) (listOf (b .source)) (lastKey (b .held) slots) size
+
+  -- a book that asks k times, for pages of these sizes, and takes each answer
+  unfoldable pub served : ℕ → (ℕ → ℕ) → Book → List Pair → Book
+  served zero sizes b slots = b
+  served (suc k) sizes b slots =
+      served k (λ i. sizes (suc i)) (taken b slots (ownPage b slots (sizes 0)) .book) (takenSlots b slots (ownPage b slots (sizes 0)))
