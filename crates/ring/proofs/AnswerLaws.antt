@@ -9,11 +9,12 @@ use lib.Dec.{eqb}
 use lib.IntN.{ℤ}
 use lib.ListN.{length}
 use borrow.Author.Tests.{eq-eqb, ne-eqb, eqb-true}
-use Rattle.sheet.specs.Layout.{points, nodes, trailerNo}
-use Rattle.sheet.specs.Open.{openNo, bodyNo, Opens}
+use Rattle.sheet.specs.Layout.{points, nodes}
+use Rattle.sheet.specs.Limits.{form1}
+use Rattle.sheet.specs.Open.{Opens}
 use Rattle.sheet.specs.Points.{idAt, xAt, yAt}
-use Rattle.sheet.proofs.OpenLaws.{trailer-facts}
-use Rattle.sheet.proofs.SheetLaws.{open-facts}
+use Rattle.sheet.proofs.OpenLaws.{Trailer}
+use Rattle.sheet.proofs.SheetLaws.{open-facts, open-trailer, form1-fair}
 use Rattle.words.specs.Word.{num}
 use Rattle.ring.specs.Numbers.{sheetNo, positionNo, pointNo}
 use Rattle.ring.specs.Answers.{headOf, assetOf, pointedBy, pointed}
@@ -23,14 +24,9 @@ use Rattle.ring.specs.declared.Pointed.{Pointed}
 use Rattle.ring.specs.declared.Pointed.the-variants.{At, Refused}
 use Rattle.ring.proofs.NumberLaws.{first-stops, first-passes, position-past, position-in, nine}
 
-passed : (k b : ℕ) (t : Bool) → eqb k 0 ≡ t → cond t b k ≡ 0 → k ≡ 0
-passed k b true t e = eqb-true k 0 t
-passed k b false t e = e
-
 -- a sheet has its trailer
 pub long : (w : List ℤ) → sheetNo w ≡ 0 → 6 ≤ length w
-unfolding openNo
-long w e = trailer-facts w (passed (trailerNo w) (bodyNo w (points w) (nodes w)) (eqb (trailerNo w) 0) refl e) .long
+long w e = open-trailer form1 w e .long
 
 abbrev found : List ℤ → Head
 found w = record { number = 0; len = length w; n = points w; m = nodes w }
@@ -67,7 +63,7 @@ pub headed : (w : List ℤ) (h : Head) → h ≡ headOf w → h .number ≡ 0 �
 headed w h e z =
     let o : sheetNo w ≡ 0 = sym (head-number w h e) ∙ z in
     let f : h ≡ found w = e ∙ head-opened w o in
-    record { opens = o; len-is = ap (λ (g : Head). g .len) f; n-is = ap (λ (g : Head). g .n) f; facts = subst (λ (g : Head). Opens w (g .n) (g .m)) (sym f) (open-facts w o) }
+    record { opens = o; len-is = ap (λ (g : Head). g .len) f; n-is = ap (λ (g : Head). g .n) f; facts = subst (λ (g : Head). Opens w (g .n) (g .m)) (sym f) (open-facts form1 form1-fair w o) }
 
 -- the point reader's answers
 pub point-refused : (w : List ℤ) (i k : ℕ) → pointNo w i ≡ k → (k ≡ 0 → ⊥) → Refused k ≡ pointed w i

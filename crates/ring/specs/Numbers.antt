@@ -5,6 +5,7 @@ use Prim.Native.Nat.{ℕ}
 use lib.Dec.{eqb, ltb}
 use lib.IntN.{ℤ}
 use Rattle.sheet.specs.Layout.{points}
+use Rattle.sheet.specs.Limits.{form1}
 use Rattle.sheet.specs.Open.{openNo}
 
 -- "The first that applies, in the order listed": the number k, and where it is 0 what comes after
@@ -13,7 +14,7 @@ first k rest = cond (eqb k 0) rest k
 
 -- 1 to 8 of one sheet
 abbrev pub sheetNo : List ℤ → ℕ
-sheetNo w = openNo w
+sheetNo w = openNo form1 w
 
 -- "checks its sheets first [..]: 1 to 8 for P, then for Q"
 unfoldable pub sheetsNo : List ℤ → List ℤ → ℕ
