@@ -1,2 +1,4 @@
 pub mod NumberLaws
-pub mod AnswerLaws
+pub mod HeadLaws
+pub mod PointLaws
+pub mod RingLaws

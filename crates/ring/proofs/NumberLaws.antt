@@ -1,11 +1,8 @@
 -- The first number that applies.
 -- Assumes nothing.
-use mathlib.Core.Path.{_≡_, refl, sym, ap, _∙_}
-use mathlib.Core.Bool.{true, false}
+use mathlib.Core.Path.{_≡_}
 use mathlib.Core.List.{List}
 use Prim.Native.Nat.{ℕ, _<_, _≤_}
-use native.Mathlib.Omega.{arith}
-use lib.Dec.{eqb, ltb}
 use lib.IntN.{ℤ}
 use borrow.Author.Tests.{eq-eqb, ne-eqb, lt-ltb, le-ltb}
 use Rattle.sheet.specs.Layout.{points}
@@ -24,6 +21,3 @@ position-past w i h = rw (le-ltb i (points w) h)
 pub position-in : (w : List ℤ) (i : ℕ) → i < points w → positionNo w i ≡ 0
 unfolding positionNo
 position-in w i h = rw (lt-ltb i (points w) h)
-
-pub nine : (k : ℕ) → k ≡ 9 → k ≡ 0 → ⊥
-nine k e z = omega arith

@@ -8,16 +8,27 @@ use lib.ListN.{length}
 use Rattle.words.specs.Word.{num}
 use Rattle.sheet.specs.Layout.{points, nodes}
 use Rattle.sheet.specs.Points.{idAt, xAt, yAt}
-use Rattle.ring.specs.Numbers.{sheetNo, pointNo}
+use Rattle.ring.specs.Numbers.{sheetNo, sheetsNo, pointNo, ringNo}
+use Rattle.walk.specs.declared.Answer.{Answer}
+use Rattle.walk.specs.RingWalk.{pairWalk}
 use Rattle.ring.specs.declared.Head.{Head}
+use Rattle.ring.specs.declared.Heads.{Heads}
 use Rattle.ring.specs.declared.Asset.{Asset}
 use Rattle.ring.specs.declared.Pointed.{Pointed}
-use Rattle.ring.specs.declared.Pointed.the-variants.{At, Refused}
+use Rattle.ring.specs.declared.Walked.{Walked}
+use Rattle.ring.specs.declared.Walked.the-variants.{Done, Refused}
+use Rattle.ring.specs.declared.Pointed.the-variants.{At, Refused as NoPoint}
 
 -- of words: 0 with the length and the counts, or the number with zeros
 unfoldable pub headOf : List ℤ → Head
 headOf w =
     cond (eqb (sheetNo w) 0) (record { number = 0; len = length w; n = points w; m = nodes w }) (record { number = sheetNo w; len = 0; n = 0; m = 0 })
+
+-- of two sheets: 0 with the counts of both, or the number with zeros
+unfoldable pub headsOf : List ℤ → List ℤ → Heads
+headsOf P Q =
+    cond (eqb (sheetsNo P Q) 0) (record { number = 0; np = points P; mp = nodes P; nq = points Q; mq = nodes Q })
+    (record { number = sheetsNo P Q; np = 0; mp = 0; nq = 0; mq = 0 })
 
 -- the record at a position
 unfoldable pub assetOf : List ℤ → ℕ → Asset
@@ -25,7 +36,15 @@ assetOf w i = record { id = num (idAt w i); x = xAt w i; y = yAt w i }
 
 -- the point reader's answer by its number: 0 is the record, any other is the refusal of that number
 unfoldable pub pointedBy : ℕ → Asset → Pointed
-pointedBy k a = cond (eqb k 0) (At a) (Refused k)
+pointedBy k a = cond (eqb k 0) (At a) (NoPoint k)
 
 unfoldable pub pointed : List ℤ → ℕ → Pointed
 pointed w i = pointedBy (pointNo w i) (assetOf w i)
+
+-- the ring walk's answer by its number: 0 is the walk's own answer, any other is the refusal of that number
+unfoldable pub walkedBy : ℕ → Answer → Walked
+walkedBy k a = cond (eqb k 0) (Done a) (Refused k)
+
+-- q is position j of Q, p is position i of P
+unfoldable pub walked : List ℤ → List ℤ → ℕ → ℕ → Walked
+walked P Q j i = walkedBy (ringNo P Q j i) (pairWalk P Q i j)

@@ -2,6 +2,9 @@
 // Each checks its sheets first, P then Q, by 1 to 8; then its positions by 9. A well-formed sheet is checked once a call.
 pub mod open;
 pub mod point;
+pub mod ringwalk;
+
+use walk::Answer;
 
 // What a check of words finds: 0, how many words the sheet covers, its points and its nodes; or the number of refusal and zeros.
 #[repr(C)]
@@ -10,6 +13,15 @@ pub struct Head {
     pub len: usize,
     pub n: usize,
     pub m: usize,
+}
+
+// What a check of two sheets finds, P first: 0 and the counts of both, or the number of refusal and zeros.
+pub struct Heads {
+    pub number: u32,
+    pub np: usize,
+    pub mp: usize,
+    pub nq: usize,
+    pub mq: usize,
 }
 
 // A record of a sheet, a pump house or a chamber: its id and where it stands.
@@ -23,5 +35,11 @@ pub struct Asset {
 // What the point reader answers: the record, or the number of refusal.
 pub enum Pointed {
     At(Asset),
+    Refused(u32),
+}
+
+// What the ring walk answers: clear or what it hit first with the nodes opened, or the number of refusal.
+pub enum Walked {
+    Done(Answer),
     Refused(u32),
 }

@@ -1,8 +1,9 @@
 // Opening a sheet.
 use crate::Head;
+use crate::Heads;
 ghost use mathlib.Core.Path.{_≡_};
 ghost use Rattle.ring.specs.Numbers.{sheetNo};
-ghost use Rattle.ring.specs.Answers.{headOf};
+ghost use Rattle.ring.specs.Answers.{headOf, headsOf};
 
 // The number of the first refusal that applies to the words, 0 where they are a sheet.
 pub fn open_no(words: &[i32]) -> u32
@@ -30,5 +31,38 @@ pub fn head_of(words: &[i32]) -> Head
         len: len,
         n: words::num_at(words, len - 4),
         m: words::num_at(words, len - 3),
+    }
+}
+
+// Both sheets of a call, P checked first, then Q, each once.
+pub(crate) fn heads_of(p: &[i32], q: &[i32]) -> Heads
+    ensures { λ r. ⌜ r ≡ headsOf (now (p .entry)) (now (q .entry)) ⌝ }
+{
+    let a = head_of(p);
+    if a.number != 0 {
+        return Heads {
+            number: a.number,
+            np: 0,
+            mp: 0,
+            nq: 0,
+            mq: 0,
+        };
+    }
+    let b = head_of(q);
+    if b.number != 0 {
+        return Heads {
+            number: b.number,
+            np: 0,
+            mp: 0,
+            nq: 0,
+            mq: 0,
+        };
+    }
+    Heads {
+        number: 0,
+        np: a.n,
+        mp: a.m,
+        nq: b.n,
+        mq: b.m,
     }
 }

@@ -1,7 +1,7 @@
-use mathlib.Core.Path.{refl, sym, _∙_}
+use mathlib.Core.Path.{sym, _∙_}
 use native.Mathlib.Omega.{arith}
 use lib.ListN.{length}
-use Rattle.ring.proofs.AnswerLaws.{long, head-opened, head-shut}
+use Rattle.ring.proofs.HeadLaws.{long, head-found, head-shut}
 use borrow.Author.Needs.{needs}
 use Rattle.ring.proofs.open.head_of.Statement.{statement}
 use Rattle.ring.proofs.open.head_of.Tie as tie
@@ -14,7 +14,7 @@ open-no-requires : tie.Need-open-no-requires
 open-no-requires c κs = search needs
 
 returns : tie.Need-returns
-returns c = rw (head-shut _ (λ z. c .if1 .taken (c .before .open-no .ensures ∙ z))) (λ t. record { number = c .before .open-no .ensures t; len = 0; n = 0; m = 0 })
+returns c = head-shut _ _ (sym (c .before .open-no .ensures)) (c .if1 .taken)
 
 sub-num-at : tie.Need-sub-num-at
 sub-num-at c = omega (arith, long _ (sym (c .before .open-no .ensures) ∙ c .if1 .left))
@@ -30,8 +30,10 @@ num-at-requires-2 c κs = search needs
 
 returns-2 : tie.Need-returns-2
 returns-2 c =
-    let z = sym (c .before .before .before .open-no .ensures) ∙ c .before .before .if1 .left in
-    rw (head-opened _ z) (λ t. record { number = 0; len = length (c .before .before .before .before .args .words .now); n = c .before .num-at .ensures .0 t; m = c .num-at2 .ensures .0 t })
+    let e = c .before .before in
+    let m = c .before .num-at .ensures .0 in
+    let k = c .num-at2 .ensures .0 in
+    (λ t. record { number = 0; len = length (e .before .before .args .words .now); n = m t; m = k t }) ∙ head-found _ (sym (e .before .open-no .ensures) ∙ e .if1 .left)
 
 pub head-of-spec : {M : Type 1} → statement M
 head-of-spec =

@@ -1,5 +1,5 @@
 use Rattle.integers.specs.Cast.{result32-is}
-use Rattle.ring.proofs.AnswerLaws.{asset-read}
+use Rattle.ring.proofs.PointLaws.{asset-read}
 use borrow.Author.Needs.{needs}
 use Rattle.ring.proofs.point.asset_at.Statement.{statement}
 use Rattle.ring.proofs.point.asset_at.Tie as tie

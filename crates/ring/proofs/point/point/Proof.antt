@@ -1,5 +1,6 @@
+use Rattle.ring.proofs.HeadLaws.{headed}
 use native.Mathlib.Omega.{arith}
-use Rattle.ring.proofs.AnswerLaws.{headed, point-sheet, point-past, point-read}
+use Rattle.ring.proofs.PointLaws.{point-sheet, point-past, point-read}
 use borrow.Author.Needs.{needs}
 use Rattle.ring.proofs.point.point.Statement.{statement}
 use Rattle.ring.proofs.point.point.Tie as tie
@@ -26,7 +27,7 @@ asset-at-requires c κs = let a = c .before .before .before .before in let h = h
 
 -- src/point.rt:21:1
 returns-3 : tie.Need-returns-3
-returns-3 c = let e = c .before in let a = e .before .before .before .before in point-read _ _ _ _ (a .head-of .ensures) (e .before .before .if1 .left) (e .if2 .left) (c .asset-at .ensures)
+returns-3 c = let e = c .before in let a = e .before .before .before .before in point-read _ _ _ (a .head-of .ensures) _ (e .before .before .if1 .left) (e .if2 .left) (c .asset-at .ensures)
 
 pub point-spec : {M : Type 1} → statement M
 point-spec = tie.close (tie.spec head-of-requires returns returns-2 asset-at-requires returns-3)

@@ -1,0 +1,51 @@
+-- The point reader's answers.
+-- Assumes nothing.
+use mathlib.Core.Path.{_≡_, sym, _∙_}
+use mathlib.Core.List.{List}
+use Prim.Native.Nat.{ℕ, _<_, _≤_}
+use native.Mathlib.Omega.{arith}
+use lib.IntN.{ℤ}
+use borrow.Author.Tests.{eq-eqb, ne-eqb}
+use Rattle.words.specs.Word.{num}
+use Rattle.sheet.specs.Points.{idAt, xAt, yAt}
+use Rattle.ring.specs.Numbers.{sheetNo, positionNo, pointNo}
+use Rattle.ring.specs.Answers.{headOf, assetOf, pointedBy, pointed}
+use Rattle.ring.specs.declared.Head.{Head}
+use Rattle.ring.specs.declared.Asset.{Asset}
+use Rattle.ring.specs.declared.Pointed.{Pointed}
+use Rattle.ring.specs.declared.Pointed.the-variants.{At, Refused}
+use Rattle.ring.proofs.NumberLaws.{first-stops, first-passes, position-past, position-in}
+use Rattle.ring.proofs.HeadLaws.{head-number, headed}
+
+pub point-refused : (w : List ℤ) (i k : ℕ) → pointNo w i ≡ k → (k ≡ 0 → ⊥) → Refused k ≡ pointed w i
+unfolding pointed pointedBy
+point-refused w i k e ne = rw (e, ne-eqb k 0 ne)
+
+pub point-given : (w : List ℤ) (i : ℕ) (a : Asset) → pointNo w i ≡ 0 → a ≡ assetOf w i → At a ≡ pointed w i
+unfolding pointed pointedBy
+point-given w i a e f = rw (eq-eqb (pointNo w i) 0 e, f)
+
+-- from what the check found
+module _ (w : List ℤ) (i : ℕ) (h : Head) (e : h ≡ headOf w) where
+  pub point-sheet : (h .number ≡ 0 → ⊥) → Refused (h .number) ≡ pointed w i
+  unfolding pointNo
+  point-sheet ne =
+      let n : h .number ≡ sheetNo w = head-number w h e in
+      point-refused w i (h .number) (first-stops (sheetNo w) (positionNo w i) (λ z. ne (n ∙ z)) ∙ sym n) ne
+
+  pub point-past : h .number ≡ 0 → h .n ≤ i → Refused 9 ≡ pointed w i
+  unfolding pointNo
+  point-past z past =
+      let o = headed w h e z in
+      point-refused w i 9 (first-passes (sheetNo w) (positionNo w i) (o .opens) ∙ position-past w i (omega (arith, o .n-is))) (λ y. omega arith)
+
+  pub point-read : (a : Asset) → h .number ≡ 0 → i < h .n → a ≡ assetOf w i → At a ≡ pointed w i
+  unfolding pointNo
+  point-read a z within is =
+      let o = headed w h e z in
+      point-given w i a (first-passes (sheetNo w) (positionNo w i) (o .opens) ∙ position-in w i (omega (arith, o .n-is))) is
+
+-- the record of a position, from its three words as they are read
+pub asset-read : (w : List ℤ) (i k : ℕ) (x y : ℤ) → k ≡ num (idAt w i) → x ≡ xAt w i → y ≡ yAt w i → record { id = k; x = x; y = y } ≡ assetOf w i
+unfolding assetOf
+asset-read w i k x y d e f = λ t. record { id = d t; x = e t; y = f t }

@@ -1,0 +1,22 @@
+// The ring walk.
+use crate::Walked;
+ghost use mathlib.Core.Path.{_≡_};
+ghost use Rattle.ring.specs.Answers.{walked};
+
+// The ring walk for position j of Q and position i of P: over Q, then over P if Q is clear.
+// Refused by 1 to 8 of P, then of Q, then by 9 where a position is not below its sheet's n.
+pub fn ring_walk(p: &[i32], q: &[i32], j: usize, i: usize) -> Walked
+    ensures { λ r. ⌜ r ≡ walked (now (p .entry)) (now (q .entry)) j i ⌝ }
+{
+    let h = crate::open::heads_of(p, q);
+    if h.number != 0 {
+        return Walked::Refused(h.number);
+    }
+    if h.nq <= j {
+        return Walked::Refused(9);
+    }
+    if h.np <= i {
+        return Walked::Refused(9);
+    }
+    Walked::Done(walk::ring::pair_walk(p, h.np, h.mp, q, h.nq, h.mq, i, j))
+}
