@@ -20,7 +20,7 @@ pub ring-refused : (P Q : List ℤ) (j i k : ℕ) → ringNo P Q j i ≡ k → (
 unfolding walked walkedBy
 ring-refused P Q j i k e ne = rw (e, ne-eqb k 0 ne)
 
-pub ring-given : (P Q : List ℤ) (j i : ℕ) (a : Answer) → ringNo P Q j i ≡ 0 → a ≡ pairWalk P Q i j → Done a ≡ walked P Q j i
+pub ring-given : (P Q : List ℤ) (j i : ℕ) (a : Answer) → ringNo P Q j i ≡ 0 → a ≡ pairWalk P Q j i → Done a ≡ walked P Q j i
 unfolding walked walkedBy
 ring-given P Q j i a e f = rw (eq-eqb (ringNo P Q j i) 0 e, f)
 
@@ -46,7 +46,7 @@ module _ (P Q : List ℤ) (j i : ℕ) (h : Heads) (e : h ≡ headsOf P Q) where
         let o = headed-both P Q h e z in
         ring-refused P Q j i 9 (after ∙ first-passes (positionNo Q j) (positionNo P i) (position-in Q j (omega (arith, o .nq-is))) ∙ position-past P i (omega (arith, o .np-is))) (λ y. omega arith)
 
-    pub ring-walks : (a : Answer) → j < h .nq → i < h .np → a ≡ pairWalk P Q i j → Done a ≡ walked P Q j i
+    pub ring-walks : (a : Answer) → j < h .nq → i < h .np → a ≡ pairWalk P Q j i → Done a ≡ walked P Q j i
     ring-walks a within inside is =
         let o = headed-both P Q h e z in
         ring-given P Q j i a (after ∙ first-passes (positionNo Q j) (positionNo P i) (position-in Q j (omega (arith, o .nq-is))) ∙ position-in P i (omega (arith, o .np-is))) is

@@ -47,4 +47,4 @@ walkedBy k a = cond (eqb k 0) (Done a) (Refused k)
 
 -- q is position j of Q, p is position i of P
 unfoldable pub walked : List ℤ → List ℤ → ℕ → ℕ → Walked
-walked P Q j i = walkedBy (ringNo P Q j i) (pairWalk P Q i j)
+walked P Q j i = walkedBy (ringNo P Q j i) (pairWalk P Q j i)

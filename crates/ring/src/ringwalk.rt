@@ -18,5 +18,5 @@ pub fn ring_walk(p: &[i32], q: &[i32], j: usize, i: usize) -> Walked
     if h.np <= i {
         return Walked::Refused(9);
     }
-    Walked::Done(walk::ring::pair_walk(p, h.np, h.mp, q, h.nq, h.mq, i, j))
+    Walked::Done(walk::ring::pair_walk(p, h.np, h.mp, q, h.nq, h.mq, j, i))
 }

@@ -115,7 +115,7 @@ module _ (set : ℕ) (w : List ℤ) (a b : Spot) (end o : ℕ) where
 
 -- ---- two sheets
 
-module _ (P Q : List ℤ) (i j : ℕ) (a b : Spot) (ea : a ≡ spotOf Q j) (eb : b ≡ spotOf P i) (r : Answer) (er : r ≡ ringOn 1 Q a b j (clearAt 0)) where
+module _ (P Q : List ℤ) (j i : ℕ) (a b : Spot) (ea : a ≡ spotOf Q j) (eb : b ≡ spotOf P i) (r : Answer) (er : r ≡ ringOn 1 Q a b j (clearAt 0)) where
   first-is : r ≡ ringWalk 1 Q (spotOf Q j) (spotOf P i) j
   unfolding ringWalk
   first-is = er ∙ ap (λ (x : Spot). ringOn 1 Q x b j (clearAt 0)) ea ∙ ap (λ (y : Spot). ringOn 1 Q (spotOf Q j) y j (clearAt 0)) eb
@@ -127,11 +127,11 @@ module _ (P Q : List ℤ) (i j : ℕ) (a b : Spot) (ea : a ≡ spotOf Q j) (eb :
       let x : r .opened ≤ m = subst (λ (s : Answer). s .opened ≤ m) (sym first-is) t in
       omega (arith, o .m-le)
 
-  pub pair-stops : clear (r .hit) ≡ false → r ≡ pairWalk P Q i j
+  pub pair-stops : clear (r .hit) ≡ false → r ≡ pairWalk P Q j i
   unfolding pairWalk
   pair-stops c = sym (on-stops 0 P (spotOf Q j) (spotOf P i) i r c) ∙ ap (ringOn 0 P (spotOf Q j) (spotOf P i) i) first-is
 
-  pub pair-goes-on : (s : Answer) → clear (r .hit) ≡ true → s ≡ ringOn 0 P a b i (clearAt (r .opened)) → s ≡ pairWalk P Q i j
+  pub pair-goes-on : (s : Answer) → clear (r .hit) ≡ true → s ≡ ringOn 0 P a b i (clearAt (r .opened)) → s ≡ pairWalk P Q j i
   unfolding pairWalk
   pair-goes-on s c e =
       e ∙ ap (λ (x : Spot). ringOn 0 P x b i (clearAt (r .opened))) ea ∙ ap (λ (y : Spot). ringOn 0 P (spotOf Q j) y i (clearAt (r .opened))) eb

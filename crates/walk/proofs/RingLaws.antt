@@ -1,12 +1,9 @@
--- What the ring walk of one sheet means. For every sheet that opens, every pair a, b and every position `end` of the sheet that stands at a or at b:
---     `clear-iff`     the walk is clear exactly if no position but `end` blocks a, b
---     `point-blocks`     a point answer names a position other than `end` that blocks
---     `side-blocks`     a side answer names a node below which such a position stands
---     `ring-opened`     at most m nodes are opened
+-- What the ring walk of one sheet brings about: what its answer says is so, and where it is clear no position but the end blocks; and what it opens.
+-- `Meaning` has the statements for a reader.
 -- Assumes nothing.
 use mathlib.Core.Path.{_≡_, refl, sym, ap, subst, _∙_}
 use mathlib.Core.Bool.{Bool, true, false, cond, not, _&&_, false≢true}
-use mathlib.Core.Logic.{_⊎_, inl, inr, ⊎-elim, _↔_}
+use mathlib.Core.Logic.{_⊎_, inl, inr, ⊎-elim}
 use mathlib.Core.List.{List}
 use Prim.Native.Nat.{ℕ, zero, suc, _+_, _-_, _<_, _≤_}
 use native.Mathlib.Omega.{arith}
@@ -253,16 +250,12 @@ module _ (set : ℕ) (w : List ℤ) (o : Opens w (points w) (nodes w)) (a b : Sp
   whole =
       ring-does set w (points w) (nodes w) a b end (o .ordered) (o .table) (o .tight) at-end (o .empty) (clearAt 0) (record { so = tt })
 
-  -- A point answer names a position that is not the end, and blocks.
-  pub point-blocks : (x : Blocker) → ringWalk set w a b end .hit ≡ Point x → (x .set ≡ set) × Blocks w (points w) a b end (x .position)
-  point-blocks x e = subst (Truth set w (points w) (nodes w) a b end) e (whole .good .so)
-
-  -- A side answer names a node below which such a position stands.
-  pub side-blocks : (s j : ℕ) → ringWalk set w a b end .hit ≡ Side s j → (s ≡ set) × (j < nodes w) × BlocksBelow w (points w) a b end j
-  side-blocks s j e = subst (Truth set w (points w) (nodes w) a b end) e (whole .good .so)
+  -- what the answer says is so
+  pub ring-truth : Truth set w (points w) (nodes w) a b end (ringWalk set w a b end .hit)
+  ring-truth = whole .good .so
 
   -- Where the walk is clear, no position but the end blocks.
-  clear-free : clear (ringWalk set w a b end .hit) ≡ true → Free w (points w) a b end
+  pub clear-free : clear (ringWalk set w a b end .hit) ≡ true → Free w (points w) a b end
   clear-free c i h ne =
       let r = rankOf w (points w) i in
       let e = order-rank w (points w) (o .ordered) i h in
@@ -270,8 +263,8 @@ module _ (set : ℕ) (w : List ℤ) (o : Opens w (points w) (nodes w)) (a b : Sp
       subst (λ (x : ℕ). blocks a b (spotOf w x) ≡ false) e (p .passes c (λ z. ne (sym e ∙ z)))
 
   -- And where none blocks, it is clear.
-  free-clear : Free w (points w) a b end → clear (ringWalk set w a b end .hit) ≡ true
-  free-clear f = go (ringWalk set w a b end .hit) (whole .good .so)
+  pub free-clear : Free w (points w) a b end → clear (ringWalk set w a b end .hit) ≡ true
+  free-clear f = go (ringWalk set w a b end .hit) ring-truth
     where
       no : (i : ℕ) → Blocks w (points w) a b end i → false ≡ true
       no i x = clash (x .blocking) (f i (x .below) (x .other))
@@ -280,9 +273,6 @@ module _ (set : ℕ) (w : List ℤ) (o : Opens w (points w) (nodes w)) (a b : Sp
       go Clear t = refl
       go (Point x) t = no (x .position) (t .1)
       go (Side s j) t = no _ (t .2 .there)
-
-  pub clear-iff : (clear (ringWalk set w a b end .hit) ≡ true) ↔ Free w (points w) a b end
-  clear-iff = (clear-free, free-clear)
 
 -- At most m nodes are opened.
 pub opened-by : (set : ℕ) (w : List ℤ) (n m : ℕ) (a b : Spot) (end : ℕ) → points w ≡ n → nodes w ≡ m → tableOk w n m ≡ true → ringWalk set w a b end .opened ≤ m

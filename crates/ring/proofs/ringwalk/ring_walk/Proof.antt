@@ -30,7 +30,7 @@ pair-walk-requires c κs =
     let d = c .before .before in
     let e = d .before .before in
     let o = headed-both _ _ _ (e .before .before .heads-of .ensures) (e .if1 .left) in
-    (o .p-facts, o .q-facts, c .if3 .left, d .if2 .left)
+    (o .p-facts, o .q-facts, d .if2 .left, c .if3 .left)
 
 -- src/ringwalk.rt:8:1
 returns-4 : tie.Need-returns-4

@@ -1,0 +1,162 @@
+-- What the two walks mean, for every sheet that opens, in any form: `Opens w (points w) (nodes w)`, which the sheet's `open-facts` makes of `openNo lim w ≡ 0`.
+-- The ring rule is that of the lists of points, `ringPair (pointsOf P) (pointsOf Q) j i`, with no tree in it: q is position j of Q, p is position i of P.
+--
+--     filter walk for q over w, kept set on so many words as hold the points
+--         kept-partner      "For every position, a ring partner of q is kept"
+--         dropped-by        a position that is not kept is dropped by another that is
+--         unused-zero       "unused bits are 0"; kept-words: the words are as many as were lent
+--         count-kept        "the number of bits set" is the number of kept positions
+--         filter-opened-at-most-m
+--     ring walk for a, b over w
+--         clear-iff         clear exactly if no other record of the sheet blocks
+--         point-blocks      a point answer names another record, which blocks
+--         side-blocks       a side answer names a node below which another record blocks
+--         ring-opened-at-most-m
+--     ring walk for q and p over Q, then P
+--         pair-is           "Q is walked first, then P if Q is clear; the counts add up"
+--         pair-clear        clear exactly for a ring pair
+--         pair-point, pair-side      what a hit names does block
+--         pair-opened       at most the nodes of both sheets are opened
+--         pair-exact        a ring partner of q is a kept position whose ring walk is clear, and no other
+-- Assumes nothing.
+use mathlib.Core.Path.{_≡_, refl, sym, ap, subst, _∙_}
+use mathlib.Core.Bool.{Bool, true, false, cond, _&&_}
+use mathlib.Core.Logic.{_⊎_, inl, inr, ⊎-elim}
+use mathlib.Core.List.{List}
+use Prim.Native.Nat.{ℕ, _+_, _*_, _<_, _≤_}
+use native.Mathlib.Omega.{arith}
+use lib.IntN.{ℤ}
+use lib.ListN.{length}
+use Rattle.integers.specs.Bools.{and-right, and-both, decide, clash, test-iff}
+use Rattle.plane.specs.declared.Spot.{Spot}
+use Rattle.plane.specs.Rule.{drops}
+use Rattle.list.specs.RingList.{unblocked, ringPair}
+use Rattle.sheet.specs.Layout.{points, nodes}
+use Rattle.sheet.specs.Places.{spotOf, pointsOf}
+use Rattle.sheet.specs.Open.{Opens}
+use Rattle.bits.specs.Set.{at, kept, cardIn, card}
+use Rattle.bits.proofs.SetLaws.{not-kept-at}
+use Rattle.bits.proofs.CardLaws.{card-first}
+use Rattle.walk.specs.declared.Blocker.{Blocker}
+use Rattle.walk.specs.declared.Hit.{Hit}
+use Rattle.walk.specs.declared.Hit.the-variants.{Clear, Point, Side}
+use Rattle.walk.specs.declared.Answer.{Answer}
+use Rattle.walk.specs.FilterWalk.{filterKept, filterKeeps}
+use Rattle.walk.specs.RingWalk.{clear, ringWalk, pairWalk}
+use Rattle.walk.proofs.FilterLaws.{Dropper, filter-opened, kept-long, kept-below, kept-settled}
+use Rattle.walk.proofs.RingLaws.{Blocks, BlocksBelow, Truth, plus, ring-truth, ring-opened}
+use Rattle.walk.proofs.PairLaws.{unblocked-free, walk-unblocked, pair-rule, overQ, overP, pair-walks, pair-both}
+
+-- ---- the filter walk for q over w, on so many words: 64 positions a word, enough for the points
+
+module _ (words : ℕ) (w : List ℤ) (q : Spot) (opens : Opens w (points w) (nodes w)) where
+  -- "nodes opened never exceed m in one walk of one sheet"
+  pub filter-opened-at-most-m : filterKept words w q .opened ≤ nodes w
+  filter-opened-at-most-m = filter-opened words w q opens
+
+  module _ (enough : points w ≤ 64 * words) where
+    -- the words are as many as were lent
+    pub kept-words : length (filterKept words w q .bits) ≡ words
+    kept-words = kept-long words w q opens enough
+
+    -- "unused bits are 0": no position is kept that is not a point's
+    pub unused-zero : (i : ℕ) → points w ≤ i → at (filterKept words w q .bits) i ≡ 0
+    unused-zero i h =
+        not-kept-at _ i
+        (⊎-elim
+        (λ (e : filterKeeps words w q i ≡ true). absurd (omega (arith, kept-below words w q opens enough i e)))
+        (λ (e : filterKeeps words w q i ≡ false). e)
+        (decide (filterKeeps words w q i)))
+
+    -- the number of bits set is the number of kept positions of the points
+    pub count-kept : card (filterKept words w q .bits) ≡ cardIn (filterKept words w q .bits) (points w) 0
+    count-kept = card-first (filterKept words w q .bits) (points w) (omega (arith, kept-words)) (kept-below words w q opens enough)
+
+    -- A position that is not kept is dropped by another that is kept: `Dropper` names it.
+    pub dropped-by : (i : ℕ) → i < points w → filterKeeps words w q i ≡ false → Dropper w (points w) q (filterKept words w q .bits) i
+    dropped-by i h e =
+        ⊎-elim
+        (λ (t : filterKeeps words w q i ≡ true). clash t e)
+        (λ (x : Dropper w (points w) q (filterKept words w q .bits) i). x)
+        (kept-settled words w q opens enough i h)
+
+-- "For every position, a ring partner of q is kept": q is position j of Q, its partner position i of P.
+pub kept-partner : (words : ℕ) (P Q : List ℤ) → Opens P (points P) (nodes P) → points P ≤ 64 * words → (j i : ℕ) → j < points Q → i < points P
+    → ringPair (pointsOf P) (pointsOf Q) j i ≡ true → filterKeeps words P (spotOf Q j) i ≡ true
+unfolding drops
+kept-partner words P Q opens enough j i hj hi e =
+    let q = spotOf Q j in
+    let p = spotOf P i in
+    let free = unblocked-free P q p i (and-right (unblocked (pointsOf Q) q p j) (unblocked (pointsOf P) q p i) (sym (pair-rule P Q j i hj hi) ∙ e)) in
+    ⊎-elim
+    (λ (t : filterKeeps words P q i ≡ true). t)
+    (λ (x : Dropper P (points P) q (filterKept words P q .bits) i). clash (x .dropping) (free (x .by) (x .below) (x .other)))
+    (kept-settled words P q opens enough i hi)
+
+-- ---- the ring walk for the pair a, b over w; `end` is the position of the sheet that is an end of the pair
+
+module _ (set : ℕ) (w : List ℤ) (opens : Opens w (points w) (nodes w)) (a b : Spot) (end : ℕ) where
+  -- "nodes opened never exceed m in one walk of one sheet"
+  pub ring-opened-at-most-m : ringWalk set w a b end .opened ≤ nodes w
+  ring-opened-at-most-m = ring-opened set w opens a b end
+
+  module _ (at-end : (spotOf w end ≡ a) ⊎ (spotOf w end ≡ b)) where
+    -- The walk is clear exactly if no other record of the sheet blocks.
+    pub clear-iff : clear (ringWalk set w a b end .hit) ≡ unblocked (pointsOf w) a b end
+    clear-iff = walk-unblocked set w opens a b end at-end
+
+    -- A point answer names a position of the sheet that is not the end, and blocks.
+    pub point-blocks : (x : Blocker) → ringWalk set w a b end .hit ≡ Point x → (x .set ≡ set) × Blocks w (points w) a b end (x .position)
+    point-blocks x e = subst (Truth set w (points w) (nodes w) a b end) e (ring-truth set w opens a b end at-end)
+
+    -- A side answer names a node of the sheet; below it stands a position that is not the end, and blocks.
+    pub side-blocks : (s v : ℕ) → ringWalk set w a b end .hit ≡ Side s v → (s ≡ set) × (v < nodes w) × BlocksBelow w (points w) a b end v
+    side-blocks s v e = subst (Truth set w (points w) (nodes w) a b end) e (ring-truth set w opens a b end at-end)
+
+-- ---- the ring walk for q and p: over Q, then over P. Set 0 is P, 1 is Q.
+
+-- "Q is walked first, then P if Q is clear; the counts add up"
+pub pair-is : (P Q : List ℤ) (j i : ℕ) → pairWalk P Q j i ≡ cond (clear (overQ P Q j i .hit)) (plus (overQ P Q j i .opened) (overP P Q j i)) (overQ P Q j i)
+pair-is = pair-walks
+
+module _ (P Q : List ℤ) (p-opens : Opens P (points P) (nodes P)) (q-opens : Opens Q (points Q) (nodes Q)) (j i : ℕ) where
+  -- At most the nodes of both sheets are opened.
+  pub pair-opened : pairWalk P Q j i .opened ≤ nodes P + nodes Q
+  pair-opened = subst (λ (s : Answer). s .opened ≤ nodes P + nodes Q) (sym (pair-is P Q j i)) (go (clear (overQ P Q j i .hit)))
+    where
+      go : (t : Bool) → cond t (plus (overQ P Q j i .opened) (overP P Q j i)) (overQ P Q j i) .opened ≤ nodes P + nodes Q
+      go true = omega (arith, ring-opened 1 Q q-opens (spotOf Q j) (spotOf P i) j, ring-opened 0 P p-opens (spotOf Q j) (spotOf P i) i)
+      go false = omega (arith, ring-opened 1 Q q-opens (spotOf Q j) (spotOf P i) j)
+
+  -- A point answer names a record of Q other than q, or one of P other than p, that blocks;
+  pub pair-point : (x : Blocker) → pairWalk P Q j i .hit ≡ Point x → ((x .set ≡ 1) × Blocks Q (points Q) (spotOf Q j) (spotOf P i) j (x .position)) ⊎ ((x .set ≡ 0) × Blocks P (points P) (spotOf Q j) (spotOf P i) i (x .position))
+  pair-point x e = go (clear (overQ P Q j i .hit)) (sym (ap (λ (s : Answer). s .hit) (pair-is P Q j i)) ∙ e)
+    where
+      go : (t : Bool) → cond t (plus (overQ P Q j i .opened) (overP P Q j i)) (overQ P Q j i) .hit ≡ Point x → ((x .set ≡ 1) × Blocks Q (points Q) (spotOf Q j) (spotOf P i) j (x .position)) ⊎ ((x .set ≡ 0) × Blocks P (points P) (spotOf Q j) (spotOf P i) i (x .position))
+      go true h = inr (point-blocks 0 P p-opens (spotOf Q j) (spotOf P i) i (inr refl) x h)
+      go false h = inl (point-blocks 1 Q q-opens (spotOf Q j) (spotOf P i) j (inl refl) x h)
+
+  -- and a side answer a node of that sheet below which one stands.
+  pub pair-side : (s v : ℕ) → pairWalk P Q j i .hit ≡ Side s v → ((s ≡ 1) × (v < nodes Q) × BlocksBelow Q (points Q) (spotOf Q j) (spotOf P i) j v) ⊎ ((s ≡ 0) × (v < nodes P) × BlocksBelow P (points P) (spotOf Q j) (spotOf P i) i v)
+  pair-side s v e = go (clear (overQ P Q j i .hit)) (sym (ap (λ (r : Answer). r .hit) (pair-is P Q j i)) ∙ e)
+    where
+      go : (t : Bool) → cond t (plus (overQ P Q j i .opened) (overP P Q j i)) (overQ P Q j i) .hit ≡ Side s v → ((s ≡ 1) × (v < nodes Q) × BlocksBelow Q (points Q) (spotOf Q j) (spotOf P i) j v) ⊎ ((s ≡ 0) × (v < nodes P) × BlocksBelow P (points P) (spotOf Q j) (spotOf P i) i v)
+      go true h = inr (side-blocks 0 P p-opens (spotOf Q j) (spotOf P i) i (inr refl) s v h)
+      go false h = inl (side-blocks 1 Q q-opens (spotOf Q j) (spotOf P i) j (inl refl) s v h)
+
+  module _ (j-in : j < points Q) (i-in : i < points P) where
+    -- The pair walk is clear exactly for a ring pair.
+    pub pair-clear : clear (pairWalk P Q j i .hit) ≡ ringPair (pointsOf P) (pointsOf Q) j i
+    pair-clear =
+        pair-both P Q j i
+        ∙ ap (λ (t : Bool). t && clear (overP P Q j i .hit)) (clear-iff 1 Q q-opens (spotOf Q j) (spotOf P i) j (inl refl))
+        ∙ ap (λ (t : Bool). unblocked (pointsOf Q) (spotOf Q j) (spotOf P i) j && t) (clear-iff 0 P p-opens (spotOf Q j) (spotOf P i) i (inr refl))
+        ∙ sym (pair-rule P Q j i j-in i-in)
+
+    -- A ring partner of q is exactly a kept position whose ring walk is clear: what a page maker may rely on.
+    pub pair-exact : (words : ℕ) → points P ≤ 64 * words → ringPair (pointsOf P) (pointsOf Q) j i ≡ (filterKeeps words P (spotOf Q j) i && clear (pairWalk P Q j i .hit))
+    pair-exact words enough =
+        let kept = filterKeeps words P (spotOf Q j) i in
+        test-iff _ _
+        (λ e. and-both kept (clear (pairWalk P Q j i .hit)) (kept-partner words P Q p-opens enough j i j-in i-in e) (pair-clear ∙ e))
+        (λ e. sym pair-clear ∙ and-right kept (clear (pairWalk P Q j i .hit)) e)

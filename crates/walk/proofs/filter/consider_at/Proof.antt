@@ -1,0 +1,56 @@
+-- `walk::filter::consider_at` meets its contract. Assumes nothing.
+use mathlib.Core.Path.{sym, _∙_}
+use Rattle.walk.proofs.NodeLaws.{spot-fits}
+use Rattle.walk.proofs.FilterCode.{consider-yes, consider-no, dropped-is}
+use borrow.Author.Needs.{needs}
+use Rattle.walk.proofs.filter.consider_at.Statement.{statement}
+use Rattle.walk.proofs.filter.consider_at.Tie as tie
+use Rattle.walk.proofs.filter.consider_at.Reads as reads
+use Rattle.walk.proofs.filter.consider_at.Lts as lts
+use Rattle.bits.proofs.insert.Reads as insert-reads
+use Rattle.sheet.proofs.places.spot_at.Reads as spot-at-reads
+use Rattle.walk.proofs.filter.drops_spot.Reads as drops-spot-reads
+
+-- src/filter.rt:53:9
+spot-at-requires : tie.Need-spot-at-requires
+spot-at-requires c κs = search needs
+
+-- src/filter.rt:54:8
+drops-spot-requires : tie.Need-drops-spot-requires
+drops-spot-requires c κs =
+    let p = c .before .before .before .pre in
+    (p .0, p .1, spot-fits _ _ _ (p .0) _ _ (p .2) (c .before .spot-at .ensures), p .3)
+
+-- src/filter.rt:55:9
+same-length : tie.Need-same-length
+same-length c = search needs
+
+-- src/filter.rt:55:9
+returns : tie.Need-returns
+returns c = consider-yes _ _ _ _ _ (sym (dropped-is _ _ _ _ _ _ _ (c .before .before .before .spot-at .ensures) (c .before .drops-spot .ensures)) ∙ c .if1 .taken)
+
+-- src/filter.rt:57:5
+insert-requires : tie.Need-insert-requires
+insert-requires c κs = search needs
+
+-- src/filter.rt:49:1
+same-length-2 : tie.Need-same-length-2
+same-length-2 c = search needs
+
+-- src/filter.rt:49:1
+returns-2 : tie.Need-returns-2
+returns-2 c =
+    let e = c .before .before .before .before in
+    consider-no _ _ _ _ _ _ (sym (dropped-is _ _ _ _ _ _ _ (e .before .before .before .spot-at .ensures) (e .before .drops-spot .ensures)) ∙ e .if1 .left) (c .before .before .insert .ensures)
+
+pub consider-at-spec : {M : Type 1} → statement M
+consider-at-spec =
+    tie.close
+    (tie.spec
+    spot-at-requires
+    drops-spot-requires
+    same-length
+    returns
+    insert-requires
+    same-length-2
+    returns-2)
