@@ -4,8 +4,9 @@
     make_sheets.py        writes crates/try_sheets/stdin and stdout
 
 The input, in words: 1, a length and that many words, a sheet to open; or 2, n (low and high half), the numbers of point words and of order words, an
-edition, the length of the lent output, the point words and the order words, to pack; 0 ends it. A packed sheet is printed whole, and opened again; of a
-refused one the program says whether each lent word is as it was.
+edition, the length of the lent output, the point words and the order words, to pack; or 3, a length, that many words and a position, a point to read,
+where a position of -1 stands for the largest that a call can be given; 0 ends it. A packed sheet is printed whole, and opened again; of a refused one the
+program says whether each lent word is as it was.
 """
 import collections
 import itertools
@@ -13,76 +14,8 @@ import random
 
 import reading
 import trees
+from faults import BIG, SMALL, faults, node_word, put
 from stored import Cases
-
-BIG = 2 ** 31 - 1
-SMALL = -2 ** 31
-
-
-# ---------------------------------------------------------------- faults of a sheet
-
-def put(words, at, word):
-    changed = list(words)
-    changed[at] = word
-    return changed
-
-
-def node_word(words, j, field):
-    """Where a word of node j stands: field 0 to 6 is level, first, count, xmin, ymin, xmax, ymax."""
-    return 5 * words[-4] + 7 * j + field
-
-
-def faults(words):
-    """Faults of a sheet that opens, with at least four points and three nodes: number, label, and the sheet with the fault."""
-    n, m = words[-4], words[-3]
-    last = m - 1
-    out = []
-
-    def fault(number, label, at, word):
-        out.append((number, label, lambda w, at=at, word=word: put(w, at, word)))
-
-    for form in (0, 2, -1, BIG, SMALL):
-        fault(2, "form %d" % form, -1, form)
-    for count in (1001, -1, BIG, SMALL):
-        fault(3, "n %d" % count, -4, count)
-    for count in (401, -1, BIG, SMALL):
-        fault(3, "m %d" % count, -3, count)
-    for edition in (0, reading.EDITION + 1, -1, BIG, SMALL):
-        fault(3, "edition %d" % edition, -2, edition)
-    span = words[-6]
-    for wrong in (span - 1, span + 1, 0, -span, BIG):
-        fault(4, "span %d" % wrong, -6, wrong)
-    for root in (0, 6, 8, 14, -7):
-        fault(4, "root %d" % root, -5, root)
-    fault(5, "id 0", 0, 0)
-    fault(5, "id past the last", 3 * (n - 1), reading.ID + 1)
-    fault(5, "id below 0", 0, -1)
-    fault(5, "an id twice", 3, words[0])
-    fault(5, "ids fall", 3 * (n - 1), words[3 * (n - 2)] - 1)
-    for field in (1, 2):
-        for wrong in (reading.COORDINATE + 1, -reading.COORDINATE - 1):
-            fault(5, "coordinate %d" % wrong, 3 * (n - 2) + field, wrong)
-    for at, name in ((3 * n, "order"), (4 * n, "rank")):
-        for wrong in (n, -1, BIG):
-            fault(6, "%s %d" % (name, wrong), at + 1, wrong)
-        fault(6, "%s twice" % name, at, words[at + 1])
-        out.append((6, "two of the %s exchanged" % name, lambda w, at=at: put(put(w, at, w[at + 2]), at + 2, w[at])))
-    fault(7, "first node on level 1", node_word(words, 0, 0), 1)
-    fault(7, "root one level down", node_word(words, last, 0), words[node_word(words, last, 0)] - 1)
-    fault(7, "root one level up", node_word(words, last, 0), words[node_word(words, last, 0)] + 1)
-    fault(7, "level below 0", node_word(words, 1, 0), -1)
-    for count in (0, 17, -1, words[node_word(words, 1, 2)] + 1, words[node_word(words, 1, 2)] - 1):
-        fault(7, "count %d" % count, node_word(words, 1, 2), count)
-    for first in (words[node_word(words, 1, 1)] - 1, words[node_word(words, 1, 1)] + 1, -1, 0):
-        fault(7, "first %d" % first, node_word(words, 1, 1), first)
-    fault(7, "root's first", node_word(words, last, 1), words[node_word(words, last, 1)] + 1)
-    for j in (0, last):
-        for field in (3, 4, 5, 6):
-            for step in (-1, 1):
-                fault(8, "node %d side %d by %d" % (j, field - 3, step), node_word(words, j, field), words[node_word(words, j, field)] + step)
-    fault(8, "a box far too large", node_word(words, last, 3), -reading.COORDINATE)
-    return out
-
 
 # ---------------------------------------------------------------- sheets
 
@@ -120,6 +53,13 @@ class Sheets:
         self.cases.add("open: " + label, [1, len(words)] + list(words), ["open %d" % number])
         self.seen[number] += 1
         self.opened += 1
+
+    def point(self, label, words, at, expect=None):
+        position = 2 ** 64 - 1 if at < 0 else at
+        number, point = reading.point_call(words, position)
+        assert expect is None or number == expect, (label, number, expect)
+        said = "refused %d" % number if number else "%d %d %d" % point
+        self.cases.add("point: " + label, [3, len(words)] + list(words) + [at], ["point %d: %s" % (position, said)])
 
     def pack(self, label, given, expect=None):
         n, point_words, order, edition, lent = given
@@ -256,6 +196,25 @@ def changed_words(out, rng):
         out.open("a word changed at %d" % at, changed)
 
 
+# ---------------------------------------------------------------- points
+
+def points_read(out, rng):
+    """Every point of small sheets, points of large ones, positions not below n, and bad sheets: 1 to 8 before 9."""
+    for words in (packed(rng, 1), packed(rng, 5), uneven(rng, 9, 4), packed(rng, 33, reading.COORDINATE), packed(rng, 0)):
+        n = words[-4]
+        for at in list(range(min(n, 9))) + [n - 1] * (n > 0):
+            out.point("position %d of %d" % (at, n), words, at, 0)
+        for at in (n, n + 1, -1):
+            out.point("position %d of %d" % (at, n), words, at, 9)
+    base = shaped(rng, [[3, 2, 4], [2, 1], [2]])
+    for number in range(2, 9):
+        wrong = rng.choice([change for given, _, change in faults(base) if given == number])(base)
+        for at in (0, 9, -1):
+            out.point("a sheet refused by %d" % number, wrong, at, number)
+    out.point("no words", [], 0, 1)
+    out.point("no words", [], -1, 1)
+
+
 # ---------------------------------------------------------------- packs
 
 def given(rng, n, reach=20, order=None, edition=None):
@@ -340,6 +299,7 @@ def cases():
     single_faults(out, rng)
     double_faults(out, rng)
     changed_words(out, rng)
+    points_read(out, random.Random("points"))
     if PACKS:
         right_packs(out, rng)
         wrong_packs(out, rng)

@@ -1,6 +1,8 @@
 // The stored cases that a program runs, as words of its standard input. What is read no contract can say; past the end of the input every word is 0.
 ghost use mathlib.Core.Path.{_≡_};
+ghost use mathlib.Core.Bool.{true, _||_};
 ghost use Prim.Native.Nat.{_≤_, _<_};
+ghost use lib.Dec.{eqb, ltb};
 ghost use lib.ListN.{length, drop};
 
 fn word_of(b: &[u8; 4]) -> i32 {
@@ -26,6 +28,28 @@ pub fn next_up_to(most: usize) -> usize
 {
     let n = next_count();
     if n < most { n } else { most }
+}
+
+// The next word as a count, and the largest of all for a negative one.
+pub fn next_or_largest() -> usize
+    ensures { λ r. ⌜ (ltb r 2147483648 || eqb r 18446744073709551615) ≡ true ⌝ }
+{
+    let w = next_word();
+    if w < 0 {
+        return 18446744073709551615;
+    }
+    words::num(w)
+}
+
+// The next word as a number of 32 bits, and the largest of them for a negative one.
+pub fn next_id() -> u32
+    ensures { λ r. ⌜ (ltb r 2147483648 || eqb r 4294967295) ≡ true ⌝ }
+{
+    let w = next_word();
+    if w < 0 {
+        return 4294967295;
+    }
+    words::num(w) as u32
 }
 
 // The next n words go to the first n places of `out`. The others stay as they were.

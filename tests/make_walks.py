@@ -1,0 +1,160 @@
+#!/usr/bin/env python3
+"""The cases of crates/try_walks: pairs of sheets with both walks over them: kept words, numbers of bits, hits, nodes opened.
+
+    make_walks.py         writes crates/try_walks/stdin and stdout
+
+The input, in words: 1, the lengths of P's and Q's sheet, the numbers of filter walks and of ring walks asked, P's words, Q's words, a position j of Q for
+each filter walk, and positions j of Q and i of P for each ring walk; 0 ends it. A position of -1 stands for the largest that a call can be given.
+"""
+import collections
+import random
+
+import reading
+import towns
+import trees
+from stored import Cases
+
+LARGEST = 2 ** 64 - 1
+
+
+def position(word):
+    return LARGEST if word < 0 else word
+
+
+class Walks:
+    def __init__(self):
+        self.cases = Cases("try_walks")
+        self.pairs = 0
+        self.seen = collections.Counter()
+
+    def add(self, label, p, q, filters, rings):
+        lines = []
+        for j in filters:
+            number, kept, opened = reading.filter_call(p, q, position(j))
+            words = reading.kept_words(kept)
+            lines.append("filter %d: %d %d %d %s" % (position(j), number, len(kept), opened, " ".join("%x" % word for word in words)))
+            self.seen["filter %d" % number] += 1
+        for j, i in rings:
+            number, answer, opened = reading.ring_call(p, q, position(j), position(i))
+            if number:
+                said = "refused %d" % number
+            else:
+                said = "%s %d" % (" ".join(map(str, answer)), opened)
+            lines.append("ring %d %d: %s" % (position(j), position(i), said))
+            self.seen["ring refused %d" % number if number else "ring %s %s" % (answer[0], "QP"[answer[1] == 0] if len(answer) > 1 else "")] += 1
+        asked = list(filters) + [word for pair in rings for word in pair]
+        self.cases.add(label, [1, len(p), len(q), len(filters), len(rings)] + p + q + asked, lines)
+        self.pairs += 1
+        self.seen[label] += 1
+
+
+def hold_to_brute_force(p_words, q_words):
+    """The walks mean what the ring rule says, with no tree: a pair is kept and clear exactly if it is a ring pair."""
+    p, q = reading.Sheet(p_words), reading.Sheet(q_words)
+    for j in range(q.n):
+        kept, _ = reading.filter_walk(p, q.place(j))
+        for i in range(p.n):
+            answer, _ = reading.pair_walk(p, q, j, i)
+            ring = reading.is_ring_pair(p.points, q.points, j, i)
+            assert ring == (answer == reading.CLEAR)
+            assert i in kept or not ring
+
+
+def small_pairs(out, rng):
+    """Every q and every pair of sheets small enough; a part of the others."""
+    for k in range(280):
+        places = towns.PLACES[k % len(towns.PLACES)]
+        np, nq = rng.randint(1, 7), rng.randint(1, 6)
+        if k % 9 == 0:
+            np, nq = rng.randint(17, 50), rng.randint(17, 50)
+        _, p = towns.sheet(rng, places, np)
+        _, q = (None, p) if k % 8 == 0 else towns.sheet(rng, places, nq)
+        nq = q[-4]
+        hold_to_brute_force(p, q)
+        pairs = [(j, i) for j in range(nq) for i in range(np)]
+        filters = list(range(nq))
+        if len(pairs) > 45:
+            pairs, filters = sorted(rng.sample(pairs, 24)), sorted(rng.sample(filters, 8 if nq >= 8 else nq))
+        out.add("%s, %s" % (places.__name__, "one sheet as both" if p is q else "two sheets"), p, q, filters, pairs)
+
+
+def shaped_pairs(out, rng):
+    """Trees of each kind by name: single-child nodes and six levels on both sides, up to level 7."""
+    for k in range(24):
+        np, nq = rng.randint(2, 12), rng.randint(2, 12)
+        ps = [(n,) + place for n, place in zip(trees.ids(rng, np), rng.choice(towns.PLACES)(rng, np))]
+        qs = [(n,) + place for n, place in zip(trees.ids(rng, nq), rng.choice(towns.PLACES)(rng, nq))]
+        if k % 2:
+            p = trees.sheet(ps, trees.near(rng, ps), trees.singles(np, 1 + k % 7), 4)
+            q = trees.sheet(qs, trees.near(rng, qs), trees.singles(nq, 7), 5)
+        else:
+            p = trees.sheet(ps, trees.near(rng, ps), trees.uneven(rng, np, 5), 4)
+            q = trees.sheet(qs, trees.near(rng, qs), trees.uneven(rng, nq, 6), 5)
+        hold_to_brute_force(p, q)
+        pairs = [(j, i) for j in range(nq) for i in range(np)]
+        out.add("single-child nodes" if k % 2 else "six levels and more", p, q, range(nq), sorted(rng.sample(pairs, min(len(pairs), 16))))
+
+
+def large_pairs(out, rng):
+    """1,000 points each: a town packed by 16, the whole range over uneven trees, and one sheet used as both."""
+    def large(places, shape, edition):
+        points = [(n,) + place for n, place in zip(trees.ids(rng, 1000, reading.ID), places(rng, 1000))]
+        return trees.sheet(points, trees.near(rng, points), shape, edition)
+
+    sixteen = reading.runs_of_sixteen(1000)
+    full = trees.runs([trees.parts(rng, 1000, 370), trees.parts(rng, 370, 27), trees.parts(rng, 27, 2), [2]])
+    p, q = large(towns.land, sixteen, 11), large(towns.land, full, 12)
+    both = large(towns.town, trees.uneven(rng, 1000, 4), 13)
+    for label, p, q in (("1,000 points, packed and 400 nodes", p, q), ("1,000 points, one sheet as both", both, both)):
+        sheet_p, sheet_q = reading.Sheet(p), reading.Sheet(q)
+        filters = sorted(rng.sample(range(1000), 12)) + [999]
+        pairs = []
+        for j in filters:
+            kept, _ = reading.filter_walk(sheet_p, sheet_q.place(j))
+            for i in kept[:6] + rng.sample(range(1000), 2):
+                pairs.append((j, i))
+                answer, _ = reading.pair_walk(sheet_p, sheet_q, j, i)
+                assert reading.is_ring_pair(sheet_p.points, sheet_q.points, j, i) == (answer == reading.CLEAR)
+        out.add(label, p, q, filters, pairs)
+
+
+def refused(out, rng):
+    """A bad sheet, P's before Q's, and a position not below n: the earlier number each time. Empty sheets."""
+    for p, q, number in towns.both_faulty(rng):
+        assert reading.ring_call(p, q, 0, 0)[0] == number
+        out.add("P and Q refused", p, q, [0, -1], [(0, 0), (-1, -1)])
+    for number in range(1, 9):
+        _, right = towns.sheet(rng, towns.grid, rng.randint(1, 5))
+        n = right[-4]
+        wrong = towns.faulty(rng, number)
+        out.add("P refused", wrong, right, [0, n, -1], [(0, 0), (n, 0), (0, -1)])
+        out.add("Q refused", right, wrong, [0, 9, -1], [(0, 0), (9, 0), (0, n), (-1, -1)])
+    for _ in range(8):
+        _, p = towns.sheet(rng, towns.grid, rng.randint(1, 5))
+        _, q = towns.sheet(rng, towns.grid, rng.randint(1, 5))
+        np, nq = p[-4], q[-4]
+        out.add("a position not below n", p, q, [nq - 1, nq, -1], [(nq - 1, np - 1), (nq, 0), (0, np), (nq, np), (-1, 0), (0, -1), (-1, -1)])
+    empty = reading.pack([], [], 3)
+    _, some = towns.sheet(rng, towns.grid, 4)
+    out.add("no point in P", empty, some, [0, 3, 4], [(0, 0), (3, 0), (4, 0)])
+    out.add("no point in Q", some, empty, [0, -1], [(0, 0), (0, 3)])
+    out.add("no point at all", empty, empty, [0], [(0, 0)])
+    out.add("no word at all", [], [], [0], [(0, 0)])
+
+
+def cases():
+    rng = random.Random("walks")
+    out = Walks()
+    small_pairs(out, rng)
+    shaped_pairs(out, rng)
+    large_pairs(out, rng)
+    refused(out, rng)
+    assert out.pairs >= 300
+    for answer in ("clear ", "point P", "point Q", "side P", "side Q"):
+        assert out.seen["ring " + answer] >= 50, (answer, out.seen)
+    assert out.seen["ring refused 9"] >= 10 and out.seen["filter 9"] >= 10
+    return out.cases
+
+
+if __name__ == "__main__":
+    cases().store()
