@@ -3,8 +3,8 @@
 
     make_sheets.py        writes crates/try_sheets/stdin and stdout
 
-The input, in words: 1, a length and that many words, a sheet to open; or 2, n (low and high half), the numbers of point words and of order words, an
-edition, the length of the lent output, the point words and the order words, to pack; or 3, a length, that many words and a position, a point to read,
+The input, in words: 1, a length and that many words, a sheet to open; or 2, n (24, 24 and 16 bits, the lowest first), the numbers of point words and
+of order words, an edition, the length of the lent output, the point words and the order words, to pack; or 3, a length, that many words and a position, a point to read,
 where a position of -1 stands for the largest that a call can be given; 0 ends it. A packed sheet is printed whole, and opened again; of a refused one the
 program says whether each lent word is as it was.
 """
@@ -71,7 +71,7 @@ class Sheets:
             line = "pack 0 open 0:" + "".join(" %d" % word for word in words)
         else:
             line = "pack %d as it was" % number
-        head = [2, n % 2 ** 32, n // 2 ** 32, len(point_words), len(order), edition, lent]
+        head = [2, n % 2 ** 24, n // 2 ** 24 % 2 ** 24, n // 2 ** 48, len(point_words), len(order), edition, lent]
         self.cases.add("pack: " + label, head + list(point_words) + list(order), [line])
         self.pack_seen[number] += 1
         self.packs += 1

@@ -12,6 +12,7 @@ import random
 import reading
 import towns
 import trees
+from check_reading import walks_mean_the_rule
 from stored import Cases
 
 LARGEST = 2 ** 64 - 1
@@ -48,18 +49,6 @@ class Walks:
         self.seen[label] += 1
 
 
-def hold_to_brute_force(p_words, q_words):
-    """The walks mean what the ring rule says, with no tree: a pair is kept and clear exactly if it is a ring pair."""
-    p, q = reading.Sheet(p_words), reading.Sheet(q_words)
-    for j in range(q.n):
-        kept, _ = reading.filter_walk(p, q.place(j))
-        for i in range(p.n):
-            answer, _ = reading.pair_walk(p, q, j, i)
-            ring = reading.is_ring_pair(p.points, q.points, j, i)
-            assert ring == (answer == reading.CLEAR)
-            assert i in kept or not ring
-
-
 def small_pairs(out, rng):
     """Every q and every pair of sheets small enough; a part of the others."""
     for k in range(280):
@@ -70,7 +59,7 @@ def small_pairs(out, rng):
         _, p = towns.sheet(rng, places, np)
         _, q = (None, p) if k % 8 == 0 else towns.sheet(rng, places, nq)
         nq = q[-4]
-        hold_to_brute_force(p, q)
+        walks_mean_the_rule(p, q)
         pairs = [(j, i) for j in range(nq) for i in range(np)]
         filters = list(range(nq))
         if len(pairs) > 45:
@@ -90,7 +79,7 @@ def shaped_pairs(out, rng):
         else:
             p = trees.sheet(ps, trees.near(rng, ps), trees.uneven(rng, np, 5), 4)
             q = trees.sheet(qs, trees.near(rng, qs), trees.uneven(rng, nq, 6), 5)
-        hold_to_brute_force(p, q)
+        walks_mean_the_rule(p, q)
         pairs = [(j, i) for j in range(nq) for i in range(np)]
         out.add("single-child nodes" if k % 2 else "six levels and more", p, q, range(nq), sorted(rng.sample(pairs, min(len(pairs), 16))))
 

@@ -1,0 +1,70 @@
+"""The reading held to the rules' own examples, and to itself: walks against brute force, pages against the list, a book that loses pages."""
+import random
+
+import reading
+import towns
+
+P = [1, 0, 0, 2, 10, 0, 0, 1, 0, 1, 0, 0, 2, 0, 0, 10, 0, 17, 7, 2, 1, 7, 1]
+Q = [5, 4, 0, 6, 16, 1, 0, 1, 0, 1, 0, 0, 2, 4, 0, 16, 1, 17, 7, 2, 1, 9, 1]
+
+
+def examples():
+    a, b = (0, 0), (4, 0)
+    assert reading.product(a, b, (2, 2)) == 0 and reading.blocks(a, b, (2, 2))
+    assert reading.product(a, b, (2, 3)) == 5 and not reading.blocks(a, b, (2, 3))
+    assert reading.product(a, b, (2, 1)) == -3 and reading.blocks(a, b, (2, 1))
+    assert reading.blocks(a, b, (0, 0))
+    assert reading.product((7, 7), (7, 7), (7, 8)) == 1 and not reading.blocks((7, 7), (7, 7), (7, 8))
+    assert reading.blocks((7, 7), (7, 7), (7, 7))
+    assert reading.behind((0, 0), (3, 0), (3, 5)) and not reading.behind((0, 0), (3, 0), (2, 5))
+    assert all(reading.behind((0, 0), (3, 0), corner) for corner in reading.corners((3, -1, 9, 4)))
+    assert reading.side_inside(a, b, (1, 0, 9, 1)) and not reading.far(a, b, (1, 0, 9, 1))
+    assert not reading.side_inside(a, b, (0, 0, 0, 0)) and not reading.far(a, b, (0, 0, 0, 0))
+    assert not reading.side_inside(a, b, (2, 2, 5, 5)) and not reading.far(a, b, (2, 2, 5, 5))
+    assert reading.far(a, b, (4, 1, 6, 6))
+    assert reading.open_number(P) == 0 and reading.open_number(Q) == 0
+    assert reading.ring_list(reading.Sheet(P).points, reading.Sheet(Q).points) == [(5, 1), (5, 2), (6, 2)]
+    for key, size, pairs, end in (((0, 0), 2, [(5, 1), (5, 2)], False), ((5, 2), 2, [(6, 2)], True), ((6, 2), 2, [], True), ((5, 3), 2, [(6, 2)], True)):
+        number, page, _ = reading.page_call(P, Q, key, size)
+        assert (number, page.pairs, page.end) == (0, pairs, end)
+    for n, m in ((0, 0), (16, 1), (17, 3), (1000, 68)):
+        assert len(reading.runs_of_sixteen(n)) == m
+
+
+def walks_mean_the_rule(p_words, q_words):
+    """A pair is clear exactly if it is a ring pair, and is kept then; no walk of one sheet opens more than m nodes."""
+    p, q = reading.Sheet(p_words), reading.Sheet(q_words)
+    for j in range(q.n):
+        kept, _ = reading.filter_walk(p, q.place(j))
+        for i in range(p.n):
+            answer, _ = reading.pair_walk(p, q, j, i)
+            ring = reading.is_ring_pair(p.points, q.points, j, i)
+            assert ring == (answer == reading.CLEAR)
+            assert i in kept or not ring
+
+
+def book_of_lost_pages(rng, pairs):
+    """Pages lost, repeated and late: the book holds the first so many pairs, and all of them once it is closed."""
+    editions = (3, 4)
+    _, book = reading.begin(editions)
+    slots, made = [(9, 9)] * len(pairs), []
+    for _ in range(400):
+        key = reading.next_key(book, slots)[1] if rng.random() < 0.7 else rng.choice(pairs + [(0, 0)])
+        made.append(reading.page_of(pairs, editions, key, rng.randint(1, 16)))
+        page = rng.choice(made[-3:])
+        before = (book.held, book.closed, list(slots))
+        number = reading.take(book, slots, page)
+        assert number in (0, 12, 14) and (number == 0 or before == (book.held, book.closed, slots))
+        assert slots[:book.held] == pairs[:book.held] and slots[book.held:] == [(9, 9)] * (len(pairs) - book.held)
+        assert not book.closed or book.held == len(pairs)
+    assert book.closed
+
+
+def main():
+    examples()
+    rng = random.Random("reading")
+    for k in range(60):
+        places = towns.PLACES[k % len(towns.PLACES)]
+        walks_mean_the_rule(towns.sheet(rng, places, rng.randint(1, 24))[1], towns.sheet(rng, places, rng.randint(1, 24))[1])
+    for count in (0, 1, 16, 40):
+        book_of_lost_pages(rng, sorted({(rng.randint(1, 9), rng.randint(1, 40)) for _ in range(count)}))
