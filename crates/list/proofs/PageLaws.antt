@@ -1,9 +1,9 @@
 -- The pages of a list that ascends: what a page shows, its end mark, and that following the pages gives the list.
 -- Assumes nothing.
-use mathlib.Core.Path.{_≡_, refl, sym, ap, _∙_}
-use mathlib.Core.Bool.{Bool, true, false, not}
+use mathlib.Core.Path.{_≡_, refl, sym, ap, subst, _∙_}
+use mathlib.Core.Bool.{Bool, true, false, cond, not}
 use mathlib.Core.Logic.{⊎-elim}
-use mathlib.Core.List.{List, [], _∷_, _++_, append-nil}
+use mathlib.Core.List.{List, [], _∷_, _++_, append-nil, List·Memᴰ, List·Memᴰ·head, List·Memᴰ·tail, List·Memᴰ·cases-cons, Memᴰ·append-left}
 use Prim.Native.Nat.{ℕ, zero, suc, _-_, _≤_, _<_}
 use native.Mathlib.Omega.{arith}
 use lib.ListN.{length, take, drop, replicate, take-append-drop, length-append, length-take, length-drop, length-replicate}
@@ -14,7 +14,8 @@ use Rattle.integers.specs.Bools.{decide}
 use Rattle.list.specs.declared.Key.{Key}
 use Rattle.list.specs.declared.Pair.{Pair}
 use Rattle.list.specs.declared.Source.{Source}
-use Rattle.list.specs.Pairs.{start, none, ascends, after, lastOr, isNone}
+use Rattle.list.specs.declared.Page.{Page}
+use Rattle.list.specs.Pairs.{start, none, keyOf, follows, ascends, after, lastOr, isNone}
 use Rattle.list.specs.Pages.{padded, shown, pageOf, pagePairs, followed}
 use Rattle.list.proofs.Order.{asc-left, last-from, after-asc, after-all, after-last, after-after}
 
@@ -65,7 +66,7 @@ shown-whole l key n h = append-nil (take n (after key l)) ∙ take-all n (after 
 
 -- following the pages from a key gives what follows the key, each pair once, in order
 pub pages-after : (f : ℕ) (sizes : ℕ → ℕ) (s : Source) (k key : Key) (l : List Pair) → ((i : ℕ) → 0 < sizes i) → ascends k l ≡ true → length (after key l) ≤ f
-    → followed f sizes s l key ≡ after key l
+    → followed f sizes (pageOf s l) key ≡ after key l
 unfolding followed
 pages-after zero sizes s k key l some e h = go (after key l) refl
   where
@@ -85,10 +86,45 @@ pages-after (suc f) sizes s k key l some e h =
     (decide (ltb n (length t))))
 
 -- following the pages from (0, 0), whatever their sizes, gives the list: at most as many requests as it has pairs
-pub pages-list : (sizes : ℕ → ℕ) (s : Source) (l : List Pair) → ((i : ℕ) → 0 < sizes i) → ascends start l ≡ true → followed (length l) sizes s l start ≡ l
+pub pages-list : (sizes : ℕ → ℕ) (s : Source) (l : List Pair) → ((i : ℕ) → 0 < sizes i) → ascends start l ≡ true → followed (length l) sizes (pageOf s l) start ≡ l
 pages-list sizes s l some e =
     let z = after-all start l e in
     pages-after (length l) sizes s start start l some e (rw z (omega arith)) ∙ z
+
+-- ---- pages that are asked for, not computed
+
+after-member : (k : Key) (v : Pair) (l : List Pair) → List·Memᴰ v (after k l) → List·Memᴰ v l
+unfolding after
+after-member k v [] m = m
+after-member k v (w ∷ l) m = go (after-member k v l) (follows k (keyOf w)) m
+  where
+    go : (List·Memᴰ v (after k l) → List·Memᴰ v l) → (t : Bool) → List·Memᴰ v (cond t (w ∷ after k l) (after k l)) → List·Memᴰ v (w ∷ l)
+    go ih true n = ⊎-elim (λ (x : v ≡ w). List·Memᴰ·head x) (λ (x : List·Memᴰ v (after k l)). List·Memᴰ·tail (ih x)) (List·Memᴰ·cases-cons n)
+    go ih false n = List·Memᴰ·tail (ih n)
+
+-- what a page shows stands in the list
+pub shown-member : (l : List Pair) (key : Key) (n : ℕ) (v : Pair) → List·Memᴰ v (shown l key n) → List·Memᴰ v l
+unfolding shown
+shown-member l key n v m =
+    let t = after key l in
+    after-member key v l (subst (List·Memᴰ v) (take-append-drop n t) (Memᴰ·append-left (drop n t) m))
+
+last-holds : (X : Key → Type 0) (k : Key) (a : List Pair) → X k → ((v : Pair) → List·Memᴰ v a → X (keyOf v)) → X (lastOr k a)
+unfolding lastOr
+last-holds X k [] x f = x
+last-holds X k (v ∷ a) x f = last-holds X (keyOf v) a (f v (List·Memᴰ·head refl)) (λ w m. f w (List·Memᴰ·tail m))
+
+-- where `ask` gives the list's pages for the keys of X, to which every pair's belongs, following it is following them
+pub asked-pages : (X : Key → Type 0) (ask : Key → ℕ → Page) (s : Source) (l : List Pair) → ((v : Pair) → List·Memᴰ v l → X (keyOf v)) → (f : ℕ) (sizes : ℕ → ℕ) (key : Key) → X key
+    → ((i : ℕ) (k : Key) → X k → ask k (sizes i) ≡ pageOf s l k (sizes i)) → followed f sizes ask key ≡ followed f sizes (pageOf s l) key
+unfolding followed
+asked-pages X ask s l all zero sizes key x is = refl
+asked-pages X ask s l all (suc f) sizes key x is =
+    let n = sizes 0 in
+    let next = lastOr key (pagePairs (pageOf s l key n)) in
+    let inside : X next = rw (page-shows key s l n) (last-holds X key (shown l key n) x (λ v m. all v (shown-member l key n v m))) in
+    rw (is 0 key x)
+    (ap (λ (t : List Pair). pagePairs (pageOf s l key n) ++ cond (pageOf s l key n .end) [] t) (asked-pages X ask s l all f (λ i. sizes (suc i)) next inside (λ i k y. is (suc i) k y)))
 
 -- a full page with nothing behind it has the end mark
 pub full-last : (s : Source) (l : List Pair) (key : Key) (n : ℕ) → ascends start l ≡ true → length (after key l) ≡ n → pageOf s l key n .end ≡ true

@@ -17,7 +17,7 @@ use Rattle.list.specs.declared.Key.{Key}
 use Rattle.list.specs.declared.Pair.{Pair}
 use Rattle.list.specs.declared.Source.{Source}
 use Rattle.list.specs.Pairs.{start, none, keyOf, follows, ascends, lastOr}
-use Rattle.list.specs.Pages.{followed}
+use Rattle.list.specs.Pages.{pageOf, followed}
 use Rattle.list.specs.Rows.{row, rows, listBy, Rising, Named}
 use Rattle.list.specs.RingList.{ringPair, pairAt, ringList}
 use Rattle.list.proofs.Order.{by-q, by-p, asc-append, once}
@@ -179,5 +179,5 @@ module _ (P Q : List Point) (rp : Rising (idAt P) (length P)) (rq : Rising (idAt
   ring-once a b h g e = once start (ringList P Q) ring-ascends a b h g e
 
   -- the pages of it, followed from (0, 0), give it
-  pub ring-pages : (sizes : ℕ → ℕ) (s : Source) → ((k : ℕ) → 0 < sizes k) → followed (length (ringList P Q)) sizes s (ringList P Q) start ≡ ringList P Q
+  pub ring-pages : (sizes : ℕ → ℕ) (s : Source) → ((k : ℕ) → 0 < sizes k) → followed (length (ringList P Q)) sizes (pageOf s (ringList P Q)) start ≡ ringList P Q
   ring-pages sizes s some = pages-list sizes s (ringList P Q) some ring-ascends

@@ -38,9 +38,8 @@ pageOf s l k size =
 unfoldable pub pagePairs : Page → List Pair
 pagePairs g = take (g .count) (g .pairs)
 
--- the pages from `k` on, each next key the last pair shown, until the end mark (at most f pages)
-unfoldable pub followed : ℕ → (ℕ → ℕ) → Source → List Pair → Key → List Pair
-followed zero sizes s l k = []
-followed (suc f) sizes s l k =
-    pagePairs (pageOf s l k (sizes 0))
-    ++ cond (pageOf s l k (sizes 0) .end) [] (followed f (λ i. sizes (suc i)) s l (lastOr k (pagePairs (pageOf s l k (sizes 0)))))
+-- the pairs of the pages that `ask` gives from `k` on, each next key the last pair shown, until the end mark (at most f requests)
+unfoldable pub followed : ℕ → (ℕ → ℕ) → (Key → ℕ → Page) → Key → List Pair
+followed zero sizes ask k = []
+followed (suc f) sizes ask k =
+    pagePairs (ask k (sizes 0)) ++ cond (ask k (sizes 0) .end) [] (followed f (λ i. sizes (suc i)) ask (lastOr k (pagePairs (ask k (sizes 0)))))
