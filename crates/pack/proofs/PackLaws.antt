@@ -1,0 +1,80 @@
+-- Laws of what `pack` answers.
+-- Assumes nothing.
+use mathlib.Core.Path.{_≡_, refl}
+use mathlib.Core.Bool.{Bool, true, false, cond, _&&_}
+use mathlib.Core.List.{List}
+use Prim.Native.Nat.{ℕ, _+_, _*_, _/_, _%_, _≤_}
+use native.Mathlib.Omega.{arith}
+use lib.Dec.{eqb, leb}
+use lib.IntN.{ℤ}
+use lib.ListN.{length}
+use borrow.Author.Tests.{eqb-true, eq-eqb, ne-eqb, leb-true}
+use Rattle.integers.specs.Bools.{and-left, and-right, and-both, test-iff}
+use Rattle.words.specs.Range.{editionOk}
+use Rattle.sheet.specs.declared.Limits.{Limits}
+use Rattle.sheet.specs.Points.{pointsOk}
+use Rattle.pack.specs.Tree.{nodesFor}
+use Rattle.pack.specs.Order.{orderListOk}
+use Rattle.pack.specs.Packed.{sheetSize, packed}
+use Rattle.pack.specs.Pack.{shapeOk, rangeOk, packNo, packOut}
+
+-- a length is three times n where it is divided by three without rest, n times
+pub thirds : (k n : ℕ) → (eqb (k % 3) 0 && eqb (k / 3) n) ≡ eqb k (3 * n)
+thirds k n =
+    test-iff _ _
+    (λ e. eq-eqb k (3 * n) (whole (eqb-true (k % 3) 0 (and-left (eqb (k % 3) 0) (eqb (k / 3) n) e)) (eqb-true (k / 3) n (and-right (eqb (k % 3) 0) (eqb (k / 3) n) e))))
+    (λ e. let q = eqb-true k (3 * n) e in and-both (eqb (k % 3) 0) (eqb (k / 3) n) (eq-eqb (k % 3) 0 (omega arith)) (eq-eqb (k / 3) n (omega arith)))
+  where
+    whole : k % 3 ≡ 0 → k / 3 ≡ n → k ≡ 3 * n
+    whole a b = omega arith
+
+-- what a range says of n
+pub range-few : (lim : Limits) (n ed : ℕ) → rangeOk lim n ed ≡ true → n ≤ lim .points
+unfolding rangeOk
+range-few lim n ed e = leb-true n (lim .points) (and-left (leb n (lim .points)) (editionOk ed) e)
+
+pub range-edition : (lim : Limits) (n ed : ℕ) → rangeOk lim n ed ≡ true → editionOk ed ≡ true
+unfolding rangeOk
+range-edition lim n ed e = and-right (leb n (lim .points)) (editionOk ed) e
+
+-- the length against the sheet's
+pub size-fits : (n m size : ℕ) → m ≡ nodesFor n → size ≡ 5 * n + 7 * m + 6 → eqb size (sheetSize n) ≡ true
+unfolding sheetSize
+size-fits n m size e h = eq-eqb size (5 * n + 7 * nodesFor n + 6) (omega arith)
+
+pub size-differs : (n m size : ℕ) → m ≡ nodesFor n → (size ≡ 5 * n + 7 * m + 6 → ⊥) → eqb size (sheetSize n) ≡ false
+unfolding sheetSize
+size-differs n m size e h = ne-eqb size (5 * n + 7 * nodesFor n + 6) (λ (x : size ≡ 5 * n + 7 * nodesFor n + 6). h (omega arith))
+
+-- ---- what the answer says
+
+-- no refusal means that every test holds
+pub record Packs (lim : Limits) (n : ℕ) (p o : List ℤ) (ed size : ℕ) : Type 0 where
+  pub shaped : shapeOk n p o ≡ true
+  pub ranged : rangeOk lim n ed ≡ true
+  pub pointed : pointsOk lim p n ≡ true
+  pub ordered : orderListOk o n ≡ true
+  pub sized : size ≡ sheetSize n
+
+pub pack-facts : (lim : Limits) (n : ℕ) (p o : List ℤ) (ed size : ℕ) → packNo lim n p o ed size ≡ 0 → Packs lim n p o ed size
+unfolding packNo
+pack-facts lim n p o ed size e =
+    let f = five (shapeOk n p o) (rangeOk lim n ed) (pointsOk lim p n) (orderListOk o n) (eqb size (sheetSize n)) e in
+    record { shaped = f .0; ranged = f .1; pointed = f .2; ordered = f .3; sized = eqb-true size (sheetSize n) (f .4) }
+  where
+    five : (a b c d s : Bool) → _≡_ {A = ℕ} (cond a (cond b (cond c (cond d (cond s 0 17) 6) 5) 3) 18) 0 → (a ≡ true) × (b ≡ true) × (c ≡ true) × (d ≡ true) × (s ≡ true)
+    five true true true true true e = (refl, refl, refl, refl, refl)
+    five true true true true false e = absurd (omega arith)
+    five true true true false s e = absurd (omega arith)
+    five true true false d s e = absurd (omega arith)
+    five true false c d s e = absurd (omega arith)
+    five false b c d s e = absurd (omega arith)
+
+module _ (lim : Limits) (n : ℕ) (p o : List ℤ) (ed : ℕ) (out : List ℤ) where
+  pub out-refused : (packNo lim n p o ed (length out) ≡ 0 → ⊥) → out ≡ packOut lim n p o ed out
+  unfolding packOut
+  out-refused h = rw (ne-eqb (packNo lim n p o ed (length out)) 0 h)
+
+  pub out-packed : packNo lim n p o ed (length out) ≡ 0 → packed p o n ed ≡ packOut lim n p o ed out
+  unfolding packOut
+  out-packed e = rw (eq-eqb (packNo lim n p o ed (length out)) 0 e)

@@ -1,0 +1,232 @@
+-- The return trip: what the packer writes is opened, and has the same points. For any limits that leave room for the tree.
+-- Assumes nothing.
+use mathlib.Core.Path.{_≡_, refl, sym, ap, subst, _∙_}
+use mathlib.Core.Bool.{true, false, _&&_, Bool·beq}
+use mathlib.Core.Logic.{⊎-elim}
+use mathlib.Core.List.{List}
+use Prim.Native.Nat.{ℕ, zero, suc, _+_, _*_, _-_, _<_, _≤_}
+use native.Mathlib.Omega.{arith}
+use lib.Dec.{eqb}
+use lib.IntN.{ℤ, pos}
+use lib.ListN.{length}
+use borrow.Author.Tests.{lt-ltb, le-ltb, le-leb, eq-eqb, ne-eqb, eqb-true, eqb-false}
+use Rattle.integers.specs.Bools.{and-both, decide}
+use Rattle.words.specs.Word.{at, eqZ, within, isBelow}
+use Rattle.words.specs.Range.{editionOk, editionWord}
+use Rattle.words.specs.All.{tab}
+use Rattle.words.proofs.Signs.{eq-eqZ}
+use Rattle.words.proofs.AllLaws.{all-at, all-make}
+use Rattle.words.proofs.TabLaws.{tab-same}
+use Rattle.words.proofs.RangeLaws.{edition-pos}
+use Rattle.sheet.specs.declared.Limits.{Limits}
+use Rattle.sheet.specs.Limits.{form1}
+use Rattle.sheet.specs.Layout.{form, edition, mWord, nWord, root, span, points, nodes, rootWord, countsOk, layoutOk, trailerNo}
+use Rattle.sheet.specs.Points.{fieldsOk, risesOk, pointOk, pointsOk}
+use Rattle.sheet.specs.Places.{spotOf, pointOf, pointsOf}
+use Rattle.sheet.specs.Order.{orderWord, rankWord, rankOf, placeOk, orderOk}
+use Rattle.sheet.specs.Nodes.{nodesOk}
+use Rattle.sheet.specs.Boxes.{tightSide, tightOk}
+use Rattle.sheet.specs.Open.{bodyNo, openNo}
+use Rattle.sheet.proofs.BoxLaws.{best-cong}
+use Rattle.pack.specs.Tree.{nodesFrom, nodesFor, planOf}
+use Rattle.pack.specs.Order.{placeIn, orderListOk}
+use Rattle.pack.specs.Packed.{boxSide, trailerWord, packed}
+use Rattle.pack.specs.Pack.{pointsIn, packNo, packOut}
+use Rattle.pack.proofs.PackLaws.{pack-facts, range-few, range-edition, out-refused, out-packed}
+use Rattle.pack.proofs.OrderLaws.{list-word, list-place, place-is}
+use Rattle.pack.proofs.TableLaws.{num-of, plan-few, plan-some, plan-child, plan-leaf, table-right, node-stood, count-range, level-is, first-is, count-is}
+use Rattle.pack.proofs.PackedLaws.{point-word, order-word, rank-word, packed-size, packed-body, packed-trail, packed-plan, coord-read, side-read}
+
+in-range : (a b : ℕ) → a ≤ b → within (pos 0) (pos b) (pos a) ≡ true
+unfolding within
+in-range a b g = rw (le-leb 0 a (omega arith), le-leb a b g)
+
+-- limits with room for the tree: at most 16 to the eighth points, so that no level is above 7, and a node for every five of them
+pub record Roomy (lim : Limits) : Type 0 where
+  pub low : lim .points ≤ 4294967296
+  pub nodes-enough : lim .points + 15 ≤ 5 * lim .nodes
+
+module _ (p o : List ℤ) (n ed : ℕ) where
+  point-same : (i : ℕ) → i < 3 * n → at (packed p o n ed) i ≡ at p i
+  point-same i h = packed-body p o n ed .word i (omega arith) ∙ point-word p o n i h
+
+  order-same : (i : ℕ) → i < n → orderWord (packed p o n ed) n i ≡ at o i
+  order-same i h = packed-body p o n ed .word (3 * n + i) (omega arith) ∙ order-word p o n i h
+
+  rank-same : (i : ℕ) → i < n → rankWord (packed p o n ed) n i ≡ pos (placeIn o i n)
+  rank-same i h = packed-body p o n ed .word (4 * n + i) (omega arith) ∙ rank-word p o n i h
+
+  -- ---- the trailer
+
+  form-is : form (packed p o n ed) ≡ pos 1
+  unfolding trailerWord
+  form-is = packed-trail p o n ed _ 5 (omega arith) (omega (arith, packed-size p o n ed))
+
+  pub edition-is : edition (packed p o n ed) ≡ pos ed
+  unfolding trailerWord
+  edition-is = packed-trail p o n ed _ 4 (omega arith) (omega (arith, packed-size p o n ed))
+
+  m-is : mWord (packed p o n ed) ≡ pos (nodesFor n)
+  unfolding trailerWord
+  m-is = packed-trail p o n ed _ 3 (omega arith) (omega (arith, packed-size p o n ed))
+
+  n-is : nWord (packed p o n ed) ≡ pos n
+  unfolding trailerWord
+  n-is = packed-trail p o n ed _ 2 (omega arith) (omega (arith, packed-size p o n ed))
+
+  root-is : root (packed p o n ed) ≡ pos (rootWord (nodesFor n))
+  unfolding trailerWord
+  root-is = packed-trail p o n ed _ 1 (omega arith) (omega (arith, packed-size p o n ed))
+
+  span-is : span (packed p o n ed) ≡ pos (5 * n + 7 * nodesFor n)
+  unfolding trailerWord
+  span-is = packed-trail p o n ed _ 0 (omega arith) (omega (arith, packed-size p o n ed))
+
+  pub points-is : points (packed p o n ed) ≡ n
+  points-is = num-of _ _ n-is
+
+  pub nodes-is : nodes (packed p o n ed) ≡ nodesFor n
+  nodes-is = num-of _ _ m-is
+
+  layout-right : layoutOk (packed p o n ed) ≡ true
+  unfolding layoutOk
+  layout-right = and-both _ _ (and-both _ _ (eq-eqZ _ _ (span-is ∙ ap pos z)) (eq-eqZ _ _ (root-is ∙ ap (λ (a : ℕ). pos (rootWord a)) (sym nodes-is)))) (eq-eqb _ _ (packed-size p o n ed ∙ ap (λ (a : ℕ). a + 6) z))
+    where
+      z : 5 * n + 7 * nodesFor n ≡ 5 * points (packed p o n ed) + 7 * nodes (packed p o n ed)
+      z = omega (arith, points-is, nodes-is)
+
+  -- ---- points, order and nodes
+
+  module _ (lim : Limits) (roomy : Roomy lim) (few : n ≤ lim .points) (ranged : editionOk ed ≡ true) where
+    counts-right : countsOk lim (packed p o n ed) ≡ true
+    unfolding countsOk
+    counts-right =
+        and-both _ _
+        (and-both _ _
+        (ap (within (pos 0) (pos (lim .points))) n-is ∙ in-range n (lim .points) few)
+        (ap (within (pos 0) (pos (lim .nodes))) m-is ∙ in-range (nodesFor n) (lim .nodes) (omega (arith, plan-few n, roomy .nodes-enough))))
+        (ap editionWord edition-is ∙ edition-pos ed ∙ ranged)
+
+    trailer-right : trailerNo lim (packed p o n ed) ≡ 0
+    unfolding trailerNo
+    trailer-right = rw (le-ltb (length (packed p o n ed)) 6 (omega (arith, packed-size p o n ed)), eq-eqZ _ _ form-is, counts-right, layout-right)
+
+  points-right : (lim : Limits) → pointsOk lim p n ≡ true → pointsOk lim (packed p o n ed) n ≡ true
+  unfolding pointsOk pointOk fieldsOk risesOk
+  points-right lim e = all-make (pointOk lim (packed p o n ed)) n (λ i h. same i h ∙ all-at (pointOk lim p) n e i h)
+    where
+      same : (i : ℕ) → i < n → pointOk lim (packed p o n ed) i ≡ pointOk lim p i
+      same i h = rw (point-same (3 * i) (omega arith), point-same (3 * i + 1) (omega arith), point-same (3 * i + 2) (omega arith), point-same (3 * (i - 1)) (omega arith))
+
+  module _ (ok : orderListOk o n ≡ true) where
+    order-right : orderOk (packed p o n ed) n ≡ true
+    unfolding orderOk placeOk rankOf isBelow
+    order-right =
+        all-make (placeOk (packed p o n ed) n) n
+        (λ i h.
+        let w = packed p o n ed in
+        let r = list-place o n ok i h in
+        and-both (isBelow n (orderWord w n i) && isBelow n (rankWord w n i)) _
+        (and-both (isBelow n (orderWord w n i)) (isBelow n (rankWord w n i)) (ap (isBelow n) (order-same i h) ∙ list-word o n ok i h) (ap (isBelow n) (rank-same i h) ∙ lt-ltb (placeIn o i n) n r))
+        (ap (λ (j : ℕ). eqZ (orderWord w n j) (pos i)) (num-of _ _ (rank-same i h)) ∙ ap (λ (z : ℤ). eqZ z (pos i)) (order-same (placeIn o i n) r) ∙ place-is o i n r))
+
+    -- the packer's box is the tightest
+    side-tight : n ≤ 4294967296 → (q l j : ℕ) → j < nodesFor n → planOf n j .level ≡ l → boxSide p o n q l j ≡ tightSide (packed p o n ed) n q l j
+    unfolding boxSide tightSide
+    side-tight g q zero j h e =
+        let w = packed p o n ed in
+        let pl = packed-plan p o n ed in
+        let c = count-range (planOf n j) (node-stood n j h .some) in
+        rw (first-is w n pl j h, count-is w n pl j h)
+        (best-cong q _ _ _ _ (λ k x y. sym (coord-read p o w n (nodesFor n) ok (packed-body p o n ed) q k (plan-leaf w n pl g j h e k (omega arith)))))
+    side-tight g q (suc l) j h e =
+        let w = packed p o n ed in
+        let pl = packed-plan p o n ed in
+        let c = count-range (planOf n j) (node-stood n j h .some) in
+        rw (first-is w n pl j h, count-is w n pl j h)
+        (best-cong q _ _ _ _
+        (λ k x y.
+        let d = plan-child w n pl g j l h e k x (omega arith) in
+        side-tight g q l k (omega (arith, d .1)) (d .0)))
+
+    boxes-right : n ≤ 4294967296 → tightOk (packed p o n ed) n (nodesFor n) ≡ true
+    unfolding tightOk
+    boxes-right g =
+        all-make _ (nodesFor n)
+        (λ j h. all-make _ 4
+        (λ q b.
+        let w = packed p o n ed in
+        let e = level-is w n (packed-plan p o n ed) j h in
+        eq-eqZ _ _
+        (side-read p o w n (nodesFor n) ok (packed-body p o n ed) q j b h
+        ∙ side-tight g q (planOf n j .level) j h refl
+        ∙ ap (λ (l : ℕ). tightSide w n q l j) (sym e))))
+
+  -- n = 0 goes with m = 0 and no other way
+  zero-right : Bool·beq (eqb n 0) (eqb (nodesFor n) 0) ≡ true
+  unfolding nodesFor nodesFrom
+  zero-right =
+      ⊎-elim
+      (λ (e : eqb n 0 ≡ true). let z = eqb-true n 0 e in rw (e, eq-eqb (nodesFor n) 0 (ap nodesFor z ∙ none)))
+      (λ (e : eqb n 0 ≡ false).
+      let f = eqb-false n 0 e in
+      rw (e, ne-eqb (nodesFor n) 0 (λ (y : nodesFor n ≡ 0). absurd (no f y))))
+      (decide (eqb n 0))
+    where
+      none : nodesFor 0 ≡ 0
+      none = refl
+
+      no : (n ≡ 0 → ⊥) → nodesFor n ≡ 0 → ⊥
+      no f y = f (zero-of n y)
+        where
+          zero-of : (k : ℕ) → nodesFor k ≡ 0 → k ≡ 0
+          zero-of zero y = refl
+          zero-of (suc k) y = absurd (omega (arith, plan-some (suc k) (omega arith)))
+
+  -- what the packer writes is opened
+  pub packed-opens : (lim : Limits) → Roomy lim → n ≤ lim .points → editionOk ed ≡ true → pointsOk lim p n ≡ true → orderListOk o n ≡ true → openNo lim (packed p o n ed) ≡ 0
+  unfolding openNo bodyNo nodesOk
+  packed-opens lim r h e f g =
+      let le : n ≤ 4294967296 = omega (arith, r .low) in
+      rw (trailer-right lim r h e, points-is, nodes-is, points-right lim f, order-right g, zero-right, table-right (packed p o n ed) n (packed-plan p o n ed) le, boxes-right g le)
+
+  -- with the same points, in the same order
+  pub packed-points : pointsOf (packed p o n ed) ≡ pointsIn n p
+  unfolding pointsOf spotOf pointsIn
+  packed-points = ap (λ (k : ℕ). tab k (pointOf (packed p o n ed))) points-is ∙ tab-same n _ _ (λ i h. same i h)
+    where
+      same : (i : ℕ) → i < n → pointOf (packed p o n ed) i ≡ pointOf p i
+      same i h = rw (point-same (3 * i) (omega arith), point-same (3 * i + 1) (omega arith), point-same (3 * i + 2) (omega arith))
+
+-- ---- of the call
+
+form1-roomy : Roomy form1
+unfolding form1
+form1-roomy = record { low = omega arith; nodes-enough = omega arith }
+
+-- what the words say that `pack` leaves where it answers 0
+pub record Returned (n : ℕ) (p : List ℤ) (ed : ℕ) (w : List ℤ) : Type 0 where
+  pub opens : openNo form1 w ≡ 0
+  pub same-points : pointsOf w ≡ pointsIn n p
+  pub same-number : points w ≡ n
+  pub same-edition : edition w ≡ pos ed
+  pub made-nodes : nodes w ≡ nodesFor n
+
+-- From the promise of `pack` alone: `r` is its answer, and `out′` are the lent words at its exit. Where it answers 0 these open, and their points are the
+-- given ones, in order.
+pub return-trip : (n : ℕ) (p o : List ℤ) (ed : ℕ) (out : List ℤ) (r : ℕ) (out′ : List ℤ) → r ≡ packNo form1 n p o ed (length out) → out′ ≡ packOut form1 n p o ed out → r ≡ 0 → Returned n p ed out′
+return-trip n p o ed out r out′ e f z =
+    let k = sym e ∙ z in
+    let s = pack-facts form1 n p o ed (length out) k in
+    subst (Returned n p ed) (out-packed form1 n p o ed out k ∙ sym f)
+    (record {
+      opens = packed-opens p o n ed form1 form1-roomy (range-few form1 n ed (s .ranged)) (range-edition form1 n ed (s .ranged)) (s .pointed) (s .ordered);
+      same-points = packed-points p o n ed;
+      same-number = points-is p o n ed;
+      same-edition = edition-is p o n ed;
+      made-nodes = nodes-is p o n ed;
+    })
+
+-- and where it answers a number of refusal they are as they were
+pub refused-same : (n : ℕ) (p o : List ℤ) (ed : ℕ) (out : List ℤ) (r : ℕ) (out′ : List ℤ) → r ≡ packNo form1 n p o ed (length out) → out′ ≡ packOut form1 n p o ed out → (r ≡ 0 → ⊥) → out′ ≡ out
+refused-same n p o ed out r out′ e f z = f ∙ sym (out-refused form1 n p o ed out (λ k. z (e ∙ k)))

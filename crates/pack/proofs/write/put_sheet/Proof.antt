@@ -1,0 +1,44 @@
+use native.Mathlib.Omega.{arith}
+use Rattle.pack.proofs.PackedLaws.{sheet-size}
+use borrow.Author.Needs.{needs}
+use Rattle.pack.proofs.write.put_sheet.Statement.{statement}
+use Rattle.pack.proofs.write.put_sheet.Tie as tie
+
+put-front-requires : tie.Need-put-front-requires
+put-front-requires c κs = (omega arith, omega (arith, sheet-size (c .before .args .n)))
+
+put-ranks-requires : tie.Need-put-ranks-requires
+put-ranks-requires c κs = (omega arith, omega (arith, sheet-size (c .before .before .before .before .args .n)), c .before .before .before .before .pre .1)
+
+nodes-for-requires : tie.Need-nodes-for-requires
+nodes-for-requires c κs = search needs
+
+put-nodes-requires : tie.Need-put-nodes-requires
+put-nodes-requires c κs = (omega arith, c .before .nodes-for .ensures, omega (arith, sheet-size (c .before .before .before .before .before .before .before .before .args .n)))
+
+put-trailer-requires : tie.Need-put-trailer-requires
+put-trailer-requires c κs = search needs
+
+same-length : tie.Need-same-length
+same-length c = search needs
+
+returns : tie.Need-returns
+returns c =
+    let g = c .before .put-trailer in
+    let x = c .before .before .before .before .put-nodes in
+    let r = c .before .before .before .before .before .before .before .before .put-ranks in
+    let f = c .before .before .before .before .before .before .before .before .before .before .before .put-front in
+    let s = c .before .before .before .before .before .before .before .before .before .before .before .before .before in
+    g .ensures _ _ (x .ensures _ _ (s .pre .1) (r .ensures _ (f .ensures)))
+
+pub put-sheet-spec : {M : Type 1} → statement M
+put-sheet-spec =
+    tie.close
+    (tie.spec
+    put-front-requires
+    put-ranks-requires
+    nodes-for-requires
+    put-nodes-requires
+    put-trailer-requires
+    same-length
+    returns)

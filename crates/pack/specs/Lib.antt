@@ -1,0 +1,4 @@
+pub mod Tree
+pub mod Order
+pub mod Packed
+pub mod Pack

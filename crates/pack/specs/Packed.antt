@@ -1,0 +1,67 @@
+-- The sheet that the packer writes, word by word: points, order, rank, nodes, trailer. Everywhere p are the point words and o is the order list, of n points.
+use mathlib.Core.Path.{_≡_}
+use mathlib.Core.Bool.{cond}
+use mathlib.Core.List.{List}
+use Prim.Native.Nat.{ℕ, zero, suc, _+_, _*_, _-_, _/_, _%_, _<_}
+use lib.Dec.{eqb, ltb}
+use lib.IntN.{ℤ, pos}
+use Rattle.words.specs.Word.{at, num}
+use Rattle.words.specs.All.{tab}
+use Rattle.sheet.specs.Layout.{rootWord}
+use Rattle.sheet.specs.Boxes.{best, partOf}
+use Rattle.pack.specs.Tree.{nodesFor, planOf, planCount}
+use Rattle.sheet.specs.declared.Due.{Due}
+use Rattle.pack.specs.Order.{placeIn}
+
+-- "points, 3n words: id, x, y"; "order, n words: the position standing at each place; rank, n words: the place of each position"
+unfoldable pub flatWord : List ℤ → List ℤ → ℕ → ℕ → ℤ
+flatWord p o n i = cond (ltb i (3 * n)) (at p i) (cond (ltb i (4 * n)) (at o (i - 3 * n)) (pos (placeIn o (i - 4 * n) n)))
+
+-- the coordinate that side q bounds of the point at place k: x for sides 0 and 2, y for 1 and 3
+unfoldable pub coordIn : List ℤ → List ℤ → ℕ → ℕ → ℤ
+coordIn p o q k = at p (3 * num (at o k) + 1 + q % 2)
+
+-- "A box is the tightest one: least and greatest x and y of the points below it": side q of node j, which stands on level l
+unfoldable pub boxSide : List ℤ → List ℤ → ℕ → ℕ → ℕ → ℕ → ℤ
+boxSide p o n q zero j = best q (coordIn p o q) (planOf n j .next) (planCount (planOf n j) - 1)
+boxSide p o n q (suc l) j = best q (boxSide p o n q l) (planOf n j .next) (planCount (planOf n j) - 1)
+
+-- "nodes, 7m words: level, first, count, xmin, ymin, xmax, ymax": word f of node j
+unfoldable pub nodeWord : List ℤ → List ℤ → ℕ → ℕ → ℕ → ℤ
+nodeWord p o n j f =
+    cond (eqb f 0) (pos (planOf n j .level))
+    (cond (eqb f 1) (pos (planOf n j .next))
+    (cond (eqb f 2) (pos (planCount (planOf n j))) (boxSide p o n (f - 3) (planOf n j .level) j)))
+
+-- word i, before the trailer
+unfoldable pub bodyWord : List ℤ → List ℤ → ℕ → ℕ → ℤ
+bodyWord p o n i = cond (ltb i (5 * n)) (flatWord p o n i) (nodeWord p o n ((i - 5 * n) / 7) ((i - 5 * n) % 7))
+
+-- "trailer, 6 words, pointing back: span 5n+7m (words back to the start), root (7 words back, or 0 when m is 0), n, m, edition, form number 1"
+unfoldable pub trailerWord : ℕ → ℕ → ℕ → ℕ → ℤ
+trailerWord n m ed t =
+    cond (eqb t 0) (pos (5 * n + 7 * m)) (cond (eqb t 1) (pos (rootWord m)) (cond (eqb t 2) (pos n) (cond (eqb t 3) (pos m) (cond (eqb t 4) (pos ed) (pos 1)))))
+
+-- word i of the sheet
+unfoldable pub packWord : List ℤ → List ℤ → ℕ → ℕ → ℕ → ℤ
+packWord p o n ed i =
+    cond (ltb i (5 * n + 7 * nodesFor n)) (bodyWord p o n i) (trailerWord n (nodesFor n) ed (i - (5 * n + 7 * nodesFor n)))
+
+-- "A sheet is exactly span+6 words"
+unfoldable pub sheetSize : ℕ → ℕ
+sheetSize n = 5 * n + 7 * nodesFor n + 6
+
+unfoldable pub packed : List ℤ → List ℤ → ℕ → ℕ → List ℤ
+packed p o n ed = tab (sheetSize n) (packWord p o n ed)
+
+-- The first i words of w are f 0, f 1, ..: how far the functions that write have come.
+pub record Holds (w : List ℤ) (f : ℕ → ℤ) (i : ℕ) : Type 0 where
+  pub word : (k : ℕ) → k < i → at w k ≡ f k
+
+-- Word f of a node of which d is planned, as it is made from a sheet w that is written up to it: a leaf's box from the points, any other from the boxes of
+-- the nodes that it covers. `proofs/PackedLaws` shows that it is `nodeWord`.
+unfoldable pub nodeRead : List ℤ → ℕ → Due → ℕ → ℤ
+nodeRead w n d f =
+    cond (eqb f 0) (pos (d .level))
+    (cond (eqb f 1) (pos (d .next))
+    (cond (eqb f 2) (pos (planCount d)) (best (f - 3) (partOf w n (eqb (d .level) 0) (f - 3)) (d .next) (planCount d - 1))))

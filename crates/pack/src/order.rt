@@ -1,0 +1,27 @@
+// The order list.
+ghost use mathlib.Core.Path.{_≡_};
+ghost use mathlib.Core.Bool.{false};
+ghost use Prim.Native.Nat.{ℕ, _≤_, _<_};
+ghost use lib.ListN.{length, getD};
+ghost use Rattle.pack.specs.Order.{orderListOk};
+
+// Whether the order list is a permutation of 0 to n - 1: each word is one of these, and none is there twice. `seen` has a mark for each position, none
+// set.
+pub(crate) fn each_once(o: &[i32], n: usize, seen: &mut [bool]) -> bool
+    requires { ⌜ (n ≤ length (now seen)) × ((i : ℕ) → i < n → getD (now seen) i false ≡ false) ⌝ }
+    ensures { λ r. ⌜ r ≡ orderListOk (now (o .entry)) n ⌝ }
+{
+    let mut k = 0;
+    while k < n {
+        if !words::below_at(o, k, n) {
+            return false;
+        }
+        let i = words::num_at(o, k);
+        if seen[i] {
+            return false;
+        }
+        seen[i] = true;
+        k += 1;
+    }
+    true
+}
