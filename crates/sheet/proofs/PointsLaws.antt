@@ -11,7 +11,7 @@ use lib.ListN.{length}
 use lib.Signed.{ltZ}
 use borrow.Author.Tests.{ltb-true, ne-eqb}
 use Rattle.integers.specs.Bools.{and-left, and-right}
-use Rattle.plane.specs.Point.{Point, pointAt}
+use Rattle.plane.specs.Point.{Point, pointAt, spotAt}
 use Rattle.words.specs.Word.{num, before}
 use Rattle.words.specs.Range.{idWord, coordWord, idOk}
 use Rattle.words.proofs.AllLaws.{all-at}
@@ -19,7 +19,7 @@ use Rattle.words.proofs.TabLaws.{length-tab, at-tab}
 use Rattle.words.proofs.RangeLaws.{id-num, id-is, id-bounds}
 use Rattle.sheet.specs.Layout.{points}
 use Rattle.sheet.specs.Points.{idAt, xAt, yAt, fieldsOk, risesOk, pointOk, pointsOk}
-use Rattle.sheet.specs.Places.{pointOf, pointsOf}
+use Rattle.sheet.specs.Places.{spotOf, pointOf, pointsOf}
 use Rattle.sheet.specs.Open.{Opens}
 
 pub length-points : (w : List ℤ) → length (pointsOf w) ≡ points w
@@ -67,3 +67,10 @@ module _ {w : List ℤ} {n m : ℕ} (o : Opens w n m) where
       let e : i + 1 - 1 ≡ i = omega arith in
       let b′ : before (idAt w i) (idAt w (i + 1)) ≡ true = subst (λ (k : ℕ). before (idAt w k) (idAt w (i + 1)) ≡ true) e b in
       before-num (idAt w i) (idAt w (i + 1)) (id-is _ (id-word-at i (omega arith))) (id-is _ (id-word-at (i + 1) h)) b′
+
+-- the id and the place of the record at a position
+pub id-of : (w : List ℤ) (i : ℕ) → i < points w → Rattle.plane.specs.Point.idAt (pointsOf w) i ≡ num (idAt w i)
+id-of w i h = ap (λ (p : Point). p .id) (point-at w i h)
+
+pub spot-of : (w : List ℤ) (i : ℕ) → i < points w → spotAt (pointsOf w) i ≡ spotOf w i
+spot-of w i h = ap (λ (p : Point). p .spot) (point-at w i h)
