@@ -1,4 +1,4 @@
--- Every place is below the root of a right table, and below one node of each level at most.
+-- Every place is below the root of a right table, and below exactly one node of each level.
 -- Assumes nothing.
 use mathlib.Core.Path.{_≡_, refl, sym, ap, subst, _∙_}
 use mathlib.Core.Bool.{Bool, true, false, not, cond, _&&_, _||_, Bool·beq}
@@ -6,6 +6,7 @@ use mathlib.Core.Logic.{_⊎_, inl, inr, ⊎-elim}
 use mathlib.Core.List.{List}
 use Prim.Native.Nat.{ℕ, zero, suc, _+_, _-_, _<_, _≤_}
 use native.Mathlib.Omega.{arith}
+use native.Mathlib.Nat.{eq-or-lt-of-le}
 use lib.Dec.{ltb, eqb}
 use lib.IntN.{ℤ, pos}
 use borrow.Author.Tests.{ltb-true, ltb-false, eqb-true, eqb-false, eq-eqb, ne-eqb}
@@ -36,6 +37,14 @@ beq-left : (a b : Bool) → Bool·beq a b ≡ true → b ≡ true → a ≡ true
 beq-left true b e f = refl
 beq-left false true e f = e
 beq-left false false e f = f
+
+-- place k is below one node of level l, and below no other
+pub record OneNode (w : List ℤ) (n m l k : ℕ) : Type 0 where
+  pub node : ℕ
+  pub here : node < m
+  pub level : levelOf w n node ≡ l
+  pub below : Below w n l node k
+  pub only : (j : ℕ) → j < m → levelOf w n j ≡ l → Below w n l j k → j ≡ node
 
 module _ (w : List ℤ) (n m : ℕ) (ok : tableOk w n m ≡ true) where
   pub one-at : (j : ℕ) → j < m → isLast w n m j ≡ true → j + 1 ≡ m → dueOf w n j .head ≡ j
@@ -200,3 +209,22 @@ module _ (w : List ℤ) (n m : ℕ) (ok : tableOk w n m ≡ true) where
       let y = child w n m ok j l hj ej (b .0) (b .1) (b .2) in
       let e = below-one l (a .0) (b .0) k (omega (arith, x .1)) (omega (arith, y .1)) (x .0) (y .0) (a .3) (b .3) in
       apart i j (a .0) hi hj (ei ∙ sym ej) (a .1) (a .2) (omega (arith, b .1, e)) (omega (arith, b .2, e))
+
+  -- what is below a node is below one of each level under it
+  down : (k t j : ℕ) → j < m → levelOf w n j ≡ t → Below w n t j k → (l : ℕ) → l ≤ t → OneNode w n m l k
+  unfolding Below
+  down k zero j h e b l a =
+      let z : l ≡ 0 = omega arith in
+      subst (λ (i : ℕ). OneNode w n m i k) (sym z) (record { node = j; here = h; level = e; below = b; only = λ i g f c. below-one 0 i j k g h f e c b })
+  down k (suc t) j h e b l a =
+      ⊎-elim
+      (λ (q : l ≡ suc t).
+      subst (λ (i : ℕ). OneNode w n m i k) (sym q) (record { node = j; here = h; level = e; below = b; only = λ i g f c. below-one (suc t) i j k g h f e c b }))
+      (λ (q : l < suc t).
+      let x = child w n m ok j t h e (b .0) (b .1) (b .2) in
+      down k t (b .0) (omega (arith, x .1)) (x .0) (b .3) l (omega arith))
+      (eq-or-lt-of-le a)
+
+  -- so a place is below exactly one node of each level up to the root's
+  pub one-node : 0 < m → (k : ℕ) → k < n → (l : ℕ) → l ≤ levelOf w n (m - 1) → OneNode w n m l k
+  one-node h k b l a = down k (levelOf w n (m - 1)) (m - 1) (omega arith) refl (root-below h k b) l a

@@ -31,6 +31,13 @@ pub point-at : (w : List ℤ) (i : ℕ) → i < points w → pointAt (pointsOf w
 unfolding pointsOf
 point-at w i h = at-tab (points w) (pointOf w) _ i h
 
+-- the id and the place of the record at a position
+pub id-of : (w : List ℤ) (i : ℕ) → i < points w → Rattle.plane.specs.Point.idAt (pointsOf w) i ≡ num (idAt w i)
+id-of w i h = ap (λ (p : Point). p .id) (point-at w i h)
+
+pub spot-of : (w : List ℤ) (i : ℕ) → i < points w → spotAt (pointsOf w) i ≡ spotOf w i
+spot-of w i h = ap (λ (p : Point). p .spot) (point-at w i h)
+
 before-num : (a b : ℤ) → a ≡ pos (num a) → b ≡ pos (num b) → before a b ≡ true → num a < num b
 unfolding before num
 before-num (pos a) (pos b) e f t = ltb-true a b t
@@ -53,24 +60,34 @@ module _ {w : List ℤ} {n m : ℕ} (o : Opens w n m) where
       let c = coordWord (o .lim .coordinate) (yAt w i) in
       and-left a b (and-left (a && b) c (and-left (a && b && c) (risesOk w i) (all-at (pointOk (o .lim) w) n (o .pointed) i h)))
 
-  pub id-low : (i : ℕ) → i < n → 0 < num (idAt w i)
-  id-low i h = let b = id-bounds (num (idAt w i)) (id-num (idAt w i) (id-word-at i h)) in omega arith
+  low : (i : ℕ) → i < n → 0 < num (idAt w i)
+  low i h = let b = id-bounds (num (idAt w i)) (id-num (idAt w i) (id-word-at i h)) in omega arith
 
-  pub id-high : (i : ℕ) → i < n → num (idAt w i) ≤ 2000000000
-  id-high i h = id-bounds (num (idAt w i)) (id-num (idAt w i) (id-word-at i h)) .1
+  high : (i : ℕ) → i < n → num (idAt w i) ≤ 2000000000
+  high i h = id-bounds (num (idAt w i)) (id-num (idAt w i) (id-word-at i h)) .1
 
-  pub id-rises : (i : ℕ) → i + 1 < n → num (idAt w i) < num (idAt w (i + 1))
+  rises : (i : ℕ) → i + 1 < n → num (idAt w i) < num (idAt w (i + 1))
   unfolding pointsOk pointOk risesOk
-  id-rises i h =
+  rises i h =
       let r : risesOk w (i + 1) ≡ true = and-right (fieldsOk (o .lim) w (i + 1)) (risesOk w (i + 1)) (all-at (pointOk (o .lim) w) n (o .pointed) (i + 1) h) in
       let b : before (idAt w (i + 1 - 1)) (idAt w (i + 1)) ≡ true = rw (ne-eqb (i + 1) 0 (λ z. omega arith)) at r in
       let e : i + 1 - 1 ≡ i = omega arith in
       let b′ : before (idAt w i) (idAt w (i + 1)) ≡ true = subst (λ (k : ℕ). before (idAt w k) (idAt w (i + 1)) ≡ true) e b in
       before-num (idAt w i) (idAt w (i + 1)) (id-is _ (id-word-at i (omega arith))) (id-is _ (id-word-at (i + 1) h)) b′
 
--- the id and the place of the record at a position
-pub id-of : (w : List ℤ) (i : ℕ) → i < points w → Rattle.plane.specs.Point.idAt (pointsOf w) i ≡ num (idAt w i)
-id-of w i h = ap (λ (p : Point). p .id) (point-at w i h)
+  -- a position of the list is one of the n
+  position : (i : ℕ) → i < length (pointsOf w) → i < n
+  position i h = omega (arith, length-points w, o .n-is)
 
-pub spot-of : (w : List ℤ) (i : ℕ) → i < points w → spotAt (pointsOf w) i ≡ spotOf w i
-spot-of w i h = ap (λ (p : Point). p .spot) (point-at w i h)
+  is : (i : ℕ) → i < length (pointsOf w) → Rattle.plane.specs.Point.idAt (pointsOf w) i ≡ num (idAt w i)
+  is i h = id-of w i (omega (arith, length-points w))
+
+  -- the ids of the list of points, as `Rising` of the list's crate has them
+  pub id-rises : (i : ℕ) → i + 1 < length (pointsOf w) → Rattle.plane.specs.Point.idAt (pointsOf w) i < Rattle.plane.specs.Point.idAt (pointsOf w) (i + 1)
+  id-rises i h = rw (is i (omega arith), is (i + 1) h) (rises i (position (i + 1) h))
+
+  pub id-low : (i : ℕ) → i < length (pointsOf w) → 0 < Rattle.plane.specs.Point.idAt (pointsOf w) i
+  id-low i h = rw (is i h) (low i (position i h))
+
+  pub id-high : (i : ℕ) → i < length (pointsOf w) → Rattle.plane.specs.Point.idAt (pointsOf w) i ≤ 2000000000
+  id-high i h = rw (is i h) (high i (position i h))
