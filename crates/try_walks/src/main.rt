@@ -1,0 +1,104 @@
+// Runs the ring walk on the pairs of sheets that stand in its input, and prints what each answers.
+
+// The most words that a stored sheet has.
+const MOST: usize = 8192;
+
+fn print(n: u64) {
+    io::write_all(libc::STDOUT_FILENO, b" ");
+    io::print_decimal(libc::STDOUT_FILENO, n);
+}
+
+fn colon() {
+    io::write_all(libc::STDOUT_FILENO, b":");
+}
+
+fn end_line() {
+    io::write_all(libc::STDOUT_FILENO, b"\n");
+}
+
+fn print_hit(h: walk::Hit) {
+    match h {
+        walk::Hit::Clear => {
+            io::write_all(libc::STDOUT_FILENO, b" clear");
+        }
+        walk::Hit::Point(b) => {
+            io::write_all(libc::STDOUT_FILENO, b" point");
+            print(b.set as u64);
+            print(b.position as u64);
+        }
+        walk::Hit::Side {
+            set: set,
+            node: node,
+        } => {
+            io::write_all(libc::STDOUT_FILENO, b" side");
+            print(set as u64);
+            print(node as u64);
+        }
+    }
+}
+
+fn print_answer(r: ring::Walked) {
+    match r {
+        ring::Walked::Refused(number) => {
+            io::write_all(libc::STDOUT_FILENO, b" refused");
+            print(number as u64);
+        }
+        ring::Walked::Done(a) => {
+            let h = a.hit;
+            print_hit(h);
+            print(a.opened);
+        }
+    }
+    end_line();
+}
+
+// A position of Q and one of P, and their ring walk.
+fn ring_case(p: &[i32], q: &[i32]) {
+    let j = cases::next_or_largest();
+    let i = cases::next_or_largest();
+    io::write_all(libc::STDOUT_FILENO, b"ring");
+    print(j as u64);
+    print(i as u64);
+    colon();
+    print_answer(ring::ringwalk::ring_walk(p, q, j, i));
+}
+
+fn ring_cases(p: &[i32], q: &[i32], count: usize) {
+    let mut k = 0;
+    while k < count {
+        ring_case(p, q);
+        k += 1;
+    }
+}
+
+// The lengths of two sheets, how many walks are asked, the sheets, and the walks.
+fn walk_case() {
+    let np = cases::next_up_to(MOST);
+    let nq = cases::next_up_to(MOST);
+    let count = cases::next_count();
+    let mut p = [0i32; MOST];
+    let mut q = [0i32; MOST];
+    cases::fill(&mut p, np);
+    cases::fill(&mut q, nq);
+    ring_cases(&p[..np], &q[..nq], count);
+}
+
+// The next case, and whether there was one.
+fn one() -> bool {
+    let kind = cases::next_count();
+    if kind == 1 {
+        walk_case();
+        return true;
+    }
+    false
+}
+
+fn main() {
+    let mut left: u32 = 100000;
+    while left > 0 {
+        if !one() {
+            return;
+        }
+        left -= 1;
+    }
+}
