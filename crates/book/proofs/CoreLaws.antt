@@ -3,14 +3,16 @@
 use mathlib.Core.Path.{_≡_, refl, sym, ap, ap₂, _∙_}
 use mathlib.Core.Bool.{Bool, true, false, not, cond, _&&_, _||_, and-false, true≢false}
 use mathlib.Core.Logic.{_⊎_, ⊎-elim}
-use mathlib.Core.List.{List, [], _∷_, map}
-use Prim.Native.Nat.{ℕ, zero, suc, _+_, _-_, _≤_, _<_}
+use mathlib.Core.List.{List, [], _∷_, _++_, map}
+use Prim.Native.Nat.{ℕ, zero, suc, _+_, _*_, _-_, _^_, _≤_, _<_}
 use native.Mathlib.Omega.{arith}
 use native.Mathlib.Numerals.{add-one}
 use lib.Dec.{eqb, ltb}
-use lib.ListN.{length, take, drop, getD, length-map}
-use lib.Seq.{drop-cons, paste}
-use borrow.Author.Tests.{lt-ltb, le-ltb, not-true, not-false}
+use lib.ListN.{length, take, drop, getD, length-map, length-append, length-drop}
+use lib.Seq.{drop-cons, paste, length-take-le}
+use borrow.Author.Tests.{ltb-false, lt-ltb, le-ltb, not-true, not-false}
+use Rattle.integers.specs.Bools.{decide}
+use Rattle.words.specs.Range.{idOk}
 use Rattle.list.specs.declared.Key.{Key}
 use Rattle.list.specs.declared.Pair.{Pair}
 use Rattle.list.specs.declared.Page.{Page}
@@ -18,7 +20,9 @@ use Rattle.list.specs.Pairs.{none, keyOf, follows, ascends, lastOr}
 use Rattle.list.specs.Pages.{sourceNo, pagePairs}
 use Rattle.book.specs.declared.Book.{Book}
 use Rattle.book.specs.declared.Decided.{Decided}
-use Rattle.book.specs.Rules.{lastKey, lastSlot, idOk, idsOk, sameKey, pageBad, firstNo, takeNoAt, takeNo, advanced, decidedAt, decided, taken, takenSlots, askedAt, asked}
+use Rattle.book.specs.declared.Taken.{Taken}
+use Rattle.book.specs.declared.TakenArray.{TakenArray}
+use Rattle.book.specs.Rules.{lastKey, lastSlot, idsOk, sameKey, pageBad, firstNo, takeNoAt, takeNo, advanced, decidedAt, decided, taken, takenSlots, askedAt, asked, lentOf, withSlots, takenArray}
 use Rattle.book.proofs.TakeLaws.{no-refusal-at, by-zero, by-number, same-key, passed, or-zero}
 
 -- an array of records in a record is kept as a list of what makes them: it is as long
@@ -236,3 +240,29 @@ answer-is b s g d e = ap (λ (x : Decided). x .taken) e
 pub slots-are : (b : Book) (s : List Pair) (g : Page) (d : Decided) → d ≡ decided b s g → paste s (b .held) (g .pairs) (d .n) ≡ takenSlots b s g
 unfolding takenSlots
 slots-are b s g d e = ap (λ (x : Decided). paste s (b .held) (g .pairs) (x .n)) e
+
+-- ---- a part of an array, lent
+
+lent-few : (len m : ℕ) → m ≡ lentOf len → m ≤ 64
+unfolding lentOf
+lent-few len m e =
+    ⊎-elim
+    (λ (t : ltb 64 len ≡ true). let z : m ≡ 64 = e ∙ (rw t) in omega arith)
+    (λ (t : ltb 64 len ≡ false). let z : m ≡ len = e ∙ (rw t) in omega (arith, ltb-false 64 len t))
+    (decide (ltb 64 len))
+
+pub lent-room : (len m : ℕ) → m ≡ lentOf len → (m < 2 ^ 64) × (m * 8 < 2 ^ 63)
+lent-room len m e = let h = lent-few len m e in (omega arith, omega arith)
+
+pub front-long : (l : List Pair) (len m : ℕ) → length l ≡ 64 → m ≡ lentOf len → length (take m l) ≡ m
+front-long l len m long e = length-take-le m l (omega (arith, lent-few len m e))
+
+pub array-long : (l : List Pair) (len m : ℕ) (zs : List Pair) → length l ≡ 64 → m ≡ lentOf len → length zs ≡ length (take m l) → length (zs ++ drop m l) ≡ 64
+array-long l len m zs long e h = length-append zs (drop m l) ∙ omega (arith, length-drop m l, front-long l len m long e, lent-few len m e)
+
+pub array-is : (l : List Pair) (len : ℕ) (b : Book) (g : Page) (m : ℕ) (r : Taken) (zs : List Pair) (t : TakenArray) → m ≡ lentOf len
+    → r ≡ taken b (take m l) g → zs ≡ takenSlots b (take m l) g → t ≡ withSlots (zs ++ drop m l) r → t ≡ takenArray l len b g
+unfolding takenArray
+array-is l len b g m r zs t e x y z =
+    z ∙ ap₂ (λ (u : List Pair) (v : Taken). withSlots (u ++ drop m l) v) y x
+    ∙ ap (λ (k : ℕ). withSlots (takenSlots b (take k l) g ++ drop k l) (taken b (take k l) g)) e

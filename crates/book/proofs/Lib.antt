@@ -1,4 +1,5 @@
 pub mod TakeLaws
 pub mod CoreLaws
+pub mod LocalRow
 pub mod Once
 pub mod Story

@@ -9,10 +9,12 @@ use Prim.Native.Nat.{ℕ, zero, suc, _+_, _-_, _≤_, _<_}
 use native.Mathlib.Omega.{arith}
 use lib.ListN.{length, take, drop, length-take, length-drop, take-append-drop}
 use lib.Seq.{paste, take-paste, take-add, take-length, length-paste}
-use lib.Dec.{eqb, ltb, leb}
-use borrow.Author.Tests.{ltb-true, ltb-false, lt-ltb, le-ltb, le-leb, ne-eqb, not-true}
+use lib.Dec.{eqb, ltb}
+use borrow.Author.Tests.{ltb-true, ltb-false, le-ltb, ne-eqb, not-true}
 use Rattle.integers.specs.Bools.{decide, and-left, and-right, and-both}
 use Rattle.plane.specs.Point.{idAt}
+use Rattle.words.specs.Range.{idOk}
+use Rattle.words.proofs.RangeLaws.{id-make}
 use Rattle.list.specs.declared.Key.{Key}
 use Rattle.list.specs.declared.Pair.{Pair}
 use Rattle.list.specs.declared.Source.{Source}
@@ -28,7 +30,7 @@ use Rattle.book.specs.declared.Book.{Book}
 use Rattle.book.specs.declared.Begun.{Begun}
 use Rattle.book.specs.declared.Begun.the-variants as begun
 use Rattle.book.specs.declared.Next.the-variants as next
-use Rattle.book.specs.Rules.{beginNo, begunBy, begunBook, begunFor, lastKey, asked, idOk, idsOk, pageBad, takeNo, advanced, taken, takenSlots}
+use Rattle.book.specs.Rules.{beginNo, begunBy, begunBook, begunFor, lastKey, asked, idsOk, pageBad, takeNo, advanced, taken, takenSlots}
 use Rattle.book.specs.World.{World, listOf, Honest, Reached, began, took, lent, ownPage, served}
 use Rattle.book.proofs.TakeLaws.{Passed, passed, taken-book, taken-slots, refused-book, refused-slots, or-zero, no-refusal, or-both-false, same-length, closed-no, source-same, same-book-source}
 use Rattle.book.proofs.Once.{last-held, next-is-last}
@@ -60,8 +62,7 @@ ids-take (suc n) (v ∷ l) e =
     and-both x (idsOk (take n l)) (and-left x (idsOk l) e) (ids-take n l (and-right x (idsOk l) e))
 
 id-ok : (id : ℕ → ℕ) (n i : ℕ) → Rising id n → i < n → idOk (id i) ≡ true
-unfolding idOk
-id-ok id n i r h = and-both (ltb 0 (id i)) (leb (id i) 2000000000) (lt-ltb 0 (id i) (r .low i h)) (le-leb (id i) 2000000000 (r .high i h))
+id-ok id n i r h = id-make (id i) (r .low i h) (r .high i h)
 
 -- ---- a book that holds the first pairs of a list
 

@@ -1,10 +1,11 @@
 -- The order book: begin, the next key, and what taking a page decides, stores and hands back.
 use mathlib.Core.Bool.{Bool, true, false, cond, not, _&&_, _||_}
-use mathlib.Core.List.{List, [], _∷_}
+use mathlib.Core.List.{List, [], _∷_, _++_}
 use Prim.Native.Nat.{ℕ, zero, suc, _+_, _-_}
-use lib.Dec.{eqb, ltb, leb}
+use lib.Dec.{eqb, ltb}
 use lib.Seq.{paste}
-use lib.ListN.{length, getD}
+use lib.ListN.{length, take, drop, getD}
+use Rattle.words.specs.Range.{idOk, editionOk}
 use Rattle.list.specs.declared.Key.{Key}
 use Rattle.list.specs.declared.Pair.{Pair}
 use Rattle.list.specs.declared.Source.{Source}
@@ -19,12 +20,9 @@ use Rattle.book.specs.declared.Next.the-variants as next
 use Rattle.book.specs.declared.Asked.{Asked}
 use Rattle.book.specs.declared.Taken.{Taken}
 use Rattle.book.specs.declared.Decided.{Decided}
+use Rattle.book.specs.declared.TakenArray.{TakenArray}
 
 -- ---- begin
-
--- edition 1 to 1,000,000,000
-unfoldable pub editionOk : ℕ → Bool
-editionOk e = ltb 0 e && leb e 1000000000
 
 -- 3: an edition out of range
 unfoldable pub beginNo : Source → ℕ
@@ -84,10 +82,7 @@ asked b slots = askedAt b (length slots) (lastKey (b .held) slots)
 
 -- ---- take
 
--- ids are 1 to 2,000,000,000
-unfoldable pub idOk : ℕ → Bool
-idOk n = ltb 0 n && leb n 2000000000
-
+-- every id is 1 to 2,000,000,000
 unfoldable pub idsOk : List Pair → Bool
 idsOk [] = true
 idsOk (v ∷ l) = idOk (v .q) && idOk (v .p) && idsOk l
@@ -144,3 +139,17 @@ taken b slots g = decided b slots g .taken
 -- the slots after it: the page's pairs stand from the held ones on, and every other slot is as it was
 unfoldable pub takenSlots : Book → List Pair → Page → List Pair
 takenSlots b slots g = paste slots (b .held) (g .pairs) (decided b slots g .n)
+
+-- ---- a part of an array, lent
+
+-- how many of 64 slots are lent: `len`, or all where it exceeds 64
+unfoldable pub lentOf : ℕ → ℕ
+lentOf len = cond (ltb 64 len) 64 len
+
+abbrev pub withSlots : List Pair → Taken → TakenArray
+withSlots slots t = record { slots = slots; taken = t }
+
+-- `take` on the first so many slots of an array: the others are as they were
+unfoldable pub takenArray : List Pair → ℕ → Book → Page → TakenArray
+takenArray slots len b g =
+    withSlots (takenSlots b (take (lentOf len) slots) g ++ drop (lentOf len) slots) (taken b (take (lentOf len) slots) g)

@@ -8,7 +8,7 @@ ghost use mathlib.Core.Bool.{_&&_};
 ghost use Prim.Native.Nat.{_≤_, _<_};
 ghost use lib.ListN.{getD, take as taking};
 ghost use Rattle.list.specs.Pairs.{none, keyOf, ascends};
-ghost use Rattle.book.specs.Rules.{editionOk, begunFor, askedAt, asked, lastSlot, idOk, idsOk, sameKey, pageBad, takeNoAt, decidedAt, taken, takenSlots};
+ghost use Rattle.book.specs.Rules.{begunFor, askedAt, asked, lastSlot, idsOk, sameKey, pageBad, takeNoAt, decidedAt, taken, takenSlots, lentOf, withSlots, takenArray};
 
 // How many pairs are held, whether all are, and of what list.
 #[repr(C)]
@@ -49,20 +49,6 @@ pub struct Decided {
     pub taken: Taken,
 }
 
-// Whether an edition is in range.
-fn is_edition(e: u32) -> bool
-    ensures { λ r. ⌜ r ≡ editionOk e ⌝ }
-{
-    (0 < e) & (e <= 1000000000)
-}
-
-// Whether an id is in range.
-fn is_id(n: u32) -> bool
-    ensures { λ r. ⌜ r ≡ idOk n ⌝ }
-{
-    (0 < n) & (n <= 2000000000)
-}
-
 fn is_same(a: Key, b: Key) -> bool
     ensures { λ r. ⌜ r ≡ sameKey a b ⌝ }
 {
@@ -78,7 +64,7 @@ fn pairs_rise(key: Key, g: Page, n: usize) -> bool
     let mut k: usize = 0;
     while k < n {
         let v = list::key_of(g.pairs[k]);
-        if !(is_id(v.q) & is_id(v.p) & list::is_after(last, v)) {
+        if !(words::is_id(v.q) & words::is_id(v.p) & list::is_after(last, v)) {
             return false;
         }
         last = v;
@@ -197,7 +183,7 @@ impl Book {
     pub fn begin(source: Source) -> Begun
         ensures { λ r. ⌜ r ≡ begunFor source ⌝ }
     {
-        if is_edition(source.p_edition) & is_edition(source.q_edition) {
+        if words::is_edition(source.p_edition) & words::is_edition(source.q_edition) {
             let b = Book {
                 held: 0,
                 closed: false,
@@ -241,4 +227,47 @@ impl Book {
         }
         d.taken
     }
+}
+
+// 64 slots, and what `take` answered of those lent to it.
+pub struct TakenArray {
+    pub slots: [Pair; 64],
+    pub taken: Taken,
+}
+
+// How many of 64 slots are lent.
+fn lent_of(len: usize) -> usize
+    ensures { λ r. ⌜ r ≡ lentOf len ⌝ }
+{
+    if 64 < len {
+        return 64;
+    }
+    len
+}
+
+fn with_slots(slots: [Pair; 64], taken: Taken) -> TakenArray
+    ensures { λ r. ⌜ r ≡ withSlots slots taken ⌝ }
+{
+    TakenArray {
+        slots: slots,
+        taken: taken,
+    }
+}
+
+// `Book::take` on the first `len` of 64 slots, which are lent for the call and come back; on all 64 where `len` exceeds that. For callers that keep their slots by value.
+pub fn take_array(slots: [Pair; 64], len: usize, b: Book, page: Page) -> TakenArray
+    ensures { λ r. ⌜ r ≡ takenArray slots len b page ⌝ }
+{
+    let mut own = slots;
+    let n = lent_of(len);
+    let taken = b.take(&mut own[..n], page);
+    with_slots(own, taken)
+}
+
+// `Book::next_key` on the first `len` of 64 slots, which are lent for the call; on all 64 where `len` exceeds that.
+pub fn next_array(slots: [Pair; 64], len: usize, b: Book) -> Asked
+    ensures { λ r. ⌜ r ≡ asked b (taking (lentOf len) slots) ⌝ }
+{
+    let n = lent_of(len);
+    b.next_key(&slots[..n])
 }

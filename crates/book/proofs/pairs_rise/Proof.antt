@@ -8,7 +8,7 @@ use Rattle.book.proofs.pairs_rise.Statement.{statement}
 use Rattle.book.proofs.pairs_rise.Tie as tie
 use Rattle.book.proofs.pairs_rise.Reads as reads
 use Rattle.book.proofs.pairs_rise.Lts as lts
-use Rattle.book.proofs.is_id.Reads as is-id-reads
+use Rattle.words.proofs.is_id.Reads as is-id-reads
 use Rattle.list.proofs.is_after.Reads as is-after-reads
 use Rattle.list.proofs.key_of.Reads as key-of-reads
 

@@ -1,12 +1,13 @@
 use mathlib.Core.Path.{_≡_, refl, sym, ap₂, _∙_}
 use mathlib.Core.Bool.{Bool, _&&_}
-use Rattle.book.specs.Rules.{editionOk, beginNo, begunBy, begunBook, begunFor}
+use Rattle.words.specs.Range.{editionOk}
+use Rattle.book.specs.Rules.{beginNo, begunBy, begunBook, begunFor}
 use borrow.Author.Needs.{needs}
 use Rattle.book.proofs.Book.begin.Statement.{statement}
 use Rattle.book.proofs.Book.begin.Tie as tie
 use Rattle.book.proofs.Book.begin.Reads as reads
 use Rattle.book.proofs.Book.begin.Lts as lts
-use Rattle.book.proofs.is_edition.Reads as is-edition-reads
+use Rattle.words.proofs.is_edition.Reads as is-edition-reads
 
 is-edition-requires : tie.Need-is-edition-requires
 is-edition-requires c κs = search needs

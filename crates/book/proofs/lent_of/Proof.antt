@@ -1,0 +1,16 @@
+use mathlib.Core.Path.{_≡_, refl}
+use borrow.Author.Tests.{lt-ltb, le-ltb}
+use Rattle.book.specs.Rules.{lentOf}
+use Rattle.book.proofs.lent_of.Statement.{statement}
+use Rattle.book.proofs.lent_of.Tie as tie
+
+returns : tie.Need-returns
+unfolding lentOf
+returns c = rw (lt-ltb _ _ (c .if1 .taken))
+
+returns-2 : tie.Need-returns-2
+unfolding lentOf
+returns-2 c = rw (le-ltb _ _ (c .if1 .left))
+
+pub lent-of-spec : {M : Type 1} → statement M
+lent-of-spec = tie.close (tie.spec returns returns-2)
