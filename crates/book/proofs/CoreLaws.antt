@@ -22,7 +22,7 @@ use Rattle.book.specs.declared.Book.{Book}
 use Rattle.book.specs.declared.Decided.{Decided}
 use Rattle.book.specs.declared.Taken.{Taken}
 use Rattle.book.specs.declared.TakenArray.{TakenArray}
-use Rattle.book.specs.Rules.{lastKey, lastSlot, idsOk, sameKey, pageBad, firstNo, takeNoAt, takeNo, advanced, decidedAt, decided, taken, takenSlots, askedAt, asked, lentOf, withSlots, takenArray}
+use Rattle.book.specs.Rules.{lastKey, lastSlot, idsOk, sameKey, pageMost, pageBad, firstNo, takeNoAt, takeNo, accepted, refused, decidedAt, decided, taken, takenSlots, askedAt, asked, lentOf, withSlots, takenArray}
 use Rattle.book.proofs.TakeLaws.{no-refusal-at, by-zero, by-number, same-key, passed, or-zero}
 
 -- an array of records in a record is kept as a list of what makes them: it is as long
@@ -126,22 +126,22 @@ decided-read b l g at v e f = ap (λ (k : Key). decidedAt b (length l) k g) (key
 
 -- ---- 15
 
-pub bad-many : (g : Page) → 16 < g .count → true ≡ pageBad g
+pub bad-many : (g : Page) → pageMost < g .count → true ≡ pageBad g
 unfolding pageBad
-bad-many g h = rw (lt-ltb 16 (g .count) h)
+bad-many g h = rw (lt-ltb pageMost (g .count) h)
 
 either : (i a x : Bool) → (not (i && a) || x) ≡ (not i || not a || x)
 either false a x = refl
 either true false x = refl
 either true true x = refl
 
-pub bad-is : (g : Page) (r : Bool) → g .count ≤ 16 → r ≡ rises (g .key) (take (g .count) (g .pairs)) → (not r || (eqb (g .count) 0 && not (g .end))) ≡ pageBad g
+pub bad-is : (g : Page) (r : Bool) → g .count ≤ pageMost → r ≡ rises (g .key) (take (g .count) (g .pairs)) → (not r || (eqb (g .count) 0 && not (g .end))) ≡ pageBad g
 unfolding pageBad pagePairs
 bad-is g r h e =
     let x4 = eqb (g .count) 0 && not (g .end) in
     let i = idsOk (take (g .count) (g .pairs)) in
     let a = ascends (g .key) (take (g .count) (g .pairs)) in
-    ap (λ (y : Bool). not y || x4) e ∙ either i a x4 ∙ sym (ap (λ (y : Bool). y || not i || not a || x4) (le-ltb 16 (g .count) h))
+    ap (λ (y : Bool). not y || x4) e ∙ either i a x4 ∙ sym (ap (λ (y : Bool). y || not i || not a || x4) (le-ltb pageMost (g .count) h))
 
 -- ---- the numbers, in order
 
@@ -209,21 +209,19 @@ module _ (b : Book) (len : ℕ) (k : Key) (g : Page) where
 
 -- ---- all that is decided
 
-pub decided-no : (b : Book) (len : ℕ) (k : Key) (g : Page) (m : ℕ) → m ≡ takeNoAt b len k g → (m ≡ 0 → ⊥) → record { n = 0; taken = record { number = m; book = b } } ≡ decidedAt b len k g
+pub decided-no : (b : Book) (len : ℕ) (k : Key) (g : Page) (m : ℕ) → m ≡ takeNoAt b len k g → (m ≡ 0 → ⊥) → refused m b ≡ decidedAt b len k g
 unfolding decidedAt
-decided-no b len k g m e h =
-    ap (λ (x : ℕ). record { n = 0; taken = record { number = x; book = b } }) e ∙ sym (by-number (takeNoAt b len k g) b g (λ z. h (e ∙ z)))
+decided-no b len k g m e h = ap (λ (x : ℕ). refused x b) e ∙ sym (by-number (takeNoAt b len k g) b g (λ z. h (e ∙ z)))
 
-pub decided-yes : (b : Book) (len : ℕ) (k : Key) (g : Page) → takeNoAt b len k g ≡ 0
-    → record { n = g .count; taken = record { number = 0; book = record { held = b .held + g .count; closed = g .end; source = b .source } } } ≡ decidedAt b len k g
-unfolding decidedAt advanced
+pub decided-yes : (b : Book) (len : ℕ) (k : Key) (g : Page) → takeNoAt b len k g ≡ 0 → accepted b g ≡ decidedAt b len k g
+unfolding decidedAt
 decided-yes b len k g e = sym (by-zero (takeNoAt b len k g) b g e)
 
 -- ---- what the loop of stores rests on
 
 -- each pair that is appended is one of the sixteen, and has its slot
 pub fits-each : (b : Book) (s : List Pair) (g : Page) (k : ℕ) → k < decided b s g .n → (k < 16) × (b .held + k < length s)
-unfolding decided
+unfolding decided accepted refused
 fits-each b s g k h =
     ⊎-elim
     (λ (e : takeNo b s g ≡ 0).

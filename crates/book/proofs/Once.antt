@@ -21,7 +21,7 @@ use Rattle.book.specs.declared.Next.the-variants as next
 use Rattle.book.specs.declared.Asked.{Asked}
 use Rattle.book.specs.declared.Taken.{Taken}
 use Rattle.book.specs.declared.Decided.{Decided}
-use Rattle.book.specs.Rules.{beginNo, begunNo, begunBy, begunBook, begunFor, lastKey, nextNo, askedNo, nextBy, askedAt, asked, idsOk, pageBad, takeNo, advanced, decided, taken, takenSlots}
+use Rattle.book.specs.Rules.{beginNo, begunNo, begunBy, begunBook, begunFor, lastKey, nextNo, askedNo, nextBy, askedAt, asked, idsOk, pageBad, takeNo, advanced, accepted, refused, decided, taken, takenSlots}
 use Rattle.book.proofs.TakeLaws.{by-zero, by-number, refused-slots, taken-slots, no-refusal, source-same}
 use Rattle.book.proofs.CoreLaws.{is-11, last-at}
 
@@ -86,7 +86,7 @@ unfolding takeNo
 short-no b s g h = sym (is-11 b (length s) (lastKey (b .held) s) g h)
 
 pub short-take : (b : Book) (s : List Pair) (g : Page) → length s < b .held → (taken b s g ≡ record { number = 11; book = b }) × (takenSlots b s g ≡ s)
-unfolding taken decided
+unfolding taken decided refused
 short-take b s g h =
     let e = short-no b s g h in
     let no : takeNo b s g ≡ 0 → ⊥ = λ z. let y : _≡_ {A = ℕ} 11 0 = sym e ∙ z in omega arith in (
@@ -102,10 +102,10 @@ empty-good g c e = rw (c, e)
 
 pub full-end : (b : Book) (s : List Pair) (g : Page) → b .held ≡ length s → b .closed ≡ false → b .source ≡ g .source → g .key ≡ lastKey (b .held) s → g .count ≡ 0 → g .end ≡ true
     → (taken b s g ≡ record { number = 0; book = record { held = b .held; closed = true; source = b .source } }) × (takenSlots b s g ≡ s)
-unfolding taken decided advanced
+unfolding taken decided accepted advanced
 full-end b s g full still one-source due c e =
     let ok : takeNo b s g ≡ 0 = no-refusal b s g (omega arith) still (source-same (b .source) (g .source) one-source) due (empty-good g c e) (omega arith) in
     let z : b .held + g .count ≡ b .held = omega arith in (
-      ap (λ (d : Decided). d .taken) (by-zero (takeNo b s g) b g ok) ∙ (λ i. record { number = 0; book = record { held = z i; closed = e i; source = b .source } }),
+      ap (λ (d : Decided). d .taken) (by-zero (takeNo b s g) b g ok) ∙ (cc),
       taken-slots b s g ok ∙ ap (λ (n : ℕ). paste s (b .held) (g .pairs) n) c ∙ sym (paste-zero s (b .held) (g .pairs)),
     )

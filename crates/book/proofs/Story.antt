@@ -30,7 +30,7 @@ use Rattle.book.specs.declared.Book.{Book}
 use Rattle.book.specs.declared.Begun.{Begun}
 use Rattle.book.specs.declared.Begun.the-variants as begun
 use Rattle.book.specs.declared.Next.the-variants as next
-use Rattle.book.specs.Rules.{beginNo, begunBy, begunBook, begunFor, lastKey, asked, idsOk, pageBad, takeNo, advanced, taken, takenSlots}
+use Rattle.book.specs.Rules.{beginNo, begunBy, begunBook, begunFor, lastKey, asked, idsOk, pageMost, pageBad, takeNo, advanced, taken, takenSlots}
 use Rattle.book.specs.World.{World, listOf, Honest, Reached, began, took, lent, ownPage, served}
 use Rattle.book.proofs.TakeLaws.{Passed, passed, taken-book, taken-slots, refused-book, refused-slots, or-zero, no-refusal, or-both-false, same-length, closed-no, source-same, same-book-source}
 use Rattle.book.proofs.Once.{last-held, next-is-last}
@@ -191,13 +191,13 @@ module _ (l : List Pair) (asc : ascends start l ≡ true) where
     own-good : pageBad own ≡ false
     unfolding pageBad
     own-good =
-        let x1 = ltb 16 (own .count) in
+        let x1 = ltb pageMost (own .count) in
         let x2 = not (idsOk (pagePairs own)) in
         let x3 = not (ascends (own .key) (pagePairs own)) in
         let x4 = eqb (own .count) 0 && not (own .end) in
         or-both-false (x1 || x2 || x3) x4
         (or-both-false (x1 || x2) x3
-        (or-both-false x1 x2 (le-ltb 16 (own .count) (omega (arith, own-count, length-take size (drop (b .held) l)))) (ap not own-ids))
+        (or-both-false x1 x2 (le-ltb pageMost (own .count) (omega (arith, own-count, length-take size (drop (b .held) l)))) (ap not own-ids))
         (ap not own-rises))
         (⊎-elim
         (λ (e : 0 < own .count). ap (λ (t : Bool). t && not (own .end)) (ne-eqb (own .count) 0 (λ z. omega arith)))

@@ -20,7 +20,7 @@ use Rattle.list.specs.Pages.{sourceNo, pagePairs}
 use Rattle.book.specs.declared.Book.{Book}
 use Rattle.book.specs.declared.Taken.{Taken}
 use Rattle.book.specs.declared.Decided.{Decided}
-use Rattle.book.specs.Rules.{lastKey, idsOk, sameKey, pageBad, firstNo, takeNoAt, takeNo, advanced, decidedBy, decided, taken, takenSlots}
+use Rattle.book.specs.Rules.{lastKey, idsOk, sameKey, pageMost, pageBad, firstNo, takeNoAt, takeNo, advanced, accepted, refused, decidedBy, decided, taken, takenSlots}
 
 -- ---- the first number that applies
 
@@ -95,7 +95,7 @@ pub record Passed (b : Book) (len : ℕ) (k : Key) (g : Page) : Type 0 where
   pub still-open : b .closed ≡ false
   pub one-source : b .source ≡ g .source
   pub asked-next : g .key ≡ k
-  pub few : g .count ≤ 16
+  pub few : g .count ≤ pageMost
   pub rising : ascends (g .key) (pagePairs g) ≡ true
   pub ids : idsOk (pagePairs g) ≡ true
   pub fits : b .held + g .count ≤ len
@@ -107,7 +107,7 @@ passed-at b len k g e =
     let e2 = no-cond (b .closed) 11 _ (e1 .1) in
     let e3 = no-first (sourceNo (b .source) (g .source)) _ (e2 .1) in
     let e4 = no-cond (not (sameKey (g .key) k)) 13 _ (e3 .1) in
-    let x1 = ltb 16 (g .count) in
+    let x1 = ltb pageMost (g .count) in
     let x2 = not (idsOk (pagePairs g)) in
     let x3 = not (ascends (g .key) (pagePairs g)) in
     let x4 = eqb (g .count) 0 && not (g .end) in
@@ -119,7 +119,7 @@ passed-at b len k g e =
       still-open = e2 .0;
       one-source = same-source (b .source) (g .source) (e3 .0);
       asked-next = same-key (g .key) k (not-false (sameKey (g .key) k) (e4 .0));
-      few = ltb-false 16 (g .count) (or-false-left x1 x2 (or-false-left (x1 || x2) x3 (or-false-left (x1 || x2 || x3) x4 (e5 .0))));
+      few = ltb-false pageMost (g .count) (or-false-left x1 x2 (or-false-left (x1 || x2) x3 (or-false-left (x1 || x2 || x3) x4 (e5 .0))));
       rising = not-false (ascends (g .key) (pagePairs g)) (or-false-right (x1 || x2) x3 (or-false-left (x1 || x2 || x3) x4 (e5 .0)));
       ids = not-false (idsOk (pagePairs g)) (or-false-right x1 x2 (or-false-left (x1 || x2) x3 (or-false-left (x1 || x2 || x3) x4 (e5 .0))));
       fits = omega (arith, ltb-false (len - b .held) (g .count) (e6 .0), h);
@@ -138,18 +138,18 @@ no-refusal-at b len k g h1 h2 h3 h4 h5 h6 =
 
 -- ---- by number
 
-pub by-zero : (n : ℕ) (b : Book) (g : Page) → n ≡ 0 → decidedBy n b g ≡ record { n = g .count; taken = record { number = 0; book = advanced b g } }
+pub by-zero : (n : ℕ) (b : Book) (g : Page) → n ≡ 0 → decidedBy n b g ≡ accepted b g
 unfolding decidedBy
 by-zero n b g e = ap (λ (m : ℕ). decidedBy m b g) e
 
-pub by-number : (n : ℕ) (b : Book) (g : Page) → (n ≡ 0 → ⊥) → decidedBy n b g ≡ record { n = 0; taken = record { number = n; book = b } }
+pub by-number : (n : ℕ) (b : Book) (g : Page) → (n ≡ 0 → ⊥) → decidedBy n b g ≡ refused n b
 unfolding decidedBy
 by-number zero b g e = absurd (e refl)
 by-number (suc m) b g e = refl
 
 -- the answer's number is the number of refusal
 pub number-is : (n : ℕ) (b : Book) (g : Page) → decidedBy n b g .taken .number ≡ n
-unfolding decidedBy
+unfolding decidedBy accepted refused
 number-is zero b g = refl
 number-is (suc m) b g = refl
 
@@ -174,20 +174,20 @@ module _ (b : Book) (s : List Pair) (g : Page) where
 
   -- a page is taken: the book goes on, and its pairs stand from the held ones on
   pub taken-book : takeNo b s g ≡ 0 → taken b s g .book ≡ advanced b g
-  unfolding taken decided
+  unfolding taken decided accepted
   taken-book e = ap (λ (d : Decided). d .taken .book) (by-zero (takeNo b s g) b g e)
 
   pub taken-slots : takeNo b s g ≡ 0 → takenSlots b s g ≡ paste s (b .held) (g .pairs) (g .count)
-  unfolding takenSlots decided
+  unfolding takenSlots decided accepted
   taken-slots e = ap (λ (d : Decided). paste s (b .held) (g .pairs) (d .n)) (by-zero (takeNo b s g) b g e)
 
   -- a refusal leaves the book and the slots as they stood
   pub refused-book : (takeNo b s g ≡ 0 → ⊥) → taken b s g .book ≡ b
-  unfolding taken decided
+  unfolding taken decided refused
   refused-book e = ap (λ (d : Decided). d .taken .book) (by-number (takeNo b s g) b g e)
 
   pub refused-slots : (takeNo b s g ≡ 0 → ⊥) → takenSlots b s g ≡ s
-  unfolding takenSlots decided
+  unfolding takenSlots decided refused
   refused-slots e =
       ap (λ (d : Decided). paste s (b .held) (g .pairs) (d .n)) (by-number (takeNo b s g) b g e) ∙ sym (paste-zero s (b .held) (g .pairs))
 

@@ -90,10 +90,14 @@ idsOk (v ∷ l) = idOk (v .q) && idOk (v .p) && idsOk l
 unfoldable pub sameKey : Key → Key → Bool
 sameKey a b = eqb (a .q) (b .q) && eqb (a .p) (b .p)
 
+-- "A page is one record that holds its sixteen pairs."
+abbrev pub pageMost : ℕ
+pageMost = 16
+
 -- 15: "over 16 pairs; an id outside 1 to 2,000,000,000; pairs not ascending strictly after the key; no pair and no end mark"
 unfoldable pub pageBad : Page → Bool
 pageBad g =
-    ltb 16 (g .count) || not (idsOk (pagePairs g)) || not (ascends (g .key) (pagePairs g)) || (eqb (g .count) 0 && not (g .end))
+    ltb pageMost (g .count) || not (idsOk (pagePairs g)) || not (ascends (g .key) (pagePairs g)) || (eqb (g .count) 0 && not (g .end))
 
 -- "The first that applies, in the order listed": a number, or what comes after it where it is 0
 unfoldable pub firstNo : ℕ → ℕ → ℕ
@@ -117,10 +121,18 @@ takeNoAt b len k g =
 unfoldable pub advanced : Book → Page → Book
 advanced b g = record { held = b .held + g .count; closed = g .end; source = b .source }
 
--- what is decided by a number: a taken page is appended whole, a refused one appends nothing "and leaves .. book state as [it] stood"
+-- a taken page is appended whole
+unfoldable pub accepted : Book → Page → Decided
+accepted b g = record { n = g .count; taken = record { number = 0; book = advanced b g } }
+
+-- a refused one appends nothing: it "leaves lent memory and book state as they stood"
+unfoldable pub refused : ℕ → Book → Decided
+refused m b = record { n = 0; taken = record { number = m; book = b } }
+
+-- what is decided, by the number
 unfoldable pub decidedBy : ℕ → Book → Page → Decided
-decidedBy zero b g = record { n = g .count; taken = record { number = 0; book = advanced b g } }
-decidedBy (suc m) b g = record { n = 0; taken = record { number = suc m; book = b } }
+decidedBy zero b g = accepted b g
+decidedBy (suc m) b g = refused (suc m) b
 
 unfoldable pub decidedAt : Book → ℕ → Key → Page → Decided
 decidedAt b len k g = decidedBy (takeNoAt b len k g) b g

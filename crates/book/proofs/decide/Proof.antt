@@ -1,5 +1,6 @@
 use mathlib.Core.Path.{_≡_, sym, ap, _∙_}
 use native.Mathlib.Omega.{arith}
+use Rattle.book.specs.Rules.{advanced, accepted, refused}
 use Rattle.book.proofs.TakeLaws.{passed-at}
 use Rattle.book.proofs.CoreLaws.{decided-no, decided-yes}
 use borrow.Author.Needs.{needs}
@@ -13,6 +14,7 @@ take-number-requires : tie.Need-take-number-requires
 take-number-requires c κs = search needs
 
 returns : tie.Need-returns
+unfolding refused
 returns c = decided-no _ _ _ _ _ (c .before .take-number .ensures) (c .if1 .taken)
 
 add-t9 : tie.Need-add-t9
@@ -22,6 +24,7 @@ add-t9 c =
     omega (arith, p .fits, e .before .before .fits .len)
 
 returns-2 : tie.Need-returns-2
+unfolding accepted advanced
 returns-2 c = let e = c .before .before .before in decided-yes _ _ _ _ (sym (e .before .take-number .ensures) ∙ e .if1 .left)
 
 pub decide-spec : {M : Type 1} → statement M
