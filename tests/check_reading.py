@@ -1,8 +1,7 @@
 """The reading held to the rules' own examples, and to itself: walks against brute force, pages against the list, a book that loses pages."""
-import random
-
 import reading
 import towns
+from chance import Chance
 
 P = [1, 0, 0, 2, 10, 0, 0, 1, 0, 1, 0, 0, 2, 0, 0, 10, 0, 17, 7, 2, 1, 7, 1]
 Q = [5, 4, 0, 6, 16, 1, 0, 1, 0, 1, 0, 0, 2, 4, 0, 16, 1, 17, 7, 2, 1, 9, 1]
@@ -62,7 +61,7 @@ def book_of_lost_pages(rng, pairs):
 
 def main():
     examples()
-    rng = random.Random("reading")
+    rng = Chance("reading")
     for k in range(60):
         places = towns.PLACES[k % len(towns.PLACES)]
         walks_mean_the_rule(towns.sheet(rng, places, rng.randint(1, 24))[1], towns.sheet(rng, places, rng.randint(1, 24))[1])

@@ -8,11 +8,11 @@ the size; 0 ends it. A negative word stands for the largest number that a call c
 opened, and the page whole: both editions, the key, the number of pairs, the end mark, sixteen pairs.
 """
 import collections
-import random
 
 import reading
 import towns
 import trees
+from chance import Chance
 from stored import Cases
 
 LARGEST_ID = 2 ** 32 - 1
@@ -169,7 +169,7 @@ def large_pairs(out, rng):
 
 
 def cases():
-    rng = random.Random("pages")
+    rng = Chance("pages")
     out = Pages()
     documents_listing(out)
     small_pairs(out, rng)

@@ -3,19 +3,21 @@
 
     make_sheets.py        writes crates/try_sheets/stdin and stdout
 
-The input, in words: 1, a length and that many words, a sheet to open; or 2, n (24, 24 and 16 bits, the lowest first), the numbers of point words and
-of order words, an edition, the length of the lent output, the point words and the order words, to pack; or 3, a length, that many words and a position, a point to read,
-where a position of -1 stands for the largest that a call can be given; 0 ends it. A packed sheet is printed whole, and opened again; of a refused one the
-program says whether each lent word is as it was.
+The input, in words, a 0 at its end:
+    1, a length and that many words: a sheet to open
+    2, n (24, 24 and 16 bits, the lowest first), the numbers of point words and of order words, an edition, the length of the lent output, the point
+       words and the order words: to pack. A packed sheet is printed whole and opened; of a refused one it is said whether each lent word is as it was
+    3, a length, that many words and a position, where -1 stands for the largest that a call can be given: a point to read
 """
 import collections
 import itertools
-import random
 
 import reading
 import trees
+from chance import Chance
 from faults import BIG, SMALL, faults, node_word, put
 from stored import Cases
+
 
 # ---------------------------------------------------------------- sheets
 
@@ -84,7 +86,7 @@ def right_sheets(out, rng):
     out.open("n 16", packed(rng, 16), 0)
     out.open("n 17", packed(rng, 17), 0)
     out.open("n 1000, packed by 16", packed(rng, 1000, 1_000_000), 0)
-    many = trees.uneven(random.Random(0), 1000, 3)
+    many = trees.uneven(Chance(0), 1000, 3)
     out.open("n 1000, uneven", trees.sheet(points(rng, 1000), trees.shuffled(rng, 1000), many, 3), 0)
     full = [trees.parts(rng, 1000, 370), trees.parts(rng, 370, 27), trees.parts(rng, 27, 2), [2]]
     assert sum(map(len, full)) == 400
@@ -292,14 +294,14 @@ def wrong_packs(out, rng):
 
 
 def cases():
-    rng = random.Random("sheets")
+    rng = Chance("sheets")
     out = Sheets()
     right_sheets(out, rng)
     wrong_sheets(out, rng)
     single_faults(out, rng)
     double_faults(out, rng)
     changed_words(out, rng)
-    points_read(out, random.Random("points"))
+    points_read(out, Chance("points"))
     if PACKS:
         right_packs(out, rng)
         wrong_packs(out, rng)

@@ -7,11 +7,11 @@ The input, in words: 1, the lengths of P's and Q's sheet, the numbers of filter 
 each filter walk, and positions j of Q and i of P for each ring walk; 0 ends it. A position of -1 stands for the largest that a call can be given.
 """
 import collections
-import random
 
 import reading
 import towns
 import trees
+from chance import Chance
 from check_reading import walks_mean_the_rule
 from stored import Cases
 
@@ -136,7 +136,7 @@ def refused(out, rng):
 
 
 def cases():
-    rng = random.Random("walks")
+    rng = Chance("walks")
     out = Walks()
     small_pairs(out, rng)
     shaped_pairs(out, rng)
