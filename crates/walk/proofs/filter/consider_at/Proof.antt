@@ -8,12 +8,12 @@ use Rattle.walk.proofs.filter.consider_at.Tie as tie
 use Rattle.walk.proofs.filter.consider_at.Reads as reads
 use Rattle.walk.proofs.filter.consider_at.Lts as lts
 use Rattle.bits.proofs.insert.Reads as insert-reads
-use Rattle.sheet.proofs.places.spot_at.Reads as spot-at-reads
+use Rattle.sheet.proofs.reads.spot_at.Reads as spot-at-reads
 use Rattle.walk.proofs.filter.drops_spot.Reads as drops-spot-reads
 
 -- src/filter.rt:53:9
 spot-at-requires : tie.Need-spot-at-requires
-spot-at-requires c κs = search needs
+spot-at-requires c κs = (c .before .pre .0, c .before .pre .2)
 
 -- src/filter.rt:54:8
 drops-spot-requires : tie.Need-drops-spot-requires
