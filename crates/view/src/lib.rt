@@ -1,0 +1,62 @@
+// An opened sheet: a view of the words where the caller keeps them, with the sheet's counts. No copy is made.
+// Whoever is handed a view checks it like any slice: its counts are read anew from its words, and its own are never trusted.
+use ring::Head;
+use ring::Pointed;
+use ring::Walked;
+ghost use mathlib.Core.Path.{_≡_};
+ghost use Prim.Native.Nat.{_≤_};
+ghost use lib.ListN.{length, take};
+ghost use Rattle.ring.specs.Answers.{pointed, walked};
+ghost use Rattle.view.specs.Shown.{shown, openOf};
+
+// The words that the view covers, and the numbers of points and nodes that it claims for them.
+pub struct Sheet<'a> {
+    pub words: &'a [i32],
+    pub n: usize,
+    pub m: usize,
+}
+
+// 0 and a view of the sheet's words, or the number of refusal and a view that covers no words.
+pub struct Opened<'a> {
+    pub number: u32,
+    pub sheet: Sheet<'a>,
+}
+
+// The first `len` words.
+fn keep<'a>(words: &'a [i32], len: usize) -> &'a [i32]
+    requires { ⌜ len ≤ length (now words) ⌝ }
+    ensures { λ r. ⌜ (now r ≡ take len (now (words .entry))) × (r .ptr ≡ words .entry .ptr) ⌝ }
+{
+    &words[..len]
+}
+
+// Opens a sheet: a view of the caller's own words, from the first to the last, with the counts that stand in them.
+pub fn open<'a>(words: &'a [i32]) -> Opened<'a>
+    ensures { λ r. ⌜ shown r ≡ openOf (words .entry) ⌝ }
+{
+    let h = ring::open::head_of(words);
+    let len = h.len;
+    let part = keep(words, len);
+    Opened {
+        number: h.number,
+        sheet: Sheet {
+            words: part,
+            n: h.n,
+            m: h.m,
+        },
+    }
+}
+
+// The record at a position of a view's sheet; refused by 1 to 8 of its words, then by 9.
+pub fn point_at<'a>(sheet: Sheet<'a>, position: usize) -> Pointed
+    ensures { λ r. ⌜ r ≡ pointed (now (sheet .entry .words)) position ⌝ }
+{
+    ring::point::point(sheet.words, position)
+}
+
+// The ring walk for position j of Q and position i of P; refused by 1 to 8 of P's words, then of Q's, then by 9.
+pub fn ring_walk_at<'a, 'b>(p: Sheet<'a>, q: Sheet<'b>, j: usize, i: usize) -> Walked
+    ensures { λ r. ⌜ r ≡ walked (now (p .entry .words)) (now (q .entry .words)) j i ⌝ }
+{
+    ring::ringwalk::ring_walk(p.words, q.words, j, i)
+}
