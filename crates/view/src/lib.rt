@@ -60,3 +60,38 @@ pub fn ring_walk_at<'a, 'b>(p: Sheet<'a>, q: Sheet<'b>, j: usize, i: usize) -> W
 {
     ring::ringwalk::ring_walk(p.words, q.words, j, i)
 }
+
+// For callers that hold no view: one is made of the words with any counts, and handed to the reader, which does not look at them.
+pub fn point_through(words: &[i32], n: usize, m: usize, position: usize) -> Pointed
+    ensures { λ r. ⌜ r ≡ pointed (now (words .entry)) position ⌝ }
+{
+    point_at(Sheet { words, n, m }, position)
+}
+
+pub fn ring_walk_through(
+    p: &[i32],
+    np: usize,
+    mp: usize,
+    q: &[i32],
+    nq: usize,
+    mq: usize,
+    j: usize,
+    i: usize,
+) -> Walked
+    ensures { λ r. ⌜ r ≡ walked (now (p .entry)) (now (q .entry)) j i ⌝ }
+{
+    ring_walk_at(
+        Sheet {
+            words: p,
+            n: np,
+            m: mp,
+        },
+        Sheet {
+            words: q,
+            n: nq,
+            m: mq,
+        },
+        j,
+        i,
+    )
+}
