@@ -2,3 +2,4 @@ pub mod NumberLaws
 pub mod HeadLaws
 pub mod PointLaws
 pub mod RingLaws
+pub mod Once

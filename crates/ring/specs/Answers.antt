@@ -1,16 +1,16 @@
 -- What the calls answer. "Every refusal gives only its number [..]. An array or number in a refused answer is all zero."
-use mathlib.Core.Bool.{cond}
+use mathlib.Core.Bool.{Bool, false, cond}
 use mathlib.Core.List.{List}
 use Prim.Native.Nat.{ℕ}
 use lib.Dec.{eqb}
-use lib.IntN.{ℤ}
+use lib.IntN.{ℤ, pos}
 use lib.ListN.{length}
 use Rattle.words.specs.Word.{num}
 use Rattle.sheet.specs.Layout.{points, nodes}
 use Rattle.sheet.specs.Points.{idAt, xAt, yAt}
 use Rattle.ring.specs.Numbers.{sheetNo, sheetsNo, pointNo, ringNo}
 use Rattle.walk.specs.declared.Answer.{Answer}
-use Rattle.walk.specs.RingWalk.{pairWalk}
+use Rattle.walk.specs.RingWalk.{clear, pairWalk}
 use Rattle.ring.specs.declared.Head.{Head}
 use Rattle.ring.specs.declared.Heads.{Heads}
 use Rattle.ring.specs.declared.Asset.{Asset}
@@ -38,12 +38,30 @@ assetOf w i = record { id = num (idAt w i); x = xAt w i; y = yAt w i }
 unfoldable pub pointedBy : ℕ → Asset → Pointed
 pointedBy k a = cond (eqb k 0) (At a) (NoPoint k)
 
+-- the number and the values of each case
+abbrev pub pointedNo : Pointed → ℕ
+pointedNo (At a) = 0
+pointedNo (NoPoint k) = k
+
+abbrev pub pointedAsset : Pointed → Asset
+pointedAsset (At a) = a
+pointedAsset (NoPoint k) = record { id = 0; x = pos 0; y = pos 0 }
+
 unfoldable pub pointed : List ℤ → ℕ → Pointed
 pointed w i = pointedBy (pointNo w i) (assetOf w i)
 
 -- the ring walk's answer by its number: 0 is the walk's own answer, any other is the refusal of that number
 unfoldable pub walkedBy : ℕ → Answer → Walked
 walkedBy k a = cond (eqb k 0) (Done a) (Refused k)
+
+-- the number of each case, and whether it says that the pair is clear: a refused walk never does
+abbrev pub walkedNo : Walked → ℕ
+walkedNo (Done a) = 0
+walkedNo (Refused k) = k
+
+abbrev pub walkedClear : Walked → Bool
+walkedClear (Done a) = clear (a .hit)
+walkedClear (Refused k) = false
 
 -- q is position j of Q, p is position i of P
 unfoldable pub walked : List ℤ → List ℤ → ℕ → ℕ → Walked

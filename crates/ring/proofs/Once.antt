@@ -1,0 +1,58 @@
+-- One input, one answer: from each promise alone. And the number of each answer.
+-- Assumes nothing.
+use mathlib.Core.Path.{_≡_, refl, sym, ap, _∙_}
+use mathlib.Core.Bool.{false}
+use mathlib.Core.List.{List}
+use Prim.Native.Nat.{ℕ, zero, suc}
+use native.Mathlib.Omega.{arith}
+use lib.IntN.{ℤ}
+use borrow.Author.Tests.{ne-eqb}
+use Rattle.walk.specs.declared.Answer.{Answer}
+use Rattle.walk.specs.RingWalk.{pairWalk}
+use Rattle.ring.specs.Numbers.{sheetNo, pointNo, ringNo}
+use Rattle.ring.specs.Answers.{headOf, assetOf, pointedBy, pointedNo, pointed, walkedBy, walkedNo, walkedClear, walked}
+use Rattle.ring.specs.declared.Head.{Head}
+use Rattle.ring.specs.declared.Asset.{Asset}
+use Rattle.ring.specs.declared.Pointed.{Pointed}
+use Rattle.ring.specs.declared.Walked.{Walked}
+use Rattle.ring.proofs.HeadLaws.{head-number}
+use Rattle.ring.proofs.RingLaws.{ring-refused}
+
+pub open-once : (w : List ℤ) (r r′ : ℕ) → r ≡ sheetNo w → r′ ≡ sheetNo w → r ≡ r′
+open-once w r r′ e f = e ∙ sym f
+
+pub head-once : (w : List ℤ) (r r′ : Head) → r ≡ headOf w → r′ ≡ headOf w → r ≡ r′
+head-once w r r′ e f = e ∙ sym f
+
+pub point-once : (w : List ℤ) (i : ℕ) (r r′ : Pointed) → r ≡ pointed w i → r′ ≡ pointed w i → r ≡ r′
+point-once w i r r′ e f = e ∙ sym f
+
+pub ring-once : (P Q : List ℤ) (j i : ℕ) (r r′ : Walked) → r ≡ walked P Q j i → r′ ≡ walked P Q j i → r ≡ r′
+ring-once P Q j i r r′ e f = e ∙ sym f
+
+-- ---- the number of each answer
+
+pub head-no : (w : List ℤ) → headOf w .number ≡ sheetNo w
+head-no w = head-number w (headOf w) refl
+
+by-point : (k : ℕ) (a : Asset) → pointedNo (pointedBy k a) ≡ k
+unfolding pointedBy
+by-point zero a = refl
+by-point (suc k) a = rw (ne-eqb (suc k) 0 (λ z. omega arith))
+
+pub point-no : (w : List ℤ) (i : ℕ) → pointedNo (pointed w i) ≡ pointNo w i
+unfolding pointed
+point-no w i = by-point (pointNo w i) (assetOf w i)
+
+by-walk : (k : ℕ) (a : Answer) → walkedNo (walkedBy k a) ≡ k
+unfolding walkedBy
+by-walk zero a = refl
+by-walk (suc k) a = rw (ne-eqb (suc k) 0 (λ z. omega arith))
+
+pub ring-no : (P Q : List ℤ) (j i : ℕ) → walkedNo (walked P Q j i) ≡ ringNo P Q j i
+unfolding walked
+ring-no P Q j i = by-walk (ringNo P Q j i) (pairWalk P Q i j)
+
+-- a refused walk is never clear
+pub refused-not-clear : (P Q : List ℤ) (j i : ℕ) → (ringNo P Q j i ≡ 0 → ⊥) → walkedClear (walked P Q j i) ≡ false
+refused-not-clear P Q j i ne = ap walkedClear (sym (ring-refused P Q j i (ringNo P Q j i) refl ne))

@@ -1,0 +1,37 @@
+-- One input, one answer: from each promise alone. What two answers of `open` share is all that a view shows: the number, the words covered and where they
+-- stand, the counts. And what the readers make of a view is settled by the words that it covers: its own counts say nothing.
+-- Assumes nothing.
+use mathlib.Core.Path.{_≡_, refl, sym, ap, _∙_}
+use mathlib.Core.Bool.{true, false}
+use mathlib.Core.List.{List, []}
+use Prim.Native.Nat.{ℕ}
+use lib.IntN.{ℤ}
+use lib.Dec.{eqb}
+use borrow.Author.Tests.{eq-eqb, ne-eqb}
+use denote.Ref.{RefT, now}
+use Rattle.sheet.specs.Layout.{points, nodes}
+use Rattle.ring.specs.Numbers.{sheetNo}
+use Rattle.ring.specs.Answers.{pointed, walked}
+use Rattle.ring.specs.declared.Pointed.{Pointed}
+use Rattle.ring.specs.declared.Walked.{Walked}
+use Rattle.view.specs.declared.Sheet.{Sheet}
+use Rattle.view.specs.declared.Opened.{Opened}
+use Rattle.view.specs.Shown.{Shown, shown, openOf}
+
+pub open-once : (s : RefT (List ℤ)) (r r′ : Opened) → shown r ≡ openOf s → shown r′ ≡ openOf s → shown r ≡ shown r′
+open-once s r r′ e f = e ∙ sym f
+
+pub open-no : (s : RefT (List ℤ)) (r : Opened) → shown r ≡ openOf s → sheetNo (now s) ≡ 0 → shown r ≡ record { number = 0; start = s .ptr; covers = now s; n = points (now s); m = nodes (now s) }
+unfolding openOf
+open-no s r e z = e ∙ rw (eq-eqb (sheetNo (now s)) 0 z)
+
+pub open-refused : (s : RefT (List ℤ)) (r : Opened) → shown r ≡ openOf s → (sheetNo (now s) ≡ 0 → ⊥) → shown r ≡ record { number = sheetNo (now s); start = s .ptr; covers = []; n = 0; m = 0 }
+unfolding openOf
+open-refused s r e ne = e ∙ rw (ne-eqb (sheetNo (now s)) 0 ne)
+
+pub point-once : (d d′ : Sheet) (i : ℕ) (r r′ : Pointed) → now (d .words) ≡ now (d′ .words) → r ≡ pointed (now (d .words)) i → r′ ≡ pointed (now (d′ .words)) i → r ≡ r′
+point-once d d′ i r r′ w e f = e ∙ ap (λ (x : List ℤ). pointed x i) w ∙ sym f
+
+pub ring-once : (p p′ q q′ : Sheet) (j i : ℕ) (r r′ : Walked) → now (p .words) ≡ now (p′ .words) → now (q .words) ≡ now (q′ .words)
+    → r ≡ walked (now (p .words)) (now (q .words)) j i → r′ ≡ walked (now (p′ .words)) (now (q′ .words)) j i → r ≡ r′
+ring-once p p′ q q′ j i r r′ v w e f = e ∙ ap (λ (x : List ℤ). walked x (now (q .words)) j i) v ∙ ap (λ (y : List ℤ). walked (now (p′ .words)) y j i) w ∙ sym f
