@@ -1,19 +1,23 @@
 -- One input, one answer: from each promise alone. And the number of each answer.
 -- Assumes nothing.
 use mathlib.Core.Path.{_≡_, refl, sym, ap, _∙_}
-use mathlib.Core.Bool.{false}
+use mathlib.Core.Bool.{Bool, true, false, cond}
 use mathlib.Core.List.{List}
 use Prim.Native.Nat.{ℕ, zero, suc}
 use native.Mathlib.Omega.{arith}
+use lib.Dec.{eqb}
 use lib.IntN.{ℤ}
-use borrow.Author.Tests.{ne-eqb}
+use borrow.Author.Tests.{ne-eqb, eqb-true}
 use Rattle.walk.specs.declared.Answer.{Answer}
+use Rattle.sheet.specs.Places.{spotOf}
+use Rattle.walk.specs.FilterWalk.{filterKept}
 use Rattle.walk.specs.RingWalk.{pairWalk}
-use Rattle.ring.specs.Numbers.{sheetNo, pointNo, ringNo}
-use Rattle.ring.specs.Answers.{headOf, assetOf, pointedBy, pointedNo, pointed, walkedBy, walkedNo, walkedClear, walked}
+use Rattle.ring.specs.Numbers.{sheetNo, pointNo, filterNo, ringNo}
+use Rattle.ring.specs.Answers.{headOf, assetOf, pointedBy, pointedNo, pointed, filteredTo, unfiltered, filtered, walkedBy, walkedNo, walkedClear, walked}
 use Rattle.ring.specs.declared.Head.{Head}
 use Rattle.ring.specs.declared.Asset.{Asset}
 use Rattle.ring.specs.declared.Pointed.{Pointed}
+use Rattle.ring.specs.declared.Filtered.{Filtered}
 use Rattle.ring.specs.declared.Walked.{Walked}
 use Rattle.ring.proofs.HeadLaws.{head-number}
 use Rattle.ring.proofs.RingLaws.{ring-refused}
@@ -29,6 +33,9 @@ point-once w i r r′ e f = e ∙ sym f
 
 pub ring-once : (P Q : List ℤ) (j i : ℕ) (r r′ : Walked) → r ≡ walked P Q j i → r′ ≡ walked P Q j i → r ≡ r′
 ring-once P Q j i r r′ e f = e ∙ sym f
+
+pub filter-once : (P Q : List ℤ) (j : ℕ) (r r′ : Filtered) → r ≡ filtered P Q j → r′ ≡ filtered P Q j → r ≡ r′
+filter-once P Q j r r′ e f = e ∙ sym f
 
 -- ---- the number of each answer
 
@@ -51,8 +58,16 @@ by-walk (suc k) a = rw (ne-eqb (suc k) 0 (λ z. omega arith))
 
 pub ring-no : (P Q : List ℤ) (j i : ℕ) → walkedNo (walked P Q j i) ≡ ringNo P Q j i
 unfolding walked
-ring-no P Q j i = by-walk (ringNo P Q j i) (pairWalk P Q i j)
+ring-no P Q j i = by-walk (ringNo P Q j i) (pairWalk P Q j i)
 
 -- a refused walk is never clear
 pub refused-not-clear : (P Q : List ℤ) (j i : ℕ) → (ringNo P Q j i ≡ 0 → ⊥) → walkedClear (walked P Q j i) ≡ false
 refused-not-clear P Q j i ne = ap walkedClear (sym (ring-refused P Q j i (ringNo P Q j i) refl ne))
+
+pub filter-no : (P Q : List ℤ) (j : ℕ) → filtered P Q j .number ≡ filterNo P Q j
+unfolding filtered filteredTo unfiltered
+filter-no P Q j = by (eqb (filterNo P Q j) 0) refl
+  where
+    by : (t : Bool) → eqb (filterNo P Q j) 0 ≡ t → cond {A = Filtered} t (filteredTo (filterKept 16 P (spotOf Q j))) (unfiltered (filterNo P Q j)) .number ≡ filterNo P Q j
+    by true t = sym (eqb-true (filterNo P Q j) 0 t)
+    by false t = refl

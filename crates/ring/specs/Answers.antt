@@ -4,17 +4,21 @@ use mathlib.Core.List.{List}
 use Prim.Native.Nat.{ℕ}
 use lib.Dec.{eqb}
 use lib.IntN.{ℤ, pos}
-use lib.ListN.{length}
+use lib.ListN.{length, replicate}
 use Rattle.words.specs.Word.{num}
 use Rattle.sheet.specs.Layout.{points, nodes}
 use Rattle.sheet.specs.Points.{idAt, xAt, yAt}
-use Rattle.ring.specs.Numbers.{sheetNo, sheetsNo, pointNo, ringNo}
+use Rattle.ring.specs.Numbers.{sheetNo, sheetsNo, pointNo, filterNo, ringNo}
+use Rattle.sheet.specs.Places.{spotOf}
+use Rattle.bits.specs.Set.{card}
 use Rattle.walk.specs.declared.Answer.{Answer}
+use Rattle.walk.specs.FilterWalk.{Kept, filterKept}
 use Rattle.walk.specs.RingWalk.{clear, pairWalk}
 use Rattle.ring.specs.declared.Head.{Head}
 use Rattle.ring.specs.declared.Heads.{Heads}
 use Rattle.ring.specs.declared.Asset.{Asset}
 use Rattle.ring.specs.declared.Pointed.{Pointed}
+use Rattle.ring.specs.declared.Filtered.{Filtered}
 use Rattle.ring.specs.declared.Walked.{Walked}
 use Rattle.ring.specs.declared.Walked.the-variants.{Done, Refused}
 use Rattle.ring.specs.declared.Pointed.the-variants.{At, Refused as NoPoint}
@@ -49,6 +53,18 @@ pointedAsset (NoPoint k) = record { id = 0; x = pos 0; y = pos 0 }
 
 unfoldable pub pointed : List ℤ → ℕ → Pointed
 pointed w i = pointedBy (pointNo w i) (assetOf w i)
+
+-- the filter walk's answer: "one bit a position in sixteen 64-bit words [..], with the number of bits set and the nodes opened"
+unfoldable pub filteredTo : Kept → Filtered
+filteredTo k = record { number = 0; bits = k .bits; count = card (k .bits); opened = k .opened }
+
+-- refused, the number and zeros
+unfoldable pub unfiltered : ℕ → Filtered
+unfiltered k = record { number = k; bits = replicate 16 0; count = 0; opened = 0 }
+
+-- for position j of Q over P
+unfoldable pub filtered : List ℤ → List ℤ → ℕ → Filtered
+filtered P Q j = cond (eqb (filterNo P Q j) 0) (filteredTo (filterKept 16 P (spotOf Q j))) (unfiltered (filterNo P Q j))
 
 -- the ring walk's answer by its number: 0 is the walk's own answer, any other is the refusal of that number
 unfoldable pub walkedBy : ℕ → Answer → Walked

@@ -1,5 +1,6 @@
 // The calls open to callers, on plain slices: every input is answered, and a refusal gives only its number.
 // Each checks its sheets first, P then Q, by 1 to 8; then its positions by 9. A well-formed sheet is checked once a call.
+pub mod filter;
 pub mod open;
 pub mod point;
 pub mod ringwalk;
@@ -36,6 +37,15 @@ pub struct Asset {
 pub enum Pointed {
     At(Asset),
     Refused(u32),
+}
+
+// What the filter walk answers: 0, the kept set with one bit a position, how many bits are set and the nodes opened; or the number of refusal and zeros.
+#[repr(C)]
+pub struct Filtered {
+    pub number: u32,
+    pub bits: [u64; 16],
+    pub count: usize,
+    pub opened: u64,
 }
 
 // What the ring walk answers: clear or what it hit first with the nodes opened, or the number of refusal.

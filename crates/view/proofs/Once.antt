@@ -11,8 +11,9 @@ use borrow.Author.Tests.{eq-eqb, ne-eqb}
 use denote.Ref.{RefT, now}
 use Rattle.sheet.specs.Layout.{points, nodes}
 use Rattle.ring.specs.Numbers.{sheetNo}
-use Rattle.ring.specs.Answers.{pointed, walked}
+use Rattle.ring.specs.Answers.{pointed, filtered, walked}
 use Rattle.ring.specs.declared.Pointed.{Pointed}
+use Rattle.ring.specs.declared.Filtered.{Filtered}
 use Rattle.ring.specs.declared.Walked.{Walked}
 use Rattle.view.specs.declared.Sheet.{Sheet}
 use Rattle.view.specs.declared.Opened.{Opened}
@@ -31,6 +32,10 @@ open-refused s r e ne = e ∙ rw (ne-eqb (sheetNo (now s)) 0 ne)
 
 pub point-once : (d d′ : Sheet) (i : ℕ) (r r′ : Pointed) → now (d .words) ≡ now (d′ .words) → r ≡ pointed (now (d .words)) i → r′ ≡ pointed (now (d′ .words)) i → r ≡ r′
 point-once d d′ i r r′ w e f = e ∙ ap (λ (x : List ℤ). pointed x i) w ∙ sym f
+
+pub filter-once : (p p′ q q′ : Sheet) (j : ℕ) (r r′ : Filtered) → now (p .words) ≡ now (p′ .words) → now (q .words) ≡ now (q′ .words)
+    → r ≡ filtered (now (p .words)) (now (q .words)) j → r′ ≡ filtered (now (p′ .words)) (now (q′ .words)) j → r ≡ r′
+filter-once p p′ q q′ j r r′ v w e f = e ∙ ap (λ (x : List ℤ). filtered x (now (q .words)) j) v ∙ ap (λ (y : List ℤ). filtered (now (p′ .words)) y j) w ∙ sym f
 
 pub ring-once : (p p′ q q′ : Sheet) (j i : ℕ) (r r′ : Walked) → now (p .words) ≡ now (p′ .words) → now (q .words) ≡ now (q′ .words)
     → r ≡ walked (now (p .words)) (now (q .words)) j i → r′ ≡ walked (now (p′ .words)) (now (q′ .words)) j i → r ≡ r′

@@ -1,12 +1,12 @@
 // An opened sheet: a view of the words where the caller keeps them, with the sheet's counts. No copy is made.
 // Whoever is handed a view checks it like any slice: its counts are read anew from its words, and its own are never trusted.
-use ring::Head;
+use ring::Filtered;
 use ring::Pointed;
 use ring::Walked;
 ghost use mathlib.Core.Path.{_≡_};
 ghost use Prim.Native.Nat.{_≤_};
 ghost use lib.ListN.{length, take};
-ghost use Rattle.ring.specs.Answers.{pointed, walked};
+ghost use Rattle.ring.specs.Answers.{pointed, filtered, walked};
 ghost use Rattle.view.specs.Shown.{shown, openOf};
 
 // The words that the view covers, and the numbers of points and nodes that it claims for them.
@@ -54,6 +54,13 @@ pub fn point_at<'a>(sheet: Sheet<'a>, position: usize) -> Pointed
     ring::point::point(sheet.words, position)
 }
 
+// The filter walk for position j of Q over P; refused by 1 to 8 of P's words, then of Q's, then by 9.
+pub fn filter_walk_at<'a, 'b>(p: Sheet<'a>, q: Sheet<'b>, j: usize) -> Filtered
+    ensures { λ r. ⌜ r ≡ filtered (now (p .entry .words)) (now (q .entry .words)) j ⌝ }
+{
+    ring::filter::filter_walk(p.words, q.words, j)
+}
+
 // The ring walk for position j of Q and position i of P; refused by 1 to 8 of P's words, then of Q's, then by 9.
 pub fn ring_walk_at<'a, 'b>(p: Sheet<'a>, q: Sheet<'b>, j: usize, i: usize) -> Walked
     ensures { λ r. ⌜ r ≡ walked (now (p .entry .words)) (now (q .entry .words)) j i ⌝ }
@@ -66,6 +73,32 @@ pub fn point_through(words: &[i32], n: usize, m: usize, position: usize) -> Poin
     ensures { λ r. ⌜ r ≡ pointed (now (words .entry)) position ⌝ }
 {
     point_at(Sheet { words, n, m }, position)
+}
+
+pub fn filter_walk_through(
+    p: &[i32],
+    np: usize,
+    mp: usize,
+    q: &[i32],
+    nq: usize,
+    mq: usize,
+    j: usize,
+) -> Filtered
+    ensures { λ r. ⌜ r ≡ filtered (now (p .entry)) (now (q .entry)) j ⌝ }
+{
+    filter_walk_at(
+        Sheet {
+            words: p,
+            n: np,
+            m: mp,
+        },
+        Sheet {
+            words: q,
+            n: nq,
+            m: mq,
+        },
+        j,
+    )
 }
 
 pub fn ring_walk_through(
