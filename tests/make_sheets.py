@@ -236,7 +236,6 @@ def pack_faults(base):
         (18, "point words three more", with_part(1, lambda g: g[1] + [reading.ID, 0, 0])),
         (18, "order one short", with_part(2, lambda g: g[2][:-1])),
         (18, "order one more", with_part(2, lambda g: g[2] + [n])),
-        (18, "no order", with_part(2, lambda g: [])),
     ]
     for wrong in (0, reading.EDITION + 1, -1, SMALL):
         out.append((3, "edition %d" % wrong, with_part(3, lambda g, wrong=wrong: wrong)))
@@ -247,7 +246,7 @@ def pack_faults(base):
         out.append((5, label, with_part(1, lambda g, at=at, word=word: put(g[1], at, word))))
     for label, at, word in (("order n", 0, n), ("order -1", 1, -1), ("order twice", 0, order[1]), ("order far off", 1, BIG)):
         out.append((6, label, with_part(2, lambda g, at=at, word=word: put(g[2], at, word))))
-    for label, length in (("output one short", lent - 1), ("output one long", lent + 1), ("no output", 0), ("output six words", 6)):
+    for label, length in (("output one short", lent - 1), ("output one long", lent + 1), ("no output", 0), ("output six words", 6), ("output a node short", lent - 7), ("output a node long", lent + 7)):
         out.append((17, label, with_part(4, lambda g, length=length: length)))
     return out
 
@@ -270,6 +269,8 @@ def right_packs(out, rng):
 def wrong_packs(out, rng):
     for n in (4, 18):
         base = given(rng, n)
+        out.pack("no order", base[:2] + ([],) + base[3:], 18)
+        out.pack("no points", base[:1] + ([],) + base[2:], 18)
         known = collections.defaultdict(list)
         for number, label, change in pack_faults(base):
             known[number].append((label, change))
@@ -302,17 +303,14 @@ def cases():
     double_faults(out, rng)
     changed_words(out, rng)
     points_read(out, Chance("points"))
-    if PACKS:
-        right_packs(out, rng)
-        wrong_packs(out, rng)
-        assert out.packs >= 100
-        assert all(out.pack_seen[number] >= 10 for number in (0, 18, 3, 5, 6, 17)), out.pack_seen
+    right_packs(out, Chance("packs"))
+    wrong_packs(out, Chance("wrong packs"))
+    assert out.packs >= 100
+    assert all(out.pack_seen[number] >= 10 for number in (0, 18, 3, 5, 6, 17)), out.pack_seen
     assert out.opened >= 400
     assert all(out.seen[number] >= 10 for number in range(9)), out.seen
     return out.cases
 
-
-PACKS = False
 
 if __name__ == "__main__":
     cases().store()

@@ -1,4 +1,7 @@
-// Opens the sheets that stand in its input and reads points of them, and prints what each call answers.
+// Opens the sheets that stand in its input, reads points of them and packs point lists, and prints what each call answers.
+
+// What every lent word holds before a sheet is packed into it.
+const MARK: i32 = -77;
 
 // The most words that a stored sheet has.
 const MOST: usize = 8192;
@@ -66,11 +69,79 @@ fn point_case() {
     read(&space[..n], cases::next_or_largest());
 }
 
+fn print_words(s: &[i32]) {
+    let mut k = 0;
+    while k < s.len() {
+        print_signed(sheet::places::wide_at(s, k));
+        k += 1;
+    }
+}
+
+fn is_marked(s: &[i32]) -> bool {
+    let mut k = 0;
+    while k < s.len() {
+        if s[k] != MARK {
+            return false;
+        }
+        k += 1;
+    }
+    true
+}
+
+// A packed sheet is printed and opened; of a refused one it is said whether each lent word is as it was.
+fn print_packed(number: u32, out: &[i32]) {
+    io::write_all(libc::STDOUT_FILENO, b"pack");
+    print(number as u64);
+    if number == 0 {
+        io::write_all(libc::STDOUT_FILENO, b" open");
+        print(ring::open::open_no(out) as u64);
+        io::write_all(libc::STDOUT_FILENO, b":");
+        print_words(out);
+    } else if is_marked(out) {
+        io::write_all(libc::STDOUT_FILENO, b" as it was");
+    } else {
+        io::write_all(libc::STDOUT_FILENO, b" changed");
+    }
+    end_line();
+}
+
+fn packed(n: usize, points: &[i32], order: &[i32], edition: u32, out: &mut [i32]) {
+    let number = pack::pack(n, points, order, edition, out);
+    print_packed(number, out);
+}
+
+// A number of 64 bits, from three words.
+fn next_long() -> usize {
+    let low = cases::next_up_to(16777215);
+    let middle = cases::next_up_to(16777215);
+    let high = cases::next_up_to(65535);
+    low + 16777216 * middle + 281474976710656 * high
+}
+
+// n, how many point words and order words there are, an edition, the length of the lent output, the point words and the order words.
+fn pack_case() {
+    let n = next_long();
+    let np = cases::next_up_to(MOST);
+    let no = cases::next_up_to(MOST);
+    let edition = cases::next_id();
+    let lent = cases::next_up_to(MOST);
+    let mut points = [0i32; MOST];
+    let mut order = [0i32; MOST];
+    let mut out = [MARK; MOST];
+    cases::fill(&mut points, np);
+    cases::fill(&mut order, no);
+    packed(n, &points[..np], &order[..no], edition, &mut out[..lent]);
+}
+
 // The next case, and whether there was one.
 fn one() -> bool {
     let kind = cases::next_count();
     if kind == 1 {
         open_case();
+        return true;
+    }
+    if kind == 2 {
+        pack_case();
         return true;
     }
     if kind == 3 {
