@@ -1,16 +1,15 @@
 -- The next kept position: what it is, and for a loop that goes from one to the next, that whatever is the same past a position that is not kept is the same there.
 -- Assumes nothing.
-use mathlib.Core.Path.{_≡_, refl, sym, ap, subst, _∙_}
+use mathlib.Core.Path.{_≡_, refl, sym, ap, _∙_}
 use mathlib.Core.Bool.{Bool, true, false}
-use mathlib.Core.Logic.{⊎-elim}
 use mathlib.Core.List.{List}
 use Prim.Native.Nat.{ℕ, zero, suc, _+_, _-_, _*_, _/_, _%_, _^_, _≤_, _<_}
-use native.Mathlib.Nat.{le-refl, pos-of-ne-zero, lt-of-le-of-lt, eq-or-lt-of-le}
+use native.Mathlib.Nat.{le-refl, pos-of-ne-zero, lt-of-le-of-lt}
 use native.Mathlib.Omega.{arith}
 use lib.ListN.{length, getD}
 use lib.Count.{trailingZeros}
 use lib.Pow.{shr-le}
-use lib.Dec.{eqb, lit<}
+use lib.Dec.{lit<}
 use Rattle.bits.specs.Set.{digit, at, kept, next, nextFrom, pick}
 use Rattle.bits.proofs.DigitLaws.{digit-high, tz-zeros, tz-one, within-word}
 use Rattle.bits.proofs.SetLaws.{at-split}

@@ -5,13 +5,13 @@ use mathlib.Core.Path.{_≡_, refl, sym, ap, subst, _∙_}
 use mathlib.Core.Bool.{Bool, true, false, cond}
 use mathlib.Core.Logic.{_⊎_, inl, inr, ⊎-elim}
 use mathlib.Core.List.{List}
-use Prim.Native.Nat.{ℕ, zero, suc, _+_, _-_, _*_, _<_, _≤_}
+use Prim.Native.Nat.{ℕ, suc, _+_, _*_, _<_, _≤_}
 use native.Mathlib.Omega.{arith}
 use lib.IntN.{ℤ}
 use lib.ListN.{length}
 use Rattle.integers.specs.Bools.{decide, clash}
 use Rattle.plane.specs.declared.Spot.{Spot}
-use Rattle.plane.specs.Rule.{blocks, drops, dropsBox}
+use Rattle.plane.specs.Rule.{drops}
 use Rattle.plane.proofs.RuleLaws.{box-drops}
 use Rattle.sheet.specs.Layout.{points, nodes}
 use Rattle.sheet.specs.Order.{orderOf, rankOf, orderOk}
@@ -21,12 +21,13 @@ use Rattle.sheet.specs.Places.{spotOf, boxOf}
 use Rattle.sheet.specs.Open.{Opens}
 use Rattle.sheet.proofs.OrderLaws.{order-below, rank-below, order-rank}
 use Rattle.sheet.proofs.PlaceLaws.{in-box}
-use Rattle.bits.specs.Set.{kept, with, none, some}
+use Rattle.bits.specs.Set.{kept, with, none}
 use Rattle.bits.proofs.SetLaws.{with-length, kept-same, kept-more, kept-only, none-kept, none-length}
 use Rattle.bits.proofs.SomeLaws.{some-one}
-use Rattle.walk.specs.Walk.{walk, walkAll}
+use Rattle.walk.specs.Walk.{walkAll}
 use Rattle.walk.specs.FilterWalk.{Kept, soFar, dropped, shut, consider, filterPlace, filterTake, filterVisit, filterNode, filterKept}
-use Rattle.walk.proofs.WalkLaws.{Steps, Does, walk-does, all-does, walk-opened, all-opened}
+use Rattle.walk.specs.Claims.{Dropper}
+use Rattle.walk.proofs.WalkLaws.{Steps, Does, all-does, walk-opened, all-opened}
 
 -- so many words as there were, and every kept position is below n
 pub record Right (words n : ℕ) (k : Kept) : Type 0 where
@@ -36,14 +37,6 @@ pub record Right (words n : ℕ) (k : Kept) : Type 0 where
 -- what is kept stays kept
 pub record Grows (k k′ : Kept) : Type 0 where
   pub stays : (i : ℕ) → kept (k .bits) i ≡ true → kept (k′ .bits) i ≡ true
-
--- another position that is kept drops position i
-pub record Dropper (w : List ℤ) (n : ℕ) (q : Spot) (b : List ℕ) (i : ℕ) : Type 0 where
-  pub by : ℕ
-  pub below : by < n
-  pub other : by ≡ i → ⊥
-  pub is-kept : kept b by ≡ true
-  pub dropping : drops q (spotOf w by) (spotOf w i) ≡ true
 
 -- position i is kept, or another that is kept drops it
 abbrev pub Settled : List ℤ → ℕ → Spot → List ℕ → ℕ → Type 0

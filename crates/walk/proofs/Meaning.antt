@@ -38,14 +38,14 @@ use Rattle.bits.specs.Set.{at, kept, cardIn, card}
 use Rattle.bits.proofs.SetLaws.{not-kept-at}
 use Rattle.bits.proofs.CardLaws.{card-first}
 use Rattle.walk.specs.declared.Blocker.{Blocker}
-use Rattle.walk.specs.declared.Hit.{Hit}
-use Rattle.walk.specs.declared.Hit.the-variants.{Clear, Point, Side}
+use Rattle.walk.specs.declared.Hit.the-variants.{Point, Side}
 use Rattle.walk.specs.declared.Answer.{Answer}
 use Rattle.walk.specs.FilterWalk.{filterKept, filterKeeps}
 use Rattle.walk.specs.RingWalk.{clear, ringWalk, pairWalk}
-use Rattle.walk.proofs.FilterLaws.{Dropper, filter-opened, kept-long, kept-below, kept-settled}
-use Rattle.walk.proofs.RingLaws.{Blocks, BlocksBelow, Truth, plus, ring-truth, ring-opened}
-use Rattle.walk.proofs.PairLaws.{unblocked-free, walk-unblocked, pair-rule, overQ, overP, pair-walks, pair-both}
+use Rattle.walk.specs.Claims.{Dropper, Blocks, BlocksBelow, plus, overQ, overP, BlocksPair, BlocksPairBelow}
+use Rattle.walk.proofs.FilterLaws.{filter-opened, kept-long, kept-below, kept-settled}
+use Rattle.walk.proofs.RingLaws.{Truth, ring-truth, ring-opened}
+use Rattle.walk.proofs.PairLaws.{unblocked-free, walk-unblocked, pair-rule, pair-walks, pair-both, pair-hit}
 
 -- ---- the filter walk for q over w, on so many words: 64 positions a word, enough for the points
 
@@ -129,20 +129,12 @@ module _ (P Q : List ℤ) (p-opens : Opens P (points P) (nodes P)) (q-opens : Op
       go false = omega (arith, ring-opened 1 Q q-opens (spotOf Q j) (spotOf P i) j)
 
   -- A point answer names a record of Q other than q, or one of P other than p, that blocks;
-  pub pair-point : (x : Blocker) → pairWalk P Q j i .hit ≡ Point x → ((x .set ≡ 1) × Blocks Q (points Q) (spotOf Q j) (spotOf P i) j (x .position)) ⊎ ((x .set ≡ 0) × Blocks P (points P) (spotOf Q j) (spotOf P i) i (x .position))
-  pair-point x e = go (clear (overQ P Q j i .hit)) (sym (ap (λ (s : Answer). s .hit) (pair-is P Q j i)) ∙ e)
-    where
-      go : (t : Bool) → cond t (plus (overQ P Q j i .opened) (overP P Q j i)) (overQ P Q j i) .hit ≡ Point x → ((x .set ≡ 1) × Blocks Q (points Q) (spotOf Q j) (spotOf P i) j (x .position)) ⊎ ((x .set ≡ 0) × Blocks P (points P) (spotOf Q j) (spotOf P i) i (x .position))
-      go true h = inr (point-blocks 0 P p-opens (spotOf Q j) (spotOf P i) i (inr refl) x h)
-      go false h = inl (point-blocks 1 Q q-opens (spotOf Q j) (spotOf P i) j (inl refl) x h)
+  pub pair-point : (x : Blocker) → pairWalk P Q j i .hit ≡ Point x → BlocksPair P Q j i (x .set) (x .position)
+  pair-point x = pair-hit P Q j i (λ h. h ≡ Point x → BlocksPair P Q j i (x .set) (x .position)) (λ e. inl (point-blocks 1 Q q-opens (spotOf Q j) (spotOf P i) j (inl refl) x e)) (λ e. inr (point-blocks 0 P p-opens (spotOf Q j) (spotOf P i) i (inr refl) x e))
 
   -- and a side answer a node of that sheet below which one stands.
-  pub pair-side : (s v : ℕ) → pairWalk P Q j i .hit ≡ Side s v → ((s ≡ 1) × (v < nodes Q) × BlocksBelow Q (points Q) (spotOf Q j) (spotOf P i) j v) ⊎ ((s ≡ 0) × (v < nodes P) × BlocksBelow P (points P) (spotOf Q j) (spotOf P i) i v)
-  pair-side s v e = go (clear (overQ P Q j i .hit)) (sym (ap (λ (r : Answer). r .hit) (pair-is P Q j i)) ∙ e)
-    where
-      go : (t : Bool) → cond t (plus (overQ P Q j i .opened) (overP P Q j i)) (overQ P Q j i) .hit ≡ Side s v → ((s ≡ 1) × (v < nodes Q) × BlocksBelow Q (points Q) (spotOf Q j) (spotOf P i) j v) ⊎ ((s ≡ 0) × (v < nodes P) × BlocksBelow P (points P) (spotOf Q j) (spotOf P i) i v)
-      go true h = inr (side-blocks 0 P p-opens (spotOf Q j) (spotOf P i) i (inr refl) s v h)
-      go false h = inl (side-blocks 1 Q q-opens (spotOf Q j) (spotOf P i) j (inl refl) s v h)
+  pub pair-side : (s v : ℕ) → pairWalk P Q j i .hit ≡ Side s v → BlocksPairBelow P Q j i s v
+  pair-side s v = pair-hit P Q j i (λ h. h ≡ Side s v → BlocksPairBelow P Q j i s v) (λ e. inl (side-blocks 1 Q q-opens (spotOf Q j) (spotOf P i) j (inl refl) s v e)) (λ e. inr (side-blocks 0 P p-opens (spotOf Q j) (spotOf P i) i (inr refl) s v e))
 
   module _ (j-in : j < points Q) (i-in : i < points P) where
     -- The pair walk is clear exactly for a ring pair.

@@ -4,14 +4,13 @@ use mathlib.Core.Path.{_≡_, refl, sym, ap, subst, _∙_}
 use mathlib.Core.Bool.{Bool, true, false, cond, not, _&&_, _||_}
 use mathlib.Core.Logic.{_⊎_}
 use mathlib.Core.List.{List}
-use Prim.Native.Nat.{ℕ, _+_, _<_}
+use Prim.Native.Nat.{ℕ, _<_}
 use native.Mathlib.Omega.{arith}
 use lib.Dec.{eqb}
 use lib.IntN.{ℤ}
 use lib.ListN.{length}
 use borrow.Author.Tests.{eq-eqb, ne-eqb}
 use Rattle.integers.specs.Bools.{clash, test-iff}
-use Rattle.words.specs.All.{allB}
 use Rattle.words.proofs.AllLaws.{all-at, all-make}
 use Rattle.plane.specs.declared.Spot.{Spot}
 use Rattle.plane.specs.Rule.{blocks}
@@ -23,8 +22,9 @@ use Rattle.sheet.specs.Open.{Opens}
 use Rattle.sheet.proofs.PointsLaws.{length-points, point-at}
 use Rattle.walk.specs.declared.Hit.{Hit}
 use Rattle.walk.specs.declared.Answer.{Answer}
-use Rattle.walk.specs.RingWalk.{clear, clearAt, ringOn, ringWalk, pairWalk}
-use Rattle.walk.proofs.RingLaws.{Free, only-clear, plus, clear-free, free-clear, on-stops, on-adds}
+use Rattle.walk.specs.RingWalk.{clear, ringOn, ringWalk, pairWalk}
+use Rattle.walk.specs.Claims.{Free, plus, overQ, overP}
+use Rattle.walk.proofs.RingLaws.{only-clear, clear-free, free-clear, on-stops, on-adds}
 
 -- ---- the ring rule
 
@@ -66,25 +66,27 @@ pair-rule P Q j i hj hi = rw (spot-is Q j hj, spot-is P i hi)
 -- ---- the pair walk
 
 module _ (P Q : List ℤ) (j i : ℕ) where
-  abbrev pub overQ : Answer
-  overQ = ringWalk 1 Q (spotOf Q j) (spotOf P i) j
-
-  abbrev pub overP : Answer
-  overP = ringWalk 0 P (spotOf Q j) (spotOf P i) i
-
   -- Q first, then P if Q is clear; the counts add up
-  pub pair-walks : pairWalk P Q j i ≡ cond (clear (overQ .hit)) (plus (overQ .opened) overP) overQ
+  pub pair-walks : pairWalk P Q j i ≡ cond (clear (overQ P Q j i .hit)) (plus (overQ P Q j i .opened) (overP P Q j i)) (overQ P Q j i)
   unfolding pairWalk
-  pair-walks = go overQ (clear (overQ .hit)) refl
+  pair-walks = go (overQ P Q j i) (clear (overQ P Q j i .hit)) refl
     where
-      go : (x : Answer) (t : Bool) → clear (x .hit) ≡ t → ringOn 0 P (spotOf Q j) (spotOf P i) i x ≡ cond t (plus (x .opened) overP) x
+      go : (x : Answer) (t : Bool) → clear (x .hit) ≡ t → ringOn 0 P (spotOf Q j) (spotOf P i) i x ≡ cond t (plus (x .opened) (overP P Q j i)) x
       go x true e = ap (ringOn 0 P (spotOf Q j) (spotOf P i) i) (only-clear x e) ∙ on-adds 0 P (spotOf Q j) (spotOf P i) i (x .opened)
       go x false e = on-stops 0 P (spotOf Q j) (spotOf P i) i x e
 
   -- clear is clear of both
-  pub pair-both : clear (pairWalk P Q j i .hit) ≡ (clear (overQ .hit) && clear (overP .hit))
-  pair-both = ap (λ (s : Answer). clear (s .hit)) pair-walks ∙ both overQ (clear (overQ .hit)) refl
+  pub pair-both : clear (pairWalk P Q j i .hit) ≡ (clear (overQ P Q j i .hit) && clear (overP P Q j i .hit))
+  pair-both = ap (λ (s : Answer). clear (s .hit)) pair-walks ∙ both (overQ P Q j i) (clear (overQ P Q j i .hit)) refl
     where
-      both : (x : Answer) (t : Bool) → clear (x .hit) ≡ t → clear (cond t (plus (x .opened) overP) x .hit) ≡ (t && clear (overP .hit))
+      both : (x : Answer) (t : Bool) → clear (x .hit) ≡ t → clear (cond t (plus (x .opened) (overP P Q j i)) x .hit) ≡ (t && clear (overP P Q j i .hit))
       both x true e = refl
       both x false e = e
+
+  -- what is so of the hit of either walk is so of the pair's
+  pub pair-hit : (T : Hit → Type 0) → T (overQ P Q j i .hit) → T (overP P Q j i .hit) → T (pairWalk P Q j i .hit)
+  pair-hit T x y = subst (λ (s : Answer). T (s .hit)) (sym pair-walks) (go (clear (overQ P Q j i .hit)))
+    where
+      go : (t : Bool) → T (cond t (plus (overQ P Q j i .opened) (overP P Q j i)) (overQ P Q j i) .hit)
+      go true = y
+      go false = x

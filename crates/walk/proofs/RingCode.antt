@@ -1,28 +1,26 @@
 -- What the code of the ring walk goes by: one place of a leaf, one node, and the loop over what a node covers.
 -- Assumes nothing.
 use mathlib.Core.Path.{_≡_, refl, sym, ap, subst, _∙_}
-use mathlib.Core.Bool.{Bool, true, false, cond, not, _&&_}
+use mathlib.Core.Bool.{true, false}
 use mathlib.Core.List.{List}
 use Prim.Native.Nat.{ℕ, zero, suc, _+_, _-_, _<_, _≤_}
 use native.Mathlib.Omega.{arith}
 use native.Mathlib.Nat.{pos-of-ne-zero}
-use lib.Dec.{eqb, ltb}
+use lib.Dec.{ltb}
 use lib.IntN.{ℤ}
-use Rattle.integers.specs.Bools.{clash}
 use Rattle.plane.specs.declared.Spot.{Spot}
-use Rattle.plane.specs.Rule.{blocks, far, sideIn}
+use Rattle.plane.specs.Rule.{far, sideIn}
 use Rattle.sheet.specs.Order.{orderOf}
 use Rattle.sheet.specs.Nodes.{levelOf, firstOf, countOf}
 use Rattle.sheet.specs.Boxes.{sumOver, treeSize}
 use Rattle.sheet.specs.Places.{spotOf, boxOf}
-use Rattle.walk.specs.declared.Hit.{Hit}
-use Rattle.walk.specs.declared.Hit.the-variants.{Clear, Point, Side}
+use Rattle.walk.specs.declared.Hit.the-variants.{Point, Side}
 use Rattle.walk.specs.declared.Answer.{Answer}
 use borrow.Author.Tests.{eq-eqb, ne-eqb}
 use Rattle.sheet.specs.Layout.{points, nodes}
 use Rattle.sheet.specs.Open.{Opens}
 use Rattle.walk.specs.Walk.{inTurn, walk, walkAll}
-use Rattle.walk.specs.RingWalk.{clear, clearAt, meet, ringTake, enter, ringVisit, ringNode, ringOn, ringWalk, pairWalk}
+use Rattle.walk.specs.RingWalk.{clear, clearAt, stops, meet, ringTake, enter, ringVisit, ringNode, ringOn, ringWalk, pairWalk}
 use Rattle.walk.proofs.RoomLaws.{room-start, room-here, room-after}
 use Rattle.walk.proofs.TurnLaws.{Turn, turn-start, turn-step, turn-end, turn-stop}
 use Rattle.walk.proofs.RingLaws.{node-stops, on-stops, ring-node-opened, opened-by, only-clear}
@@ -33,11 +31,11 @@ module _ (set : ℕ) (w : List ℤ) (n : ℕ) (a b : Spot) (end : ℕ) where
   abbrev pub Leaf : ℕ → ℕ → ℕ → ℕ → Type 0
   Leaf first count o i = Turn (ringTake set w n a b end) first count (clearAt o) (clearAt o) i
 
-  pub leaf-passes : (first count o i k : ℕ) → i < count → k ≡ orderOf w n (first + i) → (not (eqb k end) && blocks a b (spotOf w k)) ≡ false → Leaf first count o i → Leaf first count o (i + 1)
+  pub leaf-passes : (first count o i k : ℕ) → i < count → k ≡ orderOf w n (first + i) → stops w a b end k ≡ false → Leaf first count o i → Leaf first count o (i + 1)
   unfolding ringTake meet
   leaf-passes first count o i k h e t u = turn-step _ first count _ _ _ i h u (rw (← e, t))
 
-  pub leaf-hit : (first count o i k : ℕ) → i < count → k ≡ orderOf w n (first + i) → (not (eqb k end) && blocks a b (spotOf w k)) ≡ true → Leaf first count o i
+  pub leaf-hit : (first count o i k : ℕ) → i < count → k ≡ orderOf w n (first + i) → stops w a b end k ≡ true → Leaf first count o i
       → _≡_ {A = Answer} (record { hit = Point (record { set = set; position = k }); opened = o }) (inTurn (ringTake set w n a b end) count first (clearAt o))
   unfolding ringTake meet
   leaf-hit first count o i k h e t u =

@@ -2,16 +2,16 @@
 -- `Meaning` has the statements for a reader.
 -- Assumes nothing.
 use mathlib.Core.Path.{_≡_, refl, sym, ap, subst, _∙_}
-use mathlib.Core.Bool.{Bool, true, false, cond, not, _&&_, false≢true}
-use mathlib.Core.Logic.{_⊎_, inl, inr, ⊎-elim}
+use mathlib.Core.Bool.{Bool, true, false, cond, not, _&&_}
+use mathlib.Core.Logic.{_⊎_, ⊎-elim}
 use mathlib.Core.List.{List}
 use Prim.Native.Nat.{ℕ, zero, suc, _+_, _-_, _<_, _≤_}
 use native.Mathlib.Omega.{arith}
 use lib.Dec.{eqb, ltb}
 use lib.IntN.{ℤ, pos}
 use lib.Signed.{_<ℤ_}
-use borrow.Author.Tests.{eqb-true, eqb-false, eq-eqb, ne-eqb, ltb-true, not-true}
-use Rattle.integers.specs.Bools.{and-left, and-right, decide, clash}
+use borrow.Author.Tests.{eqb-false, ne-eqb, ltb-true, not-true}
+use Rattle.integers.specs.Bools.{and-left, and-right, clash}
 use Rattle.plane.specs.declared.Spot.{Spot}
 use Rattle.plane.specs.Rule.{dot, blocks, far, sideIn}
 use Rattle.plane.proofs.RuleLaws.{far-clear, side-strict, strict-blocks, strict-not-left, strict-not-right}
@@ -23,29 +23,24 @@ use Rattle.sheet.specs.Places.{spotOf, boxOf}
 use Rattle.sheet.specs.Open.{Opens}
 use Rattle.sheet.proofs.OrderLaws.{order-below, rank-below, order-rank}
 use Rattle.sheet.proofs.PlaceLaws.{in-box, touching, touching-below, on-sides, below-place}
-use Rattle.walk.specs.declared.Blocker.{Blocker}
 use Rattle.walk.specs.declared.Hit.{Hit}
 use Rattle.walk.specs.declared.Hit.the-variants.{Clear, Point, Side}
 use Rattle.walk.specs.declared.Answer.{Answer}
 use Rattle.walk.specs.Walk.{walk, walkAll}
-use Rattle.walk.specs.RingWalk.{clear, clearAt, unlessHit, meet, ringTake, enter, ringVisit, ringNode, ringOn, ringWalk}
-use Rattle.walk.proofs.WalkLaws.{Steps, Does, walk-does, all-does, walk-opened, all-opened, all-shift}
+use Rattle.walk.specs.RingWalk.{clear, clearAt, stops, meet, ringTake, enter, ringVisit, ringNode, ringOn, ringWalk}
+use Rattle.walk.specs.Claims.{Blocks, BlocksBelow, Free, plus}
+use Rattle.walk.proofs.WalkLaws.{Steps, Does, all-does, walk-opened, all-opened, all-shift}
 
--- position i is not the end, and blocks
-pub record Blocks (w : List ℤ) (n : ℕ) (a b : Spot) (end i : ℕ) : Type 0 where
-  pub below : i < n
-  pub other : i ≡ end → ⊥
-  pub blocking : blocks a b (spotOf w i) ≡ true
+-- a record that stops the walk is another than the end, and blocks; one that does not is the end or does not block
+stops-yes : (w : List ℤ) (n : ℕ) (a b : Spot) (end i : ℕ) → i < n → stops w a b end i ≡ true → Blocks w n a b end i
+unfolding stops
+stops-yes w n a b end i h e =
+    let o = not (eqb i end) in
+    record { below = h; other = eqb-false i end (not-true _ (and-left o (blocks a b (spotOf w i)) e)); blocking = and-right o (blocks a b (spotOf w i)) e }
 
--- no position but the end blocks
-abbrev pub Free : List ℤ → ℕ → Spot → Spot → ℕ → Type 0
-Free w n a b end = (i : ℕ) → i < n → (i ≡ end → ⊥) → blocks a b (spotOf w i) ≡ false
-
--- a place below node j at which such a position stands
-pub record BlocksBelow (w : List ℤ) (n : ℕ) (a b : Spot) (end j : ℕ) : Type 0 where
-  pub place : ℕ
-  pub under : Below w n (levelOf w n j) j place
-  pub there : Blocks w n a b end (orderOf w n place)
+stops-no : (w : List ℤ) (a b : Spot) (end i : ℕ) → stops w a b end i ≡ false → (i ≡ end → ⊥) → blocks a b (spotOf w i) ≡ false
+unfolding stops
+stops-no w a b end i e ne = subst (λ (t : Bool). (not t && blocks a b (spotOf w i)) ≡ false) (ne-eqb i end ne) e
 
 -- what an answer says is so
 abbrev pub Truth : ℕ → List ℤ → ℕ → ℕ → Spot → Spot → ℕ → Hit → Type 0
@@ -92,19 +87,17 @@ module _ (set : ℕ) (w : List ℤ) (n m : ℕ) (a b : Spot) (end : ℕ) where
         i : ℕ
         i = orderOf w n r
 
-        test : (t : Bool) → (not (eqb i end) && blocks a b (spotOf w i)) ≡ t → Rings s (cond t (record { hit = Point (record { set = set; position = i }); opened = s .opened }) s) (λ k. k ≡ r)
-        test true e =
-            hit-does s _ _ _ refl
-            (refl, record { below = order-below w n ordered r h; other = eqb-false i end (not-true _ (and-left (not (eqb i end)) (blocks a b (spotOf w i)) e)); blocking = and-right (not (eqb i end)) (blocks a b (spotOf w i)) e })
+        test : (t : Bool) → stops w a b end i ≡ t → Rings s (cond t (record { hit = Point (record { set = set; position = i }); opened = s .opened }) s) (λ k. k ≡ r)
+        test true e = hit-does s _ _ _ refl (refl, stops-yes w n a b end i (order-below w n ordered r h) e)
         test false e =
             record {
               good = g;
               more = record { clear-before = λ x. x };
-              done = λ k c. subst (Passed w n a b end s) (sym c) (record { passes = λ x ne. subst (λ (t : Bool). (not t && blocks a b (spotOf w i)) ≡ false) (ne-eqb i end ne) e });
+              done = λ k c. subst (Passed w n a b end s) (sym c) (record { passes = λ x. stops-no w a b end i e });
             }
 
         by : (t : Bool) → clear (s .hit) ≡ t → Rings s (cond t (meet set w a b end i s) s) (λ k. k ≡ r)
-        by true e = test (not (eqb i end) && blocks a b (spotOf w i)) refl
+        by true e = test (stops w a b end i) refl
         by false e = stopped s _ e g
 
     -- a point strictly inside is not the end
@@ -162,7 +155,7 @@ module _ (set : ℕ) (w : List ℤ) (n m : ℕ) (a b : Spot) (end : ℕ) where
 
 take-opened : (set : ℕ) (w : List ℤ) (n : ℕ) (a b : Spot) (end r : ℕ) (s : Answer) → ringTake set w n a b end r s .opened ≡ s .opened
 unfolding ringTake meet
-take-opened set w n a b end r s = go (clear (s .hit)) (not (eqb (orderOf w n r) end) && blocks a b (spotOf w (orderOf w n r)))
+take-opened set w n a b end r s = go (clear (s .hit)) (stops w a b end (orderOf w n r))
   where
     go : (c t : Bool) → cond c (cond t (record { hit = Point (record { set = set; position = orderOf w n r }); opened = s .opened }) s) s .opened ≡ s .opened
     go true true = refl
@@ -208,13 +201,9 @@ only-clear s e = ap (λ (h : Hit). record { hit = h; opened = s .opened }) (go (
     go (Point x) e = clash e refl
     go (Side x y) e = clash e refl
 
--- an answer, with c more nodes opened
-abbrev pub plus : ℕ → Answer → Answer
-plus c s = record { hit = s .hit; opened = c + s .opened }
-
 take-plus : (c set : ℕ) (w : List ℤ) (n : ℕ) (a b : Spot) (end r : ℕ) (s : Answer) → ringTake set w n a b end r (plus c s) ≡ plus c (ringTake set w n a b end r s)
 unfolding ringTake meet
-take-plus c set w n a b end r s = go (clear (s .hit)) (not (eqb (orderOf w n r) end) && blocks a b (spotOf w (orderOf w n r)))
+take-plus c set w n a b end r s = go (clear (s .hit)) (stops w a b end (orderOf w n r))
   where
     go : (x y : Bool) → cond x (cond y (record { hit = Point (record { set = set; position = orderOf w n r }); opened = c + s .opened }) (plus c s)) (plus c s) ≡ plus c (cond x (cond y (record { hit = Point (record { set = set; position = orderOf w n r }); opened = s .opened }) s) s)
     go true true = refl

@@ -2,7 +2,7 @@
 -- Assumes nothing.
 use mathlib.Core.Path.{_≡_, refl, sym, ap, subst, _∙_}
 use mathlib.Core.Bool.{Bool, true, false, cond}
-use mathlib.Core.Logic.{_⊎_, inl, inr, ⊎-elim}
+use mathlib.Core.Logic.{⊎-elim}
 use mathlib.Core.List.{List}
 use Prim.Native.Nat.{ℕ, zero, suc, _+_, _-_, _<_, _≤_}
 use native.Mathlib.Omega.{arith}
@@ -10,7 +10,6 @@ use native.Mathlib.Nat.{eq-or-lt-of-le, pos-of-ne-zero}
 use lib.Dec.{eqb}
 use lib.IntN.{ℤ}
 use borrow.Author.Tests.{eqb-true, eqb-false}
-use Rattle.integers.specs.Bools.{decide}
 use Rattle.sheet.specs.Nodes.{levelOf, firstOf, countOf, tableOk}
 use Rattle.sheet.specs.Boxes.{Below, sumOver, treeSize}
 use Rattle.sheet.proofs.TreeLaws.{child, leaf}

@@ -5,8 +5,6 @@ use lib.ListN.{length}
 use Rattle.bits.proofs.SetLaws.{Blank, blank-start, blank-step, blank-end}
 use Rattle.bits.proofs.clear.Statement.{statement}
 use Rattle.bits.proofs.clear.Tie as tie
-use Rattle.bits.proofs.clear.Reads as reads
-use Rattle.bits.proofs.clear.Lts as lts
 
 abbrev Inv-loop : tie.InvT-loop
 Inv-loop bits₀ w₀ bits w = Blank bits₀ bits w
@@ -14,35 +12,27 @@ Inv-loop bits₀ w₀ bits w = Blank bits₀ bits w
 abbrev μ-loop : tie.MeasureT-loop
 μ-loop bits₀ w₀ bits w = length bits₀ - w
 
--- src/lib.rt:12:5
 loop-holds : tie.Need-loop-holds Inv-loop μ-loop
 loop-holds c = blank-start _
 
--- src/lib.rt:13:9
 mul-bits : tie.Need-mul-bits Inv-loop μ-loop
 mul-bits c = omega arith
 
--- src/lib.rt:13:9
 slice-write-bits : tie.Need-slice-write-bits Inv-loop μ-loop
 slice-write-bits c = omega arith
 
--- src/lib.rt:14:9
 add-w : tie.Need-add-w Inv-loop μ-loop
 add-w c = omega arith
 
--- src/lib.rt:12:5
 loop-less : tie.Need-loop-less Inv-loop μ-loop
 loop-less c = omega (arith, c .before .loop .inv .long)
 
--- src/lib.rt:12:5
 loop-again : tie.Need-loop-again Inv-loop μ-loop
 loop-again c = blank-step _ _ _ (c .loop-test .taken) (c .before .loop .inv)
 
--- src/lib.rt:8:1
 same-length : tie.Need-same-length Inv-loop μ-loop
 same-length c = c .before .loop .inv .long
 
--- src/lib.rt:8:1
 returns : tie.Need-returns Inv-loop μ-loop
 returns c = blank-end _ _ _ (c .loop-test .left) (c .before .loop .inv)
 

@@ -8,8 +8,6 @@ use Rattle.bits.specs.Set.{card}
 use Rattle.bits.proofs.CardLaws.{rest, rest-start, rest-step, rest-end}
 use Rattle.bits.proofs.len.Statement.{statement}
 use Rattle.bits.proofs.len.Tie as tie
-use Rattle.bits.proofs.len.Reads as reads
-use Rattle.bits.proofs.len.Lts as lts
 
 abbrev Inv-loop : tie.InvT-loop
 Inv-loop bits n₀ w₀ n w = (w ≤ length bits) × (n ≤ w * 64) × (n + rest bits w ≡ card bits)
@@ -17,19 +15,15 @@ Inv-loop bits n₀ w₀ n w = (w ≤ length bits) × (n ≤ w * 64) × (n + rest
 abbrev μ-loop : tie.MeasureT-loop
 μ-loop bits n₀ w₀ n w = length bits - w
 
--- src/lib.rt:44:5
 loop-holds : tie.Need-loop-holds Inv-loop μ-loop
 loop-holds c = (omega arith, omega arith, omega (arith, rest-start (c .args .bits .now)))
 
--- src/lib.rt:45:20
 mul-word : tie.Need-mul-word Inv-loop μ-loop
 mul-word c = omega arith
 
--- src/lib.rt:45:20
 shared-slice-read-word : tie.Need-shared-slice-read-word Inv-loop μ-loop
 shared-slice-read-word c = omega arith
 
--- src/lib.rt:46:14
 -- the ones of the word that a turn reads
 few : (c : tie.After-shared-slice-known Inv-loop μ-loop) → ones (getD (c .before .before .before .args .bits .now) (c .before .before .loop .w) 0) ≤ 64
 few c = ones-le 64 _ (c .shared-slice-known .given (c .before .before .loop .w) .fits)
@@ -37,26 +31,21 @@ few c = ones-le 64 _ (c .shared-slice-known .given (c .before .before .loop .w) 
 cast-n : tie.Need-cast-n Inv-loop μ-loop
 cast-n c = omega (arith, few c)
 
--- src/lib.rt:46:9
 add-n : tie.Need-add-n Inv-loop μ-loop
 add-n c = omega (arith, few c)
 
--- src/lib.rt:47:9
 add-w : tie.Need-add-w Inv-loop μ-loop
 add-w c = omega arith
 
--- src/lib.rt:44:5
 loop-less : tie.Need-loop-less Inv-loop μ-loop
 loop-less c = omega arith
 
--- src/lib.rt:44:5
 loop-again : tie.Need-loop-again Inv-loop μ-loop
 loop-again c =
     let i = c .before .before .loop .inv in
     let s = rest-step (c .before .before .before .args .bits .now) (c .before .before .loop .w) (c .before .loop-test .taken) (c .shared-slice-known .given (c .before .before .loop .w) .fits) in
     (omega arith, omega (arith, few c), omega (arith, i .2, s))
 
--- src/lib.rt:38:1
 returns : tie.Need-returns Inv-loop μ-loop
 returns c = omega (arith, c .before .loop .inv .2, rest-end (c .before .before .args .bits .now) (c .before .loop .w) (c .loop-test .left))
 

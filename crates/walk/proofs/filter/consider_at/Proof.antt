@@ -5,39 +5,27 @@ use Rattle.walk.proofs.FilterCode.{consider-yes, consider-no, dropped-i
 use borrow.Author.Needs.{needs}
 use Rattle.walk.proofs.filter.consider_at.Statement.{statement}
 use Rattle.walk.proofs.filter.consider_at.Tie as tie
-use Rattle.walk.proofs.filter.consider_at.Reads as reads
-use Rattle.walk.proofs.filter.consider_at.Lts as lts
-use Rattle.bits.proofs.insert.Reads as insert-reads
-use Rattle.sheet.proofs.reads.spot_at.Reads as spot-at-reads
-use Rattle.walk.proofs.filter.drops_spot.Reads as drops-spot-reads
 
--- src/filter.rt:53:9
 spot-at-requires : tie.Need-spot-at-requires
 spot-at-requires c κs = (c .before .pre .0, c .before .pre .2)
 
--- src/filter.rt:54:8
 drops-spot-requires : tie.Need-drops-spot-requires
 drops-spot-requires c κs =
     let p = c .before .before .before .pre in
     (p .0, p .1, spot-fits _ _ _ (p .0) _ _ (p .2) (c .before .spot-at .ensures), p .3)
 
--- src/filter.rt:55:9
 same-length : tie.Need-same-length
 same-length c = search needs
 
--- src/filter.rt:55:9
 returns : tie.Need-returns
 returns c = consider-yes _ _ _ _ _ (sym (dropped-is _ _ _ _ _ _ _ (c .before .before .before .spot-at .ensures) (c .before .drops-spot .ensures)) ∙ c .if1 .taken)
 
--- src/filter.rt:57:5
 insert-requires : tie.Need-insert-requires
 insert-requires c κs = search needs
 
--- src/filter.rt:49:1
 same-length-2 : tie.Need-same-length-2
 same-length-2 c = search needs
 
--- src/filter.rt:49:1
 returns-2 : tie.Need-returns-2
 returns-2 c =
     let e = c .before .before .before .before in
