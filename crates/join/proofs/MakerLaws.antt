@@ -17,7 +17,6 @@ use Rattle.words.proofs.AllLaws.{below-suc, first-le}
 use Rattle.list.specs.declared.Key.{Key}
 use Rattle.list.specs.declared.Pair.{Pair}
 use Rattle.list.specs.declared.Source.{Source}
-use Rattle.list.specs.declared.Page.{Page}
 use Rattle.list.specs.Pairs.{start, none, keyOf, follows, after}
 use Rattle.list.specs.Pages.{padded, shown, pageOf}
 use Rattle.list.specs.Rows.{row, rows, listBy, Rising, Named}
@@ -25,7 +24,6 @@ use Rattle.list.proofs.Order.{later, after-append}
 use Rattle.list.proofs.PageLaws.{end-mark}
 use Rattle.list.proofs.RowLaws.{list-ascends}
 use Rattle.join.specs.declared.Draft.{Draft}
-use Rattle.join.specs.declared.Tried.{Tried}
 use Rattle.join.specs.Walks.{Walks}
 use Rattle.join.specs.Work.{firstFrom}
 use Rattle.join.specs.Maker.{spent, found, withTried, tried, partner, partners, chamber, chambers, blank, pageMade, pageFrom}
@@ -249,7 +247,7 @@ module _ (w : Walks) (key : Key) (size : ℕ) (rule : ℕ → ℕ → Bool) (np 
       ∙ rows-before k (j + 1) (λ t a b. f t (omega arith) (omega arith))
 
   -- .. so the q's before the first whose id is not below the key's add nothing
-  from-after : after key (listBy rule (w .pair) np nq) ≡ after key (rows rule (w .pair) np (nq - firstFrom w key nq) (firstFrom w key nq))
+  from-after : after key (listBy rule (w .pair) np nq) ≡ after key (rows rule (w .pair) np (nq - firstFrom (w .qid) key nq) (firstFrom (w .qid) key nq))
   unfolding listBy firstFrom
   from-after =
       let test : ℕ → Bool = λ j. not (ltb (w .qid j) (key .q)) in
@@ -265,12 +263,12 @@ module _ (w : Walks) (key : Key) (size : ℕ) (rule : ℕ → ℕ → Bool) (np 
       ∙ ap (λ (l : List Pair). l ++ after key b) (rows-before from 0 (λ t x y. low t (omega arith)))
 
   -- the maker's pairs, number and end mark are those of the list's page
-  pub page-pairs : (s : Source) → Rising (w .qid) nq → Rising pid np → size ≤ 16
+  pub maker-page : (s : Source) → Rising (w .qid) nq → Rising pid np → size ≤ 16
       → pageFrom s key (pageMade w key size np nq) ≡ pageOf s (listBy rule (w .pair) np nq) key size
   unfolding pageMade pageFrom pageOf result
-  page-pairs s rq rp g =
+  maker-page s rq rp g =
       let l = listBy rule (w .pair) np nq in
-      let from = firstFrom w key nq in
+      let from = firstFrom (w .qid) key nq in
       let few : from + (nq - from) ≤ nq = omega (arith, from-most) in
       let z : bare (chambers w key size np (nq - from) from blank) ≡ result size (after key l) = chambers-feed (nq - from) from blank few ∙ feed-page size (after key (rows rule (w .pair) np (nq - from) from)) g ∙ ap (result size) (sym from-after) in
       let m = end-mark start key s l size (list-ascends rule (w .pair) (w .qid) pid nm nq np rq rp) in
@@ -279,5 +277,5 @@ module _ (w : Walks) (key : Key) (size : ℕ) (rule : ℕ → ℕ → Bool) (np 
       (λ t. record { source = s; key = key; count = z t .count; end = not (z t .more); pairs = z t .pairs })
       ∙ (λ t. record { source = s; key = key; count = length (u t); end = e t; pairs = padded (u t) })
     where
-      from-most : firstFrom w key nq ≤ nq
+      from-most : firstFrom (w .qid) key nq ≤ nq
       from-most = unfold firstFrom in first-le (λ j. not (ltb (w .qid j) (key .q))) nq

@@ -1,10 +1,10 @@
 -- The page maker's count is that of the walks, done one after the other up to the first pair beyond the size.
 -- Assumes nothing.
 use mathlib.Core.Path.{_≡_, refl, sym, ap, _∙_}
-use mathlib.Core.Bool.{Bool, true, false, cond, _&&_}
+use mathlib.Core.Bool.{Bool, true, false, cond}
 use mathlib.Core.Logic.{⊎-elim}
-use mathlib.Core.List.{List, [], _∷_, _++_, append-nil, append-assoc}
-use Prim.Native.Nat.{ℕ, zero, suc, _+_, _-_, _≤_, _<_}
+use mathlib.Core.List.{List, [], _∷_, _++_}
+use Prim.Native.Nat.{ℕ, zero, suc, _+_, _-_}
 use native.Mathlib.Omega.{arith}
 use lib.Dec.{ltb}
 use borrow.Author.Tests.{ltb-true, ltb-false}
@@ -13,7 +13,6 @@ use Rattle.list.specs.declared.Key.{Key}
 use Rattle.list.specs.declared.Pair.{Pair}
 use Rattle.list.specs.Pairs.{keyOf, follows}
 use Rattle.join.specs.declared.Draft.{Draft}
-use Rattle.join.specs.declared.Tried.{Tried}
 use Rattle.join.specs.Walks.{Walks}
 use Rattle.join.specs.Work.{Step, firstFrom, ringSteps, steps, spentOn, pageOpened}
 use Rattle.join.specs.Maker.{spent, found, withTried, tried, partner, partners, chamber, chambers, blank, pageMade}
@@ -117,10 +116,10 @@ module _ (w : Walks) (key : Key) (size : ℕ) where
       (decide (d .more))
 
   -- the maker's count of nodes opened is the defined one
-  pub page-opened : (np nq : ℕ) → pageMade w key size np nq .opened ≡ pageOpened w key size np nq
+  pub maker-opened : (np nq : ℕ) → pageMade w key size np nq .opened ≡ pageOpened w key size np nq
   unfolding pageMade pageOpened due
-  page-opened np nq =
-      let from = firstFrom w key nq in
+  maker-opened np nq =
+      let from = firstFrom (w .qid) key nq in
       let z : size - 0 ≡ size = omega arith in
       sym (due-none size (chambers w key size np (nq - from) from blank))
       ∙ chambers-due np (nq - from) from blank

@@ -1,3 +1,4 @@
 pub mod Walks
 pub mod Work
 pub mod Maker
+pub mod Sheets

@@ -1,6 +1,5 @@
 -- The page maker's work, step by step on a page in the making.
-use mathlib.Core.Bool.{Bool, true, false, cond, not, _&&_}
-use mathlib.Core.List.{List}
+use mathlib.Core.Bool.{true, false, cond, not, _&&_}
 use Prim.Native.Nat.{ℕ, zero, suc, _+_, _-_}
 use lib.ListN.{set, replicate}
 use lib.Dec.{ltb}
@@ -62,7 +61,7 @@ blank = record { pairs = replicate 16 none; count = 0; more = false; opened = 0 
 
 -- the page maker's work for np pump houses and nq chambers
 unfoldable pub pageMade : Walks → Key → ℕ → ℕ → ℕ → Draft
-pageMade w key size np nq = chambers w key size np (nq - firstFrom w key nq) (firstFrom w key nq) blank
+pageMade w key size np nq = chambers w key size np (nq - firstFrom (w .qid) key nq) (firstFrom (w .qid) key nq) blank
 
 -- the page of what was made: the end mark where no pair beyond the size was found
 unfoldable pub pageFrom : Source → Key → Draft → Page

@@ -1,7 +1,7 @@
 -- "Beside the page stands its count of nodes opened: each q in id order from the lowest id not below the key's is filtered once, its kept
 -- partners after the key are ring-walked in id order, and the work stops at the first pair beyond the size, or after the last q."
 -- The count is said here of the walks that are done, one after the other; no page is made.
-use mathlib.Core.Bool.{Bool, true, false, cond, not, _&&_}
+use mathlib.Core.Bool.{Bool, false, cond, not, _&&_}
 use mathlib.Core.List.{List, [], _∷_, _++_}
 use Prim.Native.Nat.{ℕ, zero, suc, _+_, _-_}
 use lib.Dec.{ltb}
@@ -15,9 +15,9 @@ pub record Step : Type 0 where
   pub opened : ℕ
   pub finds : Bool
 
--- of nq chambers, the first whose id is not below the key's, or nq
-unfoldable pub firstFrom : Walks → Key → ℕ → ℕ
-firstFrom w key nq = firstB nq (λ j. not (ltb (w .qid j) (key .q)))
+-- of nq chambers with these ids, the first whose id is not below the key's, or nq
+unfoldable pub firstFrom : (ℕ → ℕ) → Key → ℕ → ℕ
+firstFrom qid key nq = firstB nq (λ j. not (ltb (qid j) (key .q)))
 
 module _ (w : Walks) (key : Key) where
   -- "its kept partners after the key are ring-walked in id order": for the q at j, of the k positions of P from i on
@@ -41,4 +41,4 @@ spentOn (suc size) (s ∷ l) = s .opened + cond (s .finds) (spentOn size l) (spe
 
 -- the page's count of nodes opened, for np pump houses and nq chambers
 unfoldable pub pageOpened : Walks → Key → ℕ → ℕ → ℕ → ℕ
-pageOpened w key size np nq = spentOn size (steps w key np (nq - firstFrom w key nq) (firstFrom w key nq))
+pageOpened w key size np nq = spentOn size (steps w key np (nq - firstFrom (w .qid) key nq) (firstFrom (w .qid) key nq))

@@ -120,7 +120,7 @@ heads-number P Q h e = ap (λ (g : Heads). g .number) e ∙ number (eqb (sheetsN
     number false t = refl
 
 -- two sheets that open one by one
-both-open : (P Q : List ℤ) → sheetsNo P Q ≡ 0 → (sheetNo P ≡ 0) × (sheetNo Q ≡ 0)
+pub both-open : (P Q : List ℤ) → sheetsNo P Q ≡ 0 → (sheetNo P ≡ 0) × (sheetNo Q ≡ 0)
 unfolding sheetsNo
 both-open P Q e = let p = passed (sheetNo P) (sheetNo Q) (eqb (sheetNo P) 0) refl e in (p, sym (first-passes (sheetNo P) (sheetNo Q) p) ∙ e)
 

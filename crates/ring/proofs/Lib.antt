@@ -4,3 +4,4 @@ pub mod PointLaws
 pub mod RingLaws
 pub mod FilterLaws
 pub mod Once
+pub mod PageLaws

@@ -2,9 +2,11 @@
 // Each checks its sheets first, P then Q, by 1 to 8; then its positions by 9. A well-formed sheet is checked once a call.
 pub mod filter;
 pub mod open;
+pub mod page;
 pub mod point;
 pub mod ringwalk;
 
+use list::Page;
 use walk::Answer;
 
 // What a check of words finds: 0, how many words the sheet covers, its points and its nodes; or the number of refusal and zeros.
@@ -52,4 +54,12 @@ pub struct Filtered {
 pub enum Walked {
     Done(Answer),
     Refused(u32),
+}
+
+// What a page request answers: 0, the count of nodes opened and the page; or the number of refusal and zeros.
+#[repr(C)]
+pub struct Paged {
+    pub number: u32,
+    pub opened: u64,
+    pub page: Page,
 }

@@ -1,0 +1,132 @@
+-- What the page maker's functions find, from what their calls answered: laws over plain values.
+-- Assumes nothing.
+use mathlib.Core.Path.{_≡_, sym, ap, subst, _∙_}
+use mathlib.Core.Bool.{Bool, true, false, cond, not, _&&_}
+use mathlib.Core.List.{List}
+use Prim.Native.Nat.{ℕ, _+_, _*_, _≤_, _<_}
+use native.Mathlib.Omega.{arith}
+use native.Mathlib.Nat.{mul-le-mul, le-antisymm}
+use lib.IntN.{ℤ}
+use lib.ListN.{length}
+use lib.Dec.{ltb}
+use borrow.Author.Tests.{not-true, not-false, lt-ltb, le-ltb}
+use Rattle.words.proofs.AllLaws.{first-none, first-more, first-stop}
+use Rattle.plane.specs.declared.Spot.{Spot}
+use Rattle.plane.specs.Rule.{SpotIn}
+use Rattle.plane.specs.Point.{idAt}
+use Rattle.sheet.specs.Layout.{points, nodes}
+use Rattle.sheet.specs.Places.{spotOf, pointsOf}
+use Rattle.sheet.specs.Open.{Opens}
+use Rattle.sheet.proofs.RangeLaws.{spot-in}
+use Rattle.bits.specs.Set.{kept, Holds}
+use Rattle.walk.specs.declared.Answer.{Answer}
+use Rattle.walk.specs.FilterWalk.{filterKept}
+use Rattle.walk.specs.RingWalk.{clear, pairWalk}
+use Rattle.walk.proofs.Meaning.{filter-opened-at-most-m, pair-opened}
+use Rattle.list.specs.declared.Key.{Key}
+use Rattle.list.specs.Pairs.{keyOf, follows}
+use Rattle.list.specs.RingList.{pairAt}
+use Rattle.join.specs.declared.Draft.{Draft}
+use Rattle.join.specs.declared.Tried.{Tried}
+use Rattle.join.specs.Work.{firstFrom}
+use Rattle.join.specs.Maker.{spent, found, withTried, tried, partners, chamber}
+use Rattle.join.specs.Sheets.{walksOf}
+use Rattle.join.proofs.TurnLaws.{Capped, Words}
+
+-- ---- the first chamber from the key on: none of the first j is one
+
+module _ (qid : ℕ → ℕ) (key : Key) where
+  pub scan-start : firstFrom qid key 0 ≡ 0
+  unfolding firstFrom
+  scan-start = first-none (λ j. not (ltb (qid j) (key .q)))
+
+  pub scan-on : (j a : ℕ) → firstFrom qid key j ≡ j → a ≡ qid j → a < key .q → firstFrom qid key (j + 1) ≡ j + 1
+  unfolding firstFrom
+  scan-on j a e i h = first-more (λ j. not (ltb (qid j) (key .q))) j e (ap not (lt-ltb (qid j) (key .q) (omega arith)))
+
+  pub scan-stop : (j nq a : ℕ) → firstFrom qid key j ≡ j → a ≡ qid j → key .q ≤ a → j < nq → j ≡ firstFrom qid key nq
+  unfolding firstFrom
+  scan-stop j nq a e i h l = first-stop (λ j. not (ltb (qid j) (key .q))) j nq e (ap not (le-ltb (qid j) (key .q) (omega arith))) l
+
+  pub scan-end : (j nq : ℕ) → firstFrom qid key j ≡ j → j ≤ nq → nq ≤ j → j ≡ firstFrom qid key nq
+  scan-end j nq e l g = let z : j ≡ nq = le-antisymm l g in sym e ∙ ap (firstFrom qid key) z
+
+-- ---- a kept partner
+
+module _ (P Q : List ℤ) (key : Key) (j i a b : ℕ) (ea : a ≡ idAt (pointsOf Q) j) (eb : b ≡ idAt (pointsOf P) i) (k : Key) (ek : k ≡ keyOf (record { q = a; p = b })) (t : Bool) (et : t ≡ follows key k) where
+  after-is : follows key (keyOf (pairAt (pointsOf P) (pointsOf Q) j i)) ≡ t
+  after-is = sym (et ∙ ap (follows key) (ek ∙ (λ s. record { q = ea s; p = eb s })))
+
+  pub tried-early : not t ≡ true → (words : ℕ) → record { pair = record { q = a; p = b }; finds = false; opened = 0 } ≡ tried (walksOf words P Q) key j i
+  unfolding tried
+  tried-early n words =
+      let f : follows key (keyOf (pairAt (pointsOf P) (pointsOf Q) j i)) ≡ false = after-is ∙ not-true t n in
+      let x : false ≡ (follows key (keyOf (pairAt (pointsOf P) (pointsOf Q) j i)) && clear (pairWalk P Q j i .hit)) = sym (ap (λ (y : Bool). y && clear (pairWalk P Q j i .hit)) f) in
+      let z : 0 ≡ cond (follows key (keyOf (pairAt (pointsOf P) (pointsOf Q) j i))) (pairWalk P Q j i .opened) 0 = sym (ap (λ (y : Bool). cond y (pairWalk P Q j i .opened) 0) f) in
+      λ s. record { pair = record { q = ea s; p = eb s }; finds = x s; opened = z s }
+
+  pub tried-walked : not t ≡ false → (o : Answer) → o ≡ pairWalk P Q j i → (c : Bool) → c ≡ clear (o .hit) → (words : ℕ)
+      → record { pair = record { q = a; p = b }; finds = c; opened = o .opened } ≡ tried (walksOf words P Q) key j i
+  unfolding tried
+  tried-walked n o eo c ec words =
+      let f : follows key (keyOf (pairAt (pointsOf P) (pointsOf Q) j i)) ≡ true = after-is ∙ not-false t n in
+      let x : c ≡ (follows key (keyOf (pairAt (pointsOf P) (pointsOf Q) j i)) && clear (pairWalk P Q j i .hit)) = ec ∙ ap (λ (y : Answer). clear (y .hit)) eo ∙ sym (ap (λ (y : Bool). y && clear (pairWalk P Q j i .hit)) f) in
+      let z : o .opened ≡ cond (follows key (keyOf (pairAt (pointsOf P) (pointsOf Q) j i))) (pairWalk P Q j i .opened) 0 = ap (λ (y : Answer). y .opened) eo ∙ sym (ap (λ (y : Bool). cond y (pairWalk P Q j i .opened) 0) f) in
+      λ s. record { pair = record { q = ea s; p = eb s }; finds = x s; opened = z s }
+
+pub with-yes : (size : ℕ) (t u : Tried) (d r : Draft) → t ≡ u → t .finds ≡ true → r ≡ found size (t .pair) (spent (t .opened) d) → r ≡ withTried size u d
+unfolding withTried
+with-yes size t u d r e y f = rw (← e, y) f
+
+pub with-no : (size : ℕ) (t u : Tried) (d : Draft) → t ≡ u → t .finds ≡ false → spent (t .opened) d ≡ withTried size u d
+unfolding withTried
+with-no size t u d e n = rw (← e, n)
+
+-- ---- the words of the filter walk, and room
+
+pub words-of : (P Q : List ℤ) (j : ℕ) (ws : List ℕ) → ws ≡ filterKept (length ws) P (spotOf Q j) .bits → Words (walksOf (length ws) P Q) j ws
+words-of P Q j ws e i = ap (λ (x : List ℕ). kept x i) (sym e)
+
+-- lent words are as many after a walk as before it
+pub still-hold : (ws ws₀ : List ℕ) (n : ℕ) → length ws ≡ length ws₀ → Holds ws₀ n → Holds ws n
+still-hold ws ws₀ n e h = record { enough = omega (arith, h .enough); numbered = omega (arith, h .numbered) }
+
+module _ (P Q : List ℤ) (j : ℕ) (z : Spot) (ez : z ≡ spotOf Q j) (b : ℕ) where
+  pub words-are : (ws : List ℕ) → length ws ≡ b → ws ≡ filterKept b P z .bits → ws ≡ filterKept (length ws) P (spotOf Q j) .bits
+  words-are ws el e = e ∙ ap (λ (l : ℕ). filterKept l P z .bits) (sym el) ∙ ap (λ (y : Spot). filterKept (length ws) P y .bits) ez
+
+  pub chamber-walked : (a : ℕ) → a ≡ b → (key : Key) (size n o : ℕ) (d r : Draft) → o ≡ filterKept b P z .opened → r ≡ partners (walksOf a P Q) key size j n 0 (spent o d) → r ≡ chamber (walksOf b P Q) key size n j d
+  unfolding chamber
+  chamber-walked a el key size n o d r eo e =
+      e
+      ∙ ap (λ (l : ℕ). partners (walksOf l P Q) key size j n 0 (spent o d)) el
+      ∙ ap (λ (x : ℕ). partners (walksOf b P Q) key size j n 0 (spent x d)) (eo ∙ ap (λ (y : Spot). filterKept b P y .opened) ez)
+
+-- so many words, or as many
+pub chamber-same : (P Q : List ℤ) (key : Key) (size n j : ℕ) (d r : Draft) (a b : ℕ) → a ≡ b → r ≡ chamber (walksOf a P Q) key size n j d → r ≡ chamber (walksOf b P Q) key size n j d
+chamber-same P Q key size n j d r a b e f = f ∙ ap (λ (x : ℕ). chamber (walksOf x P Q) key size n j d) e
+
+-- a sheet that opens, by its own counts
+pub own : {w : List ℤ} {n m : ℕ} → Opens w n m → Opens w (points w) (nodes w)
+own {w} {n} o = subst (λ (a : ℕ). Opens w a (nodes w)) (sym (o .n-is)) (subst (Opens w n) (sym (o .m-is)) o)
+
+pub filter-few : {P : List ℤ} {np mp : ℕ} → Opens P np mp → (words : ℕ) (z : Spot) (o : ℕ) → o ≡ filterKept words P z .opened → o ≤ mp
+filter-few {P} c words z o e = omega (arith, c .m-is, filter-opened-at-most-m words P z (own c))
+
+pub spot-fits : {Q : List ℤ} {nq mq : ℕ} → Opens Q nq mq → (j : ℕ) (z : Spot) → j < nq → z ≡ spotOf Q j → SpotIn z
+spot-fits o j z h e = rw e (spot-in o j h)
+
+module _ {P Q : List ℤ} {np mp nq mq : ℕ} (o : Opens P np mp) (o′ : Opens Q nq mq) where
+  pub capped : (words : ℕ) → Capped (walksOf words P Q) mp (mp + mq)
+  capped words =
+      record {
+        filter = λ j. omega (arith, o .m-is, filter-opened-at-most-m words P (spotOf Q j) (own o));
+        ring = λ j i. omega (arith, o .m-is, o′ .m-is, pair-opened P Q (own o) (own o′) j i);
+      }
+
+  -- the count of a page fits
+  pub page-room : nq * (mp + np * (mp + mq)) < 9223372036854775808
+  page-room =
+      let a : np * (mp + mq) ≤ 60000 * 48000 = mul-le-mul {n₁ = np} {m₁ = mp + mq} {n₂ = 60000} {m₂ = 48000} (o .n-le) (omega (arith, o .m-le, o′ .m-le)) in
+      let b : nq * (mp + np * (mp + mq)) ≤ 60000 * 2880024000 = mul-le-mul {n₁ = nq} {m₁ = mp + np * (mp + mq)} {n₂ = 60000} {m₂ = 2880024000} (o′ .n-le) (omega (arith, o .m-le)) in
+      omega arith

@@ -1,0 +1,76 @@
+-- What the page maker makes, for every two sheets that open, in any form: P of np points, Q of nq, the kept sets on words that have a position for each of np.
+--
+--     points-rise       the ids of a sheet's points ascend, from 1 to 2,000,000,000: what the laws of the list ask for
+--     page-pairs        the pairs, their number and the end mark are those of the page of `ringList (pointsOf P) (pointsOf Q)`
+--     page-opened       the count is that of the walks, `pageOpened`
+--     sheet-pages       following the pages from (0, 0), whatever their sizes, gives the list
+--     list-by-points    sheets with the same points give the same list, and the same pairs, number and end mark of every page
+-- Assumes nothing.
+use mathlib.Core.Path.{_≡_, sym, ap, subst, _∙_}
+use mathlib.Core.List.{List}
+use Prim.Native.Nat.{ℕ, _*_, _≤_, _<_}
+use native.Mathlib.Omega.{arith}
+use lib.IntN.{ℤ}
+use lib.ListN.{length}
+use Rattle.plane.specs.Point.{Point, idAt}
+use Rattle.sheet.specs.Layout.{points}
+use Rattle.sheet.specs.Places.{pointsOf}
+use Rattle.sheet.specs.Open.{Opens}
+use Rattle.sheet.proofs.PointsLaws.{length-points, id-low, id-high, id-rises}
+use Rattle.walk.proofs.Meaning.{pair-exact}
+use Rattle.list.specs.declared.Key.{Key}
+use Rattle.list.specs.declared.Pair.{Pair}
+use Rattle.list.specs.declared.Source.{Source}
+use Rattle.list.specs.Pairs.{start}
+use Rattle.list.specs.Pages.{pageOf, followed}
+use Rattle.list.specs.Rows.{listBy, Rising}
+use Rattle.list.specs.RingList.{ringPair, pairAt, ringList}
+use Rattle.list.proofs.RowLaws.{named, ring-pages}
+use Rattle.join.specs.Work.{pageOpened}
+use Rattle.join.specs.Maker.{pageMade, pageFrom}
+use Rattle.join.specs.Sheets.{walksOf}
+use Rattle.join.proofs.MakerLaws.{Exact, maker-page}
+use Rattle.join.proofs.WorkLaws.{maker-opened}
+use Rattle.join.proofs.CallLaws.{own}
+
+module _ {w : List ℤ} {n m : ℕ} (o : Opens w n m) where
+  pub points-rise : Rising (idAt (pointsOf w)) (length (pointsOf w))
+  points-rise = record { rises = id-rises o; low = id-low o; high = id-high o }
+
+  ids-rise : Rising (idAt (pointsOf w)) n
+  ids-rise = subst (Rising (idAt (pointsOf w))) (length-points w ∙ o .n-is) points-rise
+
+module _ {P Q : List ℤ} {np mp nq mq : ℕ} (o : Opens P np mp) (o′ : Opens Q nq mq) where
+  list-is : listBy (ringPair (pointsOf P) (pointsOf Q)) (pairAt (pointsOf P) (pointsOf Q)) np nq ≡ ringList (pointsOf P) (pointsOf Q)
+  unfolding ringList
+  list-is =
+      let l = listBy (ringPair (pointsOf P) (pointsOf Q)) (pairAt (pointsOf P) (pointsOf Q)) in
+      ap (λ (k : ℕ). l k nq) (sym (length-points P ∙ o .n-is)) ∙ ap (λ (k : ℕ). l (length (pointsOf P)) k) (sym (length-points Q ∙ o′ .n-is))
+
+  module _ (words : ℕ) (enough : np ≤ 64 * words) where
+    exact : Exact (walksOf words P Q) (ringPair (pointsOf P) (pointsOf Q)) np nq
+    exact j i hj hi = pair-exact P Q (own o) (own o′) j i (omega (arith, o′ .n-is)) (omega (arith, o .n-is)) words (omega (arith, o .n-is))
+
+    pub page-pairs : (s : Source) (key : Key) (size : ℕ) → size ≤ 16 → pageFrom s key (pageMade (walksOf words P Q) key size np nq) ≡ pageOf s (ringList (pointsOf P) (pointsOf Q)) key size
+    page-pairs s key size h =
+        maker-page (walksOf words P Q) key size (ringPair (pointsOf P) (pointsOf Q)) np nq exact (idAt (pointsOf P)) (named (pointsOf P) (pointsOf Q)) s (ids-rise o′) (ids-rise o) h
+        ∙ ap (λ (l : List Pair). pageOf s l key size) list-is
+
+    pub page-opened : (key : Key) (size : ℕ) → pageMade (walksOf words P Q) key size np nq .opened ≡ pageOpened (walksOf words P Q) key size np nq
+    page-opened key size = maker-opened (walksOf words P Q) key size np nq
+
+  pub sheet-pages : (sizes : ℕ → ℕ) (s : Source) → ((k : ℕ) → 0 < sizes k) → followed (length (ringList (pointsOf P) (pointsOf Q))) sizes (pageOf s (ringList (pointsOf P) (pointsOf Q))) start ≡ ringList (pointsOf P) (pointsOf Q)
+  sheet-pages sizes s some = ring-pages (pointsOf P) (pointsOf Q) (points-rise o) (points-rise o′) sizes s some
+
+module _ (P P′ Q Q′ : List ℤ) (ep : pointsOf P ≡ pointsOf P′) (eq : pointsOf Q ≡ pointsOf Q′) where
+  pub same-list : ringList (pointsOf P) (pointsOf Q) ≡ ringList (pointsOf P′) (pointsOf Q′)
+  same-list = ap (λ (x : List Point). ringList x (pointsOf Q)) ep ∙ ap (ringList (pointsOf P′)) eq
+
+  -- whatever the editions and the trees
+  pub list-by-points : (s s′ : Source) (key : Key) (size : ℕ)
+      → (pageOf s (ringList (pointsOf P) (pointsOf Q)) key size .pairs ≡ pageOf s′ (ringList (pointsOf P′) (pointsOf Q′)) key size .pairs)
+      × (pageOf s (ringList (pointsOf P) (pointsOf Q)) key size .count ≡ pageOf s′ (ringList (pointsOf P′) (pointsOf Q′)) key size .count)
+      × (pageOf s (ringList (pointsOf P) (pointsOf Q)) key size .end ≡ pageOf s′ (ringList (pointsOf P′) (pointsOf Q′)) key size .end)
+  unfolding pageOf
+  list-by-points s s′ key size =
+      (ap (λ (l : List Pair). pageOf s l key size .pairs) same-list, ap (λ (l : List Pair). pageOf s l key size .count) same-list, ap (λ (l : List Pair). pageOf s l key size .end) same-list)

@@ -1,0 +1,62 @@
+-- The page request: its number, and its answer.
+use mathlib.Core.Bool.{false, cond, _&&_}
+use mathlib.Core.List.{List}
+use Prim.Native.Nat.{ℕ}
+use lib.Dec.{eqb, leb}
+use lib.IntN.{ℤ}
+use lib.ListN.{replicate}
+use Rattle.words.specs.Word.{num}
+use Rattle.words.specs.Range.{lastId}
+use Rattle.sheet.specs.Layout.{edition, points}
+use Rattle.sheet.specs.Places.{pointsOf}
+use Rattle.list.specs.declared.Key.{Key}
+use Rattle.list.specs.declared.Source.{Source}
+use Rattle.list.specs.Pairs.{start, none}
+use Rattle.list.specs.Pages.{pageOf}
+use Rattle.list.specs.RingList.{ringList}
+use Rattle.join.specs.Work.{pageOpened}
+use Rattle.join.specs.Sheets.{walksOf}
+use Rattle.ring.specs.declared.Paged.{Paged}
+use Rattle.ring.specs.Numbers.{first, sheetsNo}
+
+-- 9: "key out of range", "each 0 to 2,000,000,000"
+unfoldable pub keyNo : Key → ℕ
+keyNo key = cond (leb (key .q) lastId && leb (key .p) lastId) 0 9
+
+-- 10: "size out of range", "a size 1 to 16"
+unfoldable pub sizeNo : ℕ → ℕ
+sizeNo size = cond (leb 1 size && leb size 16) 0 10
+
+-- 9, then 10: what the request itself is refused by
+unfoldable pub askedNo : Key → ℕ → ℕ
+askedNo key size = first (keyNo key) (sizeNo size)
+
+-- "checks its sheets first [..]: 1 to 8 for P, then for Q"
+unfoldable pub pageNo : List ℤ → List ℤ → Key → ℕ → ℕ
+pageNo P Q key size = first (sheetsNo P Q) (askedNo key size)
+
+-- "The page holds both editions"
+unfoldable pub sourceOf : List ℤ → List ℤ → Source
+sourceOf P Q = record { «p_edition» = num (edition P); «q_edition» = num (edition Q) }
+
+-- the page of the list, from the points alone, and beside it the count of the walks, the kept sets on sixteen words
+unfoldable pub pageGiven : List ℤ → List ℤ → Key → ℕ → Paged
+pageGiven P Q key size =
+    record {
+      number = 0;
+      opened = pageOpened (walksOf 16 P Q) key size (points P) (points Q);
+      page = pageOf (sourceOf P Q) (ringList (pointsOf P) (pointsOf Q)) key size;
+    }
+
+-- "Every refusal gives only its number [..]. An array or number in a refused answer is all zero"
+unfoldable pub pageRefused : ℕ → Paged
+pageRefused k =
+    record {
+      number = k;
+      opened = 0;
+      page = record { source = record { «p_edition» = 0; «q_edition» = 0 }; key = start; count = 0; end = false; pairs = replicate 16 none };
+    }
+
+-- the answer by its number: 0 is the page, any other is the refusal of that number
+unfoldable pub pageAnswer : List ℤ → List ℤ → Key → ℕ → Paged
+pageAnswer P Q key size = cond (eqb (pageNo P Q key size) 0) (pageGiven P Q key size) (pageRefused (pageNo P Q key size))
