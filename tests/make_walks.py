@@ -17,9 +17,6 @@ from stored import Cases
 
 LARGEST = 2 ** 64 - 1
 
-# whether the program runs the filter walk yet
-FILTERS = False
-
 
 def position(word):
     return LARGEST if word < 0 else word
@@ -33,7 +30,6 @@ class Walks:
 
     def add(self, label, p, q, filters, rings):
         lines = []
-        filters = filters if FILTERS else []
         for j in filters:
             number, kept, opened = reading.filter_call(p, q, position(j))
             words = reading.kept_words(kept)
@@ -48,7 +44,7 @@ class Walks:
             lines.append("ring %d %d: %s" % (position(j), position(i), said))
             self.seen["ring refused %d" % number if number else "ring %s %s" % (answer[0], "QP"[answer[1] == 0] if len(answer) > 1 else "")] += 1
         asked = list(filters) + [word for pair in rings for word in pair]
-        self.cases.add(label, [1, len(p), len(q)] + [len(filters)] * FILTERS + [len(rings)] + p + q + asked, lines)
+        self.cases.add(label, [1, len(p), len(q), len(filters), len(rings)] + p + q + asked, lines)
         self.pairs += 1
         self.seen[label] += 1
 
@@ -145,7 +141,7 @@ def cases():
     assert out.pairs >= 300
     for answer in ("clear ", "point P", "point Q", "side P", "side Q"):
         assert out.seen["ring " + answer] >= 50, (answer, out.seen)
-    assert out.seen["ring refused 9"] >= 10 and (out.seen["filter 9"] >= 10 or not FILTERS)
+    assert out.seen["ring refused 9"] >= 10 and out.seen["filter 9"] >= 10
     return out.cases
 
 

@@ -1,4 +1,4 @@
-// Runs the ring walk on the pairs of sheets that stand in its input, and prints what each answers.
+// Runs both walks on the pairs of sheets that stand in its input, and prints what each answers.
 
 // The most words that a stored sheet has.
 const MOST: usize = 8192;
@@ -8,12 +8,40 @@ fn print(n: u64) {
     io::print_decimal(libc::STDOUT_FILENO, n);
 }
 
+fn print_bits(n: u64) {
+    io::write_all(libc::STDOUT_FILENO, b" ");
+    io::print_hex(libc::STDOUT_FILENO, n, 1);
+}
+
 fn colon() {
     io::write_all(libc::STDOUT_FILENO, b":");
 }
 
 fn end_line() {
     io::write_all(libc::STDOUT_FILENO, b"\n");
+}
+
+fn print_kept(bits: [u64; 16]) {
+    let mut k = 0;
+    while k < 16 {
+        print_bits(bits[k]);
+        k += 1;
+    }
+}
+
+// A position of Q, and its filter walk.
+fn filter_case(p: &[i32], q: &[i32]) {
+    let j = cases::next_or_largest();
+    io::write_all(libc::STDOUT_FILENO, b"filter");
+    print(j as u64);
+    colon();
+    let f = ring::filter::filter_walk(p, q, j);
+    print(f.number as u64);
+    print(f.count as u64);
+    print(f.opened);
+    let bits = f.bits;
+    print_kept(bits);
+    end_line();
 }
 
 fn print_hit(h: walk::Hit) {
@@ -63,6 +91,14 @@ fn ring_case(p: &[i32], q: &[i32]) {
     print_answer(ring::ringwalk::ring_walk(p, q, j, i));
 }
 
+fn filter_cases(p: &[i32], q: &[i32], count: usize) {
+    let mut k = 0;
+    while k < count {
+        filter_case(p, q);
+        k += 1;
+    }
+}
+
 fn ring_cases(p: &[i32], q: &[i32], count: usize) {
     let mut k = 0;
     while k < count {
@@ -71,16 +107,22 @@ fn ring_cases(p: &[i32], q: &[i32], count: usize) {
     }
 }
 
-// The lengths of two sheets, how many walks are asked, the sheets, and the walks.
+fn walks(p: &[i32], q: &[i32], filters: usize, rings: usize) {
+    filter_cases(p, q, filters);
+    ring_cases(p, q, rings);
+}
+
+// The lengths of two sheets, how many walks of each kind are asked, the sheets, and the walks.
 fn walk_case() {
     let np = cases::next_up_to(MOST);
     let nq = cases::next_up_to(MOST);
-    let count = cases::next_count();
+    let filters = cases::next_count();
+    let rings = cases::next_count();
     let mut p = [0i32; MOST];
     let mut q = [0i32; MOST];
     cases::fill(&mut p, np);
     cases::fill(&mut q, nq);
-    ring_cases(&p[..np], &q[..nq], count);
+    walks(&p[..np], &q[..nq], filters, rings);
 }
 
 // The next case, and whether there was one.

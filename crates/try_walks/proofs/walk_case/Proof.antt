@@ -14,6 +14,9 @@ next-up-to-requires-2 c κs = search needs
 next-count-requires : tie.Need-next-count-requires
 next-count-requires c κs = search needs
 
+next-count-requires-2 : tie.Need-next-count-requires-2
+next-count-requires-2 c κs = search needs
+
 slice-aggregate-fill : tie.Need-slice-aggregate-fill
 slice-aggregate-fill c = search needs
 
@@ -29,17 +32,17 @@ fill-requires-2 c κs = search needs
 array-share-prefix-p : tie.Need-array-share-prefix-p
 array-share-prefix-p c = search needs
 
-slice-aggregate-ring-cases : tie.Need-slice-aggregate-ring-cases
-slice-aggregate-ring-cases c = sym (length-take-le _ _ (search needs))
+slice-aggregate-walks : tie.Need-slice-aggregate-walks
+slice-aggregate-walks c = sym (length-take-le _ _ (search needs))
 
 array-share-prefix-q : tie.Need-array-share-prefix-q
 array-share-prefix-q c = search needs
 
-slice-aggregate-ring-cases-2 : tie.Need-slice-aggregate-ring-cases-2
-slice-aggregate-ring-cases-2 c = sym (length-take-le _ _ (search needs))
+slice-aggregate-walks-2 : tie.Need-slice-aggregate-walks-2
+slice-aggregate-walks-2 c = sym (length-take-le _ _ (search needs))
 
-ring-cases-requires : tie.Need-ring-cases-requires
-ring-cases-requires c κs = search needs
+walks-requires : tie.Need-walks-requires
+walks-requires c κs = search needs
 
 returns : tie.Need-returns
 returns c = search needs
@@ -51,13 +54,14 @@ walk-case-spec =
     next-up-to-requires
     next-up-to-requires-2
     next-count-requires
+    next-count-requires-2
     slice-aggregate-fill
     fill-requires
     slice-aggregate-fill-2
     fill-requires-2
     array-share-prefix-p
-    slice-aggregate-ring-cases
+    slice-aggregate-walks
     array-share-prefix-q
-    slice-aggregate-ring-cases-2
-    ring-cases-requires
+    slice-aggregate-walks-2
+    walks-requires
     returns)
