@@ -3,3 +3,4 @@ pub mod CoreLaws
 pub mod LocalRow
 pub mod Once
 pub mod Story
+pub mod Examples

@@ -1,0 +1,108 @@
+-- The book on small values, by computation: begin, the next key, a page taken, and of two faults the earlier number.
+-- Assumes nothing.
+use mathlib.Core.Path.{_≡_, refl}
+use mathlib.Core.Bool.{Bool, true, false}
+use mathlib.Core.List.{List, [], _∷_, _++_}
+use Prim.Native.Nat.{ℕ}
+use lib.ListN.{length, replicate}
+use Rattle.list.specs.declared.Key.{Key}
+use Rattle.list.specs.declared.Pair.{Pair}
+use Rattle.list.specs.declared.Source.{Source}
+use Rattle.list.specs.declared.Page.{Page}
+use Rattle.list.specs.Pairs.{start, none, keyOf, follows, ascends}
+use Rattle.list.specs.Pages.{sourceNo, padded, pagePairs}
+use Rattle.words.specs.Range.{idOk, editionOk}
+use Rattle.book.specs.declared.Book.{Book}
+use Rattle.book.specs.declared.Begun.the-variants as begun
+use Rattle.book.specs.declared.Next.the-variants as next
+use Rattle.book.specs.Rules.{beginNo, begunBook, begunBy, begunFor, lastKey, nextNo, nextBy, askedAt, asked, idsOk, sameKey, pageBad, firstNo, takeNoAt, takeNo, advanced, accepted, refused, decidedBy, decided, taken, takenSlots}
+
+-- editions 7 and 9, whose list is (5, 1), (5, 2), (6, 2)
+abbrev ours : Source
+ours = record { «p_edition» = 7; «q_edition» = 9 }
+
+abbrev others : Source
+others = record { «p_edition» = 8; «q_edition» = 9 }
+
+abbrev at : ℕ → ℕ → Pair
+at q p = record { q = q; p = p }
+
+abbrev book : ℕ → Bool → Book
+book n shut = record { held = n; closed = shut; source = ours }
+
+-- a page of these pairs
+abbrev page : Source → Pair → Bool → List Pair → Page
+page s k end l = record { source = s; key = keyOf k; count = length l; end = end; pairs = l ++ replicate 16 none }
+
+abbrev two : List Pair
+two = at 5 1 ∷ at 5 2 ∷ []
+
+abbrev slots : List Pair
+slots = at 5 1 ∷ at 5 2 ∷ at 1 1 ∷ at 1 2 ∷ []
+
+begins : begunFor ours ≡ begun.Open (book 0 false)
+unfolding begunFor begunBy beginNo begunBook editionOk
+begins = refl
+
+no-edition : begunFor (record { «p_edition» = 7; «q_edition» = 0 }) ≡ begun.Refused 3
+unfolding begunFor begunBy beginNo editionOk
+no-edition = refl
+
+asks-first : asked (book 0 false) slots ≡ record { next = next.After start; book = book 0 false }
+unfolding asked askedAt nextBy nextNo lastKey
+asks-first = refl
+
+asks-last : asked (book 2 false) slots ≡ record { next = next.After (keyOf (at 5 2)); book = book 2 false }
+unfolding asked askedAt nextBy nextNo lastKey
+asks-last = refl
+
+asks-too-far : asked (book 5 false) slots ≡ record { next = next.Refused 11; book = book 5 false }
+unfolding asked askedAt nextBy nextNo lastKey
+asks-too-far = refl
+
+abbrev number : Book → Page → ℕ → Type 0
+number b g n = takeNo b slots g ≡ n
+
+-- a page is taken: two pairs stand in the first two slots, and the others are as they were
+takes : taken (book 0 false) (at 9 9 ∷ at 8 8 ∷ at 7 7 ∷ []) (page ours none false two) ≡ record { number = 0; book = book 2 false }
+unfolding taken decided decidedBy accepted advanced takeNo takeNoAt firstNo sourceNo sameKey pageBad idsOk idOk ascends follows pagePairs lastKey
+takes = refl
+
+takes-slots : takenSlots (book 0 false) (at 9 9 ∷ at 8 8 ∷ at 7 7 ∷ []) (page ours none false two) ≡ at 5 1 ∷ at 5 2 ∷ at 7 7 ∷ []
+unfolding takenSlots decided decidedBy accepted advanced takeNo takeNoAt firstNo sourceNo sameKey pageBad idsOk idOk ascends follows pagePairs lastKey
+takes-slots = refl
+
+-- of two faults the earlier number: more held than there are slots, and closed
+eleven : number (book 5 true) (page ours (at 5 2) true []) 11
+unfolding takeNo takeNoAt
+eleven = refl
+
+-- closed, and a page of other editions
+twelve : number (book 2 true) (page others (at 5 2) true []) 12
+unfolding takeNo takeNoAt
+twelve = refl
+
+-- other editions, and another key
+thirteen : number (book 2 false) (page others (at 5 1) true []) 13
+unfolding takeNo takeNoAt firstNo sourceNo
+thirteen = refl
+
+-- another key, and no pair and no end mark
+fourteen : number (book 2 false) (page ours (at 5 1) false []) 14
+unfolding takeNo takeNoAt firstNo sourceNo sameKey lastKey
+fourteen = refl
+
+-- a pair that does not follow the key, and more pairs than slots left
+fifteen : number (book 2 false) (page ours (at 5 2) true (at 5 2 ∷ at 6 1 ∷ at 6 2 ∷ [])) 15
+unfolding takeNo takeNoAt firstNo sourceNo sameKey lastKey pageBad idsOk idOk ascends follows pagePairs
+fifteen = refl
+
+-- more pairs than slots left
+sixteen : number (book 2 false) (page ours (at 5 2) true (at 6 1 ∷ at 6 2 ∷ at 6 3 ∷ [])) 16
+unfolding takeNo takeNoAt firstNo sourceNo sameKey lastKey pageBad idsOk idOk ascends follows pagePairs
+sixteen = refl
+
+-- "A full book still takes an empty page with the end mark."
+full : taken (book 4 false) slots (page ours (at 1 2) true []) ≡ record { number = 0; book = book 4 true }
+unfolding taken decided decidedBy accepted advanced takeNo takeNoAt firstNo sourceNo sameKey pageBad idsOk idOk ascends follows pagePairs lastKey
+full = refl
