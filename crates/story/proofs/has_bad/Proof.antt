@@ -1,0 +1,74 @@
+use Prim.Native.Nat.{_≤_, _-_}
+use borrow.Author.Needs.{needs}
+use Rattle.story.proofs.has_bad.Statement.{statement}
+use Rattle.story.proofs.has_bad.Tie as tie
+use Rattle.story.proofs.has_bad.Reads as reads
+use Rattle.story.proofs.has_bad.Lts as lts
+use Rattle.list.proofs.key_of.Reads as key-of-reads
+use Rattle.story.proofs.is_id.Reads as is-id-reads
+use Rattle.story.proofs.rank.Reads as rank-reads
+
+abbrev Inv-loop : tie.InvT-loop
+Inv-loop g last₀ bad₀ i₀ last bad i = i ≤ 16
+
+abbrev μ-loop : tie.MeasureT-loop
+μ-loop g last₀ bad₀ i₀ last bad i = 16 - i
+
+rank-requires : tie.Need-rank-requires Inv-loop μ-loop
+rank-requires c κs = search needs
+
+loop-holds : tie.Need-loop-holds Inv-loop μ-loop
+loop-holds c = search needs
+
+mul-key-of : tie.Need-mul-key-of Inv-loop μ-loop
+mul-key-of c = search needs
+
+element-copy-out-key-of : tie.Need-element-copy-out-key-of Inv-loop μ-loop
+element-copy-out-key-of c = search needs
+
+key-of-requires : tie.Need-key-of-requires Inv-loop μ-loop
+key-of-requires c κs = search needs
+
+is-id-requires : tie.Need-is-id-requires Inv-loop μ-loop
+is-id-requires c κs = search needs
+
+is-id-requires-2 : tie.Need-is-id-requires-2 Inv-loop μ-loop
+is-id-requires-2 c κs = search needs
+
+rank-requires-2 : tie.Need-rank-requires-2 Inv-loop μ-loop
+rank-requires-2 c κs = search needs
+
+rank-requires-3 : tie.Need-rank-requires-3 Inv-loop μ-loop
+rank-requires-3 c κs = search needs
+
+add-i : tie.Need-add-i Inv-loop μ-loop
+add-i c = search needs
+
+loop-less : tie.Need-loop-less Inv-loop μ-loop
+loop-less c = search needs
+
+loop-again : tie.Need-loop-again Inv-loop μ-loop
+loop-again c = search needs
+
+returns : tie.Need-returns Inv-loop μ-loop
+returns c = search needs
+
+pub has-bad-spec : {M : Type 1} → statement M
+has-bad-spec =
+    tie.close
+    (tie.spec
+    Inv-loop
+    μ-loop
+    rank-requires
+    loop-holds
+    mul-key-of
+    element-copy-out-key-of
+    key-of-requires
+    is-id-requires
+    is-id-requires-2
+    rank-requires-2
+    rank-requires-3
+    add-i
+    loop-less
+    loop-again
+    returns)
