@@ -1,0 +1,45 @@
+-- What the listing of two sets of points is, line by line.
+use mathlib.Core.Bool.{Bool}
+use mathlib.Core.List.{List, [], _∷_, _++_}
+use Prim.Native.Nat.{ℕ, _<_}
+use lib.Dec.{eqb}
+use lib.IntN.{ℤ, natAbs, _+ℤ_}
+use lib.ListN.{length}
+use Rattle.words.specs.All.{firstB}
+use Rattle.plane.specs.declared.Spot.{Spot}
+use Rattle.plane.specs.Rule.{size}
+use Rattle.plane.specs.Point.{Point, idAt, spotAt}
+use Rattle.list.specs.declared.Pair.{Pair}
+use Rattle.list.specs.RingList.{ringList}
+use Rattle.text.specs.Text.{lineText, endText}
+
+-- the position of an id in a set
+unfoldable pub positionOf : List Point → ℕ → ℕ
+positionOf s id = firstB (length s) (λ i. eqb (idAt s i) id)
+
+-- the set has the id
+abbrev pub Has : List Point → ℕ → Type 0
+Has s id = positionOf s id < length s
+
+-- where the record of an id stands
+abbrev pub standsAt : List Point → ℕ → Spot
+standsAt s id = spotAt s (positionOf s id)
+
+-- "q id, p id, twice the centre's x, twice its y, squared diameter": of a pair whose q stands at a and whose p stands at b
+unfoldable pub lineAt : Pair → Spot → Spot → List ℕ
+lineAt v a b = lineText (v .q) (v .p) (a .x +ℤ b .x) (a .y +ℤ b .y) (natAbs (size a b))
+
+abbrev pub lineOf : List Point → List Point → Pair → List ℕ
+lineOf P Q v = lineAt v (standsAt Q (v .q)) (standsAt P (v .p))
+
+-- both ends of a pair are there
+abbrev pub HasBoth : List Point → List Point → Pair → Type 0
+HasBoth P Q v = Has Q (v .q) × Has P (v .p)
+
+unfoldable pub linesOf : List Point → List Point → List Pair → List ℕ
+linesOf P Q [] = []
+linesOf P Q (v ∷ l) = lineOf P Q v ++ linesOf P Q l
+
+-- a line for each ring pair, "last `end` and the number of pairs"
+unfoldable pub listingOf : List Point → List Point → List ℕ
+listingOf P Q = linesOf P Q (ringList P Q) ++ endText (length (ringList P Q))
