@@ -13,14 +13,14 @@ use Rattle.sheet.specs.Limits.{form1}
 use Rattle.sheet.specs.Layout.{rootWord}
 use Rattle.sheet.specs.Points.{fieldsOk, risesOk, pointOk, pointsOk}
 use Rattle.sheet.specs.Boxes.{better, best}
-use Rattle.pack.specs.Tree.{up16, width, ground, above, nodesFrom, nodesFor, nodeOn, nodeFrom, planOf, planCount}
+use Rattle.pack.specs.Tree.{up16, width, ground, above, oneLeft, nodesFrom, nodesFor, nodeOn, nodeFrom, planOf, planCount}
 use Rattle.pack.specs.Order.{placeIn, listOk, orderListOk}
 use Rattle.pack.specs.Packed.{flatWord, coordIn, boxSide, nodeWord, bodyWord, trailerWord, packWord, sheetSize, packed}
 use Rattle.pack.specs.Pack.{shapeOk, rangeOk, packNo}
 
 -- "n = 16 gives 1 node, 17 gives 3, 1,000 gives 68"; and of 60,000, which a later form allows
 nodes-made : (nodesFor 0 ≡ 0) × (nodesFor 16 ≡ 1) × (nodesFor 17 ≡ 3) × (nodesFor 1000 ≡ 68) × (nodesFor 60000 ≡ 4001)
-unfolding up16 width ground above nodesFrom nodesFor
+unfolding up16 width ground above oneLeft nodesFrom nodesFor
 nodes-made = (refl, refl, refl, refl, refl)
 
 -- of 63 leaves the last covers 8 places; the nodes over them are 63 to 66, the last of which covers 15 leaves; node 67 covers these four
@@ -28,7 +28,7 @@ thousand : (planOf 1000 62 ≡ record { level = 0; head = 0; next = 992; top = 1
     × (planOf 1000 66 ≡ record { level = 1; head = 63; next = 48; top = 63 })
     × (planOf 1000 67 ≡ record { level = 2; head = 67; next = 63; top = 67 })
     × (planCount (planOf 1000 62) ≡ 8) × (planCount (planOf 1000 66) ≡ 15) × (planCount (planOf 1000 67) ≡ 4)
-unfolding up16 width ground above nodesFrom nodesFor nodeOn nodeFrom planOf planCount
+unfolding up16 width ground above oneLeft nodesFrom nodesFor nodeOn nodeFrom planOf planCount
 thousand = (refl, refl, refl, refl, refl, refl)
 
 p : List ℤ
@@ -39,7 +39,7 @@ o = pos 0 ∷ pos 1 ∷ []
 
 -- "P, edition 7"
 listed : packed p o 2 7 ≡ pos 1 ∷ pos 0 ∷ pos 0 ∷ pos 2 ∷ pos 10 ∷ pos 0 ∷ pos 0 ∷ pos 1 ∷ pos 0 ∷ pos 1 ∷ pos 0 ∷ pos 0 ∷ pos 2 ∷ pos 0 ∷ pos 0 ∷ pos 10 ∷ pos 0 ∷ pos 17 ∷ pos 7 ∷ pos 2 ∷ pos 1 ∷ pos 7 ∷ pos 1 ∷ []
-unfolding p o eqZ num minZ maxZ firstB tab rootWord better best up16 width ground above nodesFrom nodesFor nodeOn nodeFrom planOf planCount placeIn flatWord coordIn boxSide nodeWord bodyWord trailerWord packWord sheetSize packed
+unfolding p o eqZ num minZ maxZ firstB tab rootWord better best up16 width ground above oneLeft nodesFrom nodesFor nodeOn nodeFrom planOf planCount placeIn flatWord coordIn boxSide nodeWord bodyWord trailerWord packWord sheetSize packed
 listed = refl
 
 -- taken; then 18, 3, 5, 6 and 17, each with a fault of the numbers after it where it can have one
@@ -50,5 +50,5 @@ numbers : (packNo form1 2 p o 7 23 ≡ 0)
     × (packNo form1 2 p (pos 1 ∷ pos 1 ∷ []) 7 0 ≡ 6)
     × (packNo form1 2 p (pos 0 ∷ negsuc 0 ∷ []) 7 0 ≡ 6)
     × (packNo form1 2 p o 7 24 ≡ 17)
-unfolding p o eqZ within before num isBelow allB firstB idWord coordWord editionOk form1 fieldsOk risesOk pointOk pointsOk up16 width ground above nodesFrom nodesFor placeIn listOk orderListOk sheetSize shapeOk rangeOk packNo
+unfolding p o eqZ within before num isBelow allB firstB idWord coordWord editionOk form1 fieldsOk risesOk pointOk pointsOk up16 width ground above oneLeft nodesFrom nodesFor placeIn listOk orderListOk sheetSize shapeOk rangeOk packNo
 numbers = (refl, refl, refl, refl, refl, refl, refl)

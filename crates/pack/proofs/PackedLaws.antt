@@ -24,7 +24,8 @@ use Rattle.sheet.proofs.Permute.{same?}
 use Rattle.sheet.proofs.BoxLaws.{best-cong}
 use Rattle.pack.specs.Tree.{nodesFor, planOf, planCount}
 use Rattle.pack.specs.Order.{placeIn, orderListOk}
-use Rattle.pack.specs.Packed.{flatWord, coordIn, boxSide, nodeWord, bodyWord, trailerWord, packWord, sheetSize, packed, Holds, nodeRead}
+use Rattle.pack.specs.Packed.{flatWord, coordIn, boxSide, nodeWord, bodyWord, trailerWord, packWord, sheetSize, packed}
+use Rattle.pack.specs.Work.{Holds, nodeRead}
 use Rattle.pack.proofs.OrderLaws.{place-hit, list-below, list-back, list-place}
 use Rattle.pack.proofs.TableLaws.{Planned, node-stood, count-range, plan-child, plan-leaf}
 

@@ -9,7 +9,8 @@ use lib.Dec.{ltb, leb}
 use borrow.Author.Tests.{lt-ltb, le-ltb, ltb-true, ltb-false, leb-true, leb-false, le-leb, lt-leb}
 use Rattle.integers.specs.Bools.{decide}
 use Rattle.sheet.specs.declared.Due.{Due}
-use Rattle.pack.specs.Tree.{up16, width, ground, above, nodesFrom, nodesFor, nodeOn, nodeFrom, follow}
+use Rattle.pack.specs.Tree.{up16, width, ground, above, oneLeft, nodesFrom, nodesFor, nodeOn, nodeFrom}
+use Rattle.pack.specs.Work.{follow}
 
 -- two nodes with the same numbers are one
 pub due-ext : (a b : Due) → a .level ≡ b .level → a .head ≡ b .head → a .next ≡ b .next → a .top ≡ b .top → a ≡ b
@@ -28,13 +29,21 @@ unfolding width up16
 wide d = record { over = omega arith; least = omega arith }
 
 -- a level's number of nodes: its own, where that is one or none, and else those above it too
+one-yes : (d : Due) → width d ≤ 1 → oneLeft d ≡ true
+unfolding oneLeft
+one-yes d h = le-leb (width d) _ (omega arith)
+
+one-no : (d : Due) → 1 < width d → oneLeft d ≡ false
+unfolding oneLeft
+one-no d h = lt-leb (width d) _ (omega arith)
+
 nodes-one : (f : ℕ) (d : Due) → width d ≤ 1 → nodesFrom (suc f) d ≡ width d
 unfolding nodesFrom
-nodes-one f d h = rw (le-leb (width d) 1 h) (omega arith)
+nodes-one f d h = rw (one-yes d h) (omega arith)
 
 nodes-more : (f : ℕ) (d : Due) → 1 < width d → nodesFrom (suc f) d ≡ width d + nodesFrom f (above d)
 unfolding nodesFrom
-nodes-more f d h = rw (lt-leb (width d) 1 h)
+nodes-more f d h = rw (one-no d h)
 
 above-width : (d : Due) → Wide (width d) (width (above d))
 unfolding above
@@ -237,7 +246,7 @@ pub record Counted (n k m : ℕ) : Type 0 where
   pub total : nodesFor n ≡ lev .head + nodesFrom (suc fuel) lev
 
 pub counted-start : (n : ℕ) → Counted n (up16 n) (up16 n)
-unfolding nodesFor nodesFrom ground width up16
+unfolding nodesFor oneLeft nodesFrom ground width up16
 counted-start zero = record { fuel = 0; lev = ground 0; width-is = refl; sum = refl; enough = omega arith; total = refl }
 counted-start (suc n) =
     record { fuel = n; lev = ground (suc n); width-is = ap up16 z; sum = omega arith; enough = omega arith; total = omega arith }

@@ -28,7 +28,7 @@ use Rattle.sheet.specs.Nodes.{nodesOk}
 use Rattle.sheet.specs.Boxes.{tightSide, tightOk}
 use Rattle.sheet.specs.Open.{bodyNo, openNo}
 use Rattle.sheet.proofs.BoxLaws.{best-cong}
-use Rattle.pack.specs.Tree.{nodesFrom, nodesFor, planOf}
+use Rattle.pack.specs.Tree.{oneLeft, nodesFrom, nodesFor, planOf}
 use Rattle.pack.specs.Order.{placeIn, orderListOk}
 use Rattle.pack.specs.Packed.{boxSide, trailerWord, packed}
 use Rattle.pack.specs.Pack.{pointsIn, packNo, packOut}
@@ -164,7 +164,7 @@ module _ (p o : List ℤ) (n ed : ℕ) where
 
   -- n = 0 goes with m = 0 and no other way
   zero-right : Bool·beq (eqb n 0) (eqb (nodesFor n) 0) ≡ true
-  unfolding nodesFor nodesFrom
+  unfolding nodesFor oneLeft nodesFrom
   zero-right =
       ⊎-elim
       (λ (e : eqb n 0 ≡ true). let z = eqb-true n 0 e in rw (e, eq-eqb (nodesFor n) 0 (ap nodesFor z ∙ none)))

@@ -2,3 +2,4 @@ pub mod Tree
 pub mod Order
 pub mod Packed
 pub mod Pack
+pub mod Work

@@ -1,16 +1,14 @@
 -- The sheet that the packer writes, word by word: points, order, rank, nodes, trailer. Everywhere p are the point words and o is the order list, of n points.
-use mathlib.Core.Path.{_≡_}
 use mathlib.Core.Bool.{cond}
 use mathlib.Core.List.{List}
-use Prim.Native.Nat.{ℕ, zero, suc, _+_, _*_, _-_, _/_, _%_, _<_}
+use Prim.Native.Nat.{ℕ, zero, suc, _+_, _*_, _-_, _/_, _%_}
 use lib.Dec.{eqb, ltb}
 use lib.IntN.{ℤ, pos}
 use Rattle.words.specs.Word.{at, num}
 use Rattle.words.specs.All.{tab}
 use Rattle.sheet.specs.Layout.{rootWord}
-use Rattle.sheet.specs.Boxes.{best, partOf}
+use Rattle.sheet.specs.Boxes.{best}
 use Rattle.pack.specs.Tree.{nodesFor, planOf, planCount}
-use Rattle.sheet.specs.declared.Due.{Due}
 use Rattle.pack.specs.Order.{placeIn}
 
 -- "points, 3n words: id, x, y"; "order, n words: the position standing at each place; rank, n words: the place of each position"
@@ -53,15 +51,3 @@ sheetSize n = 5 * n + 7 * nodesFor n + 6
 
 unfoldable pub packed : List ℤ → List ℤ → ℕ → ℕ → List ℤ
 packed p o n ed = tab (sheetSize n) (packWord p o n ed)
-
--- The first i words of w are f 0, f 1, ..: how far the functions that write have come.
-pub record Holds (w : List ℤ) (f : ℕ → ℤ) (i : ℕ) : Type 0 where
-  pub word : (k : ℕ) → k < i → at w k ≡ f k
-
--- Word f of a node of which d is planned, as it is made from a sheet w that is written up to it: a leaf's box from the points, any other from the boxes of
--- the nodes that it covers. `proofs/PackedLaws` shows that it is `nodeWord`.
-unfoldable pub nodeRead : List ℤ → ℕ → Due → ℕ → ℤ
-nodeRead w n d f =
-    cond (eqb f 0) (pos (d .level))
-    (cond (eqb f 1) (pos (d .next))
-    (cond (eqb f 2) (pos (planCount d)) (best (f - 3) (partOf w n (eqb (d .level) 0) (f - 3)) (d .next) (planCount d - 1))))

@@ -1,7 +1,7 @@
 -- The packer's tree. "It makes nodes of 16, the last of a level taking the rest, until one node is left."
 -- A level is given as a `Due`: `level` its number, `head` its first node, and what its nodes cover, from `next` to `top`: for level 0 the places from 0
 -- to n, for a higher one the nodes of the level below. A node is given so too, with `next` the first that it covers itself.
-use mathlib.Core.Bool.{cond}
+use mathlib.Core.Bool.{Bool, cond}
 use Prim.Native.Nat.{ℕ, zero, suc, _+_, _*_, _-_, _/_}
 use lib.Dec.{ltb, leb}
 use Rattle.sheet.specs.declared.Due.{Due}
@@ -22,11 +22,15 @@ ground n = record { level = 0; head = 0; next = 0; top = n }
 unfoldable pub above : Due → Due
 above d = record { level = d .level + 1; head = d .head + width d; next = d .head; top = d .head + width d }
 
--- How many nodes a level has with all that are above it, until one node is left. The first number bounds the levels: n are enough over n places,
+-- "until one node is left" (or none, where there is nothing to cover)
+unfoldable pub oneLeft : Due → Bool
+oneLeft d = leb (width d) 1
+
+-- How many nodes a level has with all that are above it. The first number bounds the levels: n are enough over n places,
 -- since each level has fewer nodes than it covers, or one.
 unfoldable pub nodesFrom : ℕ → Due → ℕ
 nodesFrom zero d = 0
-nodesFrom (suc f) d = width d + cond (leb (width d) 1) 0 (nodesFrom f (above d))
+nodesFrom (suc f) d = width d + cond (oneLeft d) 0 (nodesFrom f (above d))
 
 -- the number of nodes of a tree over n points
 unfoldable pub nodesFor : ℕ → ℕ
@@ -48,10 +52,3 @@ planOf n j = nodeFrom n (ground n) j
 -- how many a node covers: 16, or the rest
 unfoldable pub planCount : Due → ℕ
 planCount d = cond (ltb (d .next + 16) (d .top)) 16 (d .top - d .next)
-
--- The same node by node, as the packer goes: what is planned of node j + 1, from what is planned of node j. `proofs/PlanLaws` shows that it is `planOf`.
-unfoldable pub follow : ℕ → Due → Due
-follow j d =
-    cond (ltb (d .next + 16) (d .top))
-    (record { level = d .level; head = d .head; next = d .next + 16; top = d .top })
-    (record { level = d .level + 1; head = j + 1; next = d .head; top = j + 1 })

@@ -71,11 +71,10 @@ fn pack_by(
     ensures { λ r. ⌜ now (out .exit) ≡ packOut lim n (now (p .entry)) (now (o .entry)) edition (now (out .entry)) ⌝ }
 {
     let k = pack_no(lim, n, p, o, edition, out.len(), seen);
-    if k != 0 {
-        return k;
+    if k == 0 {
+        write::put_sheet(n, p, o, edition, out);
     }
-    write::put_sheet(n, p, o, edition, out);
-    0
+    k
 }
 
 // Packs the sheet of n points, the words of which are id, x, y, in the order of the places that the order list gives. The answer is 0, and the lent words

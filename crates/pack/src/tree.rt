@@ -3,6 +3,7 @@ use sheet::Due;
 ghost use mathlib.Core.Path.{_≡_};
 ghost use Prim.Native.Nat.{_≤_, _<_};
 ghost use Rattle.pack.specs.Tree.{nodesFor, planCount};
+ghost use Rattle.pack.specs.Work;
 
 // How many nodes of 16 cover k places or nodes.
 fn up16(k: usize) -> usize
@@ -29,7 +30,7 @@ pub(crate) fn nodes_for(n: usize) -> usize
 // What is planned of node j + 1, from what is planned of node j.
 pub(crate) fn follow(d: Due, j: usize) -> Due
     requires { ⌜ (d .next ≤ 60000) × (d .level < 8) × (j < 24000) ⌝ }
-    ensures { λ r. ⌜ r ≡ Rattle.pack.specs.Tree.follow j d ⌝ }
+    ensures { λ r. ⌜ r ≡ Rattle.pack.specs.Work.follow j d ⌝ }
 {
     if d.next + 16 < d.top {
         return Due {

@@ -11,7 +11,8 @@ ghost use lib.ListN.{length};
 ghost use Rattle.sheet.specs.Layout.{rootWord};
 ghost use Rattle.pack.specs.Tree.{nodesFor, planOf};
 ghost use Rattle.pack.specs.Order.{orderListOk};
-ghost use Rattle.pack.specs.Packed.{Holds, bodyWord, nodeRead, trailerWord, sheetSize, packed};
+ghost use Rattle.pack.specs.Packed.{bodyWord, trailerWord, sheetSize, packed};
+ghost use Rattle.pack.specs.Work.{Holds, nodeRead};
 
 // A count as a word.
 fn word(x: usize) -> i32

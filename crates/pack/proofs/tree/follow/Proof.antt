@@ -1,5 +1,5 @@
 use borrow.Author.Tests.{lt-ltb, le-ltb}
-use Rattle.pack.specs.Tree.{follow}
+use Rattle.pack.specs.Work.{follow}
 use borrow.Author.Needs.{needs}
 use Rattle.pack.proofs.tree.follow.Statement.{statement}
 use Rattle.pack.proofs.tree.follow.Tie as tie

@@ -3,7 +3,7 @@ use native.Mathlib.Omega.{arith}
 use lib.IntN.{pos}
 use borrow.Author.Tests.{eq-eqb, ne-eqb}
 use Rattle.words.proofs.Signs.{handed}
-use Rattle.pack.specs.Packed.{nodeRead}
+use Rattle.pack.specs.Work.{nodeRead}
 use Rattle.pack.proofs.TableLaws.{count-range}
 use borrow.Author.Needs.{needs}
 use Rattle.pack.proofs.write.node_word.Statement.{statement}

@@ -3,7 +3,8 @@ use Prim.Native.Nat.{_≤_, _-_, _*_}
 use native.Mathlib.Omega.{arith}
 use lib.ListN.{length, length-set}
 use Rattle.words.proofs.Signs.{handed}
-use Rattle.pack.specs.Packed.{bodyWord, Holds}
+use Rattle.pack.specs.Packed.{bodyWord}
+use Rattle.pack.specs.Work.{Holds}
 use Rattle.pack.proofs.PackedLaws.{holds-none, holds-more, holds-fewer}
 use Rattle.pack.proofs.write.put_front.Statement.{statement}
 use Rattle.pack.proofs.write.put_front.Tie as tie

@@ -7,7 +7,8 @@ use lib.IntN.{ℤ}
 use lib.ListN.{length, length-set}
 use Rattle.words.proofs.Signs.{handed}
 use Rattle.pack.specs.Order.{orderListOk}
-use Rattle.pack.specs.Packed.{bodyWord, Holds}
+use Rattle.pack.specs.Packed.{bodyWord}
+use Rattle.pack.specs.Work.{Holds}
 use Rattle.pack.proofs.TableLaws.{plan-fits, plan-few}
 use Rattle.pack.proofs.PackedLaws.{node-more, holds-fewer}
 use Rattle.pack.proofs.write.put_node.Statement.{statement}

@@ -5,9 +5,10 @@ use Prim.Native.Nat.{_≤_, _<_, _-_, _*_, _+_}
 use native.Mathlib.Omega.{arith}
 use lib.IntN.{ℤ}
 use lib.ListN.{length}
-use Rattle.pack.specs.Tree.{ground, planOf, follow}
+use Rattle.pack.specs.Tree.{ground, planOf}
 use Rattle.pack.specs.Order.{orderListOk}
-use Rattle.pack.specs.Packed.{bodyWord, Holds}
+use Rattle.pack.specs.Packed.{bodyWord}
+use Rattle.pack.specs.Work.{follow, Holds}
 use Rattle.pack.proofs.TableLaws.{plan-zero, plan-fits, plan-few, node-stood}
 use Rattle.pack.proofs.PackedLaws.{holds-fewer}
 use Rattle.pack.proofs.write.put_nodes.Statement.{statement}

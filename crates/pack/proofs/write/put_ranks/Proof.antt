@@ -6,7 +6,8 @@ use borrow.Author.Needs.{needs}
 use lib.IntN.{ℤ}
 use lib.ListN.{length, length-set}
 use Rattle.words.proofs.Signs.{handed}
-use Rattle.pack.specs.Packed.{bodyWord, Holds}
+use Rattle.pack.specs.Packed.{bodyWord}
+use Rattle.pack.specs.Work.{Holds}
 use Rattle.pack.proofs.OrderLaws.{list-below}
 use Rattle.pack.proofs.PackedLaws.{Ranked, ranked-start, ranked-more, ranked-done}
 use Rattle.pack.proofs.write.put_ranks.Statement.{statement}

@@ -6,7 +6,8 @@ use lib.IntN.{ℤ}
 use lib.ListN.{length, length-set}
 use Rattle.words.proofs.Signs.{handed}
 use Rattle.pack.specs.Tree.{nodesFor}
-use Rattle.pack.specs.Packed.{bodyWord, packWord, Holds}
+use Rattle.pack.specs.Packed.{bodyWord, packWord}
+use Rattle.pack.specs.Work.{Holds}
 use Rattle.pack.proofs.TableLaws.{plan-few}
 use Rattle.pack.proofs.PackedLaws.{sheet-size, trail-start, trail-more, trail-done}
 use Rattle.pack.proofs.write.put_trailer.Statement.{statement}

@@ -1,0 +1,31 @@
+-- What the functions that write a sheet say of their work: how far they have come, and how the next node and its words are made from what is there.
+-- No promise of `pack` cites these.
+use mathlib.Core.Path.{_≡_}
+use mathlib.Core.Bool.{cond}
+use mathlib.Core.List.{List}
+use Prim.Native.Nat.{ℕ, _+_, _-_, _<_}
+use lib.Dec.{eqb, ltb}
+use lib.IntN.{ℤ, pos}
+use Rattle.words.specs.Word.{at}
+use Rattle.sheet.specs.declared.Due.{Due}
+use Rattle.sheet.specs.Boxes.{best, partOf}
+use Rattle.pack.specs.Tree.{planCount}
+
+-- the first i words of w are f 0, f 1, ..
+pub record Holds (w : List ℤ) (f : ℕ → ℤ) (i : ℕ) : Type 0 where
+  pub word : (k : ℕ) → k < i → at w k ≡ f k
+
+-- what is planned of node j + 1, from what is planned of node j; `Stood` of proofs/PlanLaws shows that it is `planOf`
+unfoldable pub follow : ℕ → Due → Due
+follow j d =
+    cond (ltb (d .next + 16) (d .top))
+    (record { level = d .level; head = d .head; next = d .next + 16; top = d .top })
+    (record { level = d .level + 1; head = j + 1; next = d .head; top = j + 1 })
+
+-- word f of a node of which d is planned, as it is made from a sheet w that is written up to it: a leaf's box from the points, any other from the boxes of
+-- the nodes that it covers; `read-is` of proofs/PackedLaws shows that it is `nodeWord`
+unfoldable pub nodeRead : List ℤ → ℕ → Due → ℕ → ℤ
+nodeRead w n d f =
+    cond (eqb f 0) (pos (d .level))
+    (cond (eqb f 1) (pos (d .next))
+    (cond (eqb f 2) (pos (planCount d)) (best (f - 3) (partOf w n (eqb (d .level) 0) (f - 3)) (d .next) (planCount d - 1))))
