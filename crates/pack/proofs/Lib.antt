@@ -6,3 +6,4 @@ pub mod SeenLaws
 pub mod PackedLaws
 pub mod PackLaws
 pub mod ReturnTrip
+pub mod Once

@@ -32,6 +32,7 @@ use Rattle.pack.specs.Tree.{oneLeft, nodesFrom, nodesFor, planOf}
 use Rattle.pack.specs.Order.{placeIn, orderListOk}
 use Rattle.pack.specs.Packed.{boxSide, trailerWord, packed}
 use Rattle.pack.specs.Pack.{pointsIn, packNo, packOut}
+use Rattle.pack.specs.Claims.{Roomy, Returned}
 use Rattle.pack.proofs.PackLaws.{pack-facts, range-few, range-edition, out-refused, out-packed}
 use Rattle.pack.proofs.OrderLaws.{list-word, list-place, place-is}
 use Rattle.pack.proofs.TableLaws.{num-of, plan-few, plan-some, plan-child, plan-leaf, table-right, node-stood, count-range, level-is, first-is, count-is}
@@ -40,11 +41,6 @@ use Rattle.pack.proofs.PackedLaws.{point-word, order-word, rank-word, p
 in-range : (a b : ℕ) → a ≤ b → within (pos 0) (pos b) (pos a) ≡ true
 unfolding within
 in-range a b g = rw (le-leb 0 a (omega arith), le-leb a b g)
-
--- limits with room for the tree: at most 16 to the eighth points, so that no level is above 7, and a node for every five of them
-pub record Roomy (lim : Limits) : Type 0 where
-  pub low : lim .points ≤ 4294967296
-  pub nodes-enough : lim .points + 15 ≤ 5 * lim .nodes
 
 module _ (p o : List ℤ) (n ed : ℕ) where
   point-same : (i : ℕ) → i < 3 * n → at (packed p o n ed) i ≡ at p i
@@ -203,14 +199,6 @@ module _ (p o : List ℤ) (n ed : ℕ) where
 form1-roomy : Roomy form1
 unfolding form1
 form1-roomy = record { low = omega arith; nodes-enough = omega arith }
-
--- what the words say that `pack` leaves where it answers 0
-pub record Returned (n : ℕ) (p : List ℤ) (ed : ℕ) (w : List ℤ) : Type 0 where
-  pub opens : openNo form1 w ≡ 0
-  pub same-points : pointsOf w ≡ pointsIn n p
-  pub same-number : points w ≡ n
-  pub same-edition : edition w ≡ pos ed
-  pub made-nodes : nodes w ≡ nodesFor n
 
 -- From the promise of `pack` alone: `r` is its answer, and `out′` are the lent words at its exit. Where it answers 0 these open, and their points are the
 -- given ones, in order.

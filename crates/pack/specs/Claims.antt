@@ -1,0 +1,25 @@
+-- What the theorems on the packer speak of.
+use mathlib.Core.Path.{_≡_}
+use mathlib.Core.List.{List}
+use Prim.Native.Nat.{ℕ, _+_, _*_, _≤_}
+use lib.IntN.{ℤ, pos}
+use Rattle.sheet.specs.declared.Limits.{Limits}
+use Rattle.sheet.specs.Limits.{form1}
+use Rattle.sheet.specs.Layout.{edition, points, nodes}
+use Rattle.sheet.specs.Places.{pointsOf}
+use Rattle.sheet.specs.Open.{openNo}
+use Rattle.pack.specs.Tree.{nodesFor}
+use Rattle.pack.specs.Pack.{pointsIn}
+
+-- limits with room for the tree: at most 16 to the eighth points, so that no level is above 7, and a node for every five of them
+pub record Roomy (lim : Limits) : Type 0 where
+  pub low : lim .points ≤ 4294967296
+  pub nodes-enough : lim .points + 15 ≤ 5 * lim .nodes
+
+-- what the words say that `pack` leaves where it answers 0
+pub record Returned (n : ℕ) (p : List ℤ) (ed : ℕ) (w : List ℤ) : Type 0 where
+  pub opens : openNo form1 w ≡ 0
+  pub same-points : pointsOf w ≡ pointsIn n p
+  pub same-number : points w ≡ n
+  pub same-edition : edition w ≡ pos ed
+  pub made-nodes : nodes w ≡ nodesFor n
