@@ -1,0 +1,110 @@
+// Asks the pages that stand in its input, of two sheets each, and prints what each request answers.
+
+// The most words that a stored sheet has.
+const MOST: usize = 8192;
+
+fn print(n: u64) {
+    io::write_all(libc::STDOUT_FILENO, b" ");
+    io::print_decimal(libc::STDOUT_FILENO, n);
+}
+
+fn end_line() {
+    io::write_all(libc::STDOUT_FILENO, b"\n");
+}
+
+fn print_key(k: list::Key) {
+    print(k.q as u64);
+    print(k.p as u64);
+}
+
+fn print_pair(v: list::Pair) {
+    print(v.q as u64);
+    print(v.p as u64);
+}
+
+fn print_pairs(pairs: [list::Pair; 16]) {
+    let mut k = 0;
+    while k < 16 {
+        let v = pairs[k];
+        print_pair(v);
+        k += 1;
+    }
+}
+
+fn print_mark(end: bool) {
+    if end {
+        print(1);
+    } else {
+        print(0);
+    }
+}
+
+fn print_page(page: list::Page) {
+    let source = page.source;
+    print(source.p_edition as u64);
+    print(source.q_edition as u64);
+    let key = page.key;
+    print_key(key);
+    print(page.count as u64);
+    print_mark(page.end);
+    let pairs = page.pairs;
+    print_pairs(pairs);
+}
+
+// A key and a size, and the page that they ask for.
+fn page_case(p: &[i32], q: &[i32]) {
+    let key_q = cases::next_id();
+    let key_p = cases::next_id();
+    let size = cases::next_or_largest();
+    let key = list::Key { q: key_q, p: key_p };
+    io::write_all(libc::STDOUT_FILENO, b"page");
+    print_key(key);
+    print(size as u64);
+    io::write_all(libc::STDOUT_FILENO, b":");
+    let r = ring::page::page(p, q, key, size);
+    print(r.number as u64);
+    print(r.opened);
+    let page = r.page;
+    print_page(page);
+    end_line();
+}
+
+fn page_cases(p: &[i32], q: &[i32], count: usize) {
+    let mut k = 0;
+    while k < count {
+        page_case(p, q);
+        k += 1;
+    }
+}
+
+// The lengths of two sheets, how many pages are asked, the sheets, and the requests.
+fn pages() {
+    let np = cases::next_up_to(MOST);
+    let nq = cases::next_up_to(MOST);
+    let count = cases::next_count();
+    let mut p = [0i32; MOST];
+    let mut q = [0i32; MOST];
+    cases::fill(&mut p, np);
+    cases::fill(&mut q, nq);
+    page_cases(&p[..np], &q[..nq], count);
+}
+
+// The next case, and whether there was one.
+fn one() -> bool {
+    let kind = cases::next_count();
+    if kind == 1 {
+        pages();
+        return true;
+    }
+    false
+}
+
+fn main() {
+    let mut left: u32 = 100000;
+    while left > 0 {
+        if !one() {
+            return;
+        }
+        left -= 1;
+    }
+}
