@@ -51,7 +51,7 @@ module _ (w : Walks) (key : Key) (size : ℕ) where
   tried-cap a b c j i =
       ⊎-elim
       (λ (f : follows key (keyOf (w .pair j i)) ≡ true). rw f (c .ring j i))
-      (λ (f : follows key (keyOf (w .pair j i)) ≡ false). rw f (omega arith))
+      (λ (f : follows key (keyOf (w .pair j i)) ≡ false). rw f (omega (arith, c .ring j i)))
       (decide (follows key (keyOf (w .pair j i))))
 
   pub tried-few : (a b : ℕ) → Capped w a b → (j i : ℕ) (t : Tried) → t ≡ tried w key j i → t .opened ≤ b

@@ -1,7 +1,8 @@
 -- The page request: its answers by number, and what the promise says of a page.
 --
 --     page-no           the number is the first that applies; page-refused: refused, all else is zero
---     page-answered     with sheets that open, a key and a size in range, the answer is 0, the page of the list and the count of the walks
+--     page-served       with sheets that open, a key and a size in range, the answer is 0, the page of the list and the count of the walks
+--     page-once         one request, one answer
 --     pages-list        following the answers from (0, 0), whatever their sizes from 1 to 16, gives the list
 --     page-by-points    sheets with the same points give the same pairs, number and end mark of every page
 -- Assumes nothing.
@@ -84,6 +85,16 @@ module _ (P Q : List ℤ) (key : Key) (size : ℕ) where
   pub page-answered : pageNo P Q key size ≡ 0 → pageAnswer P Q key size ≡ pageGiven P Q key size
   unfolding pageAnswer
   page-answered e = rw (eq-eqb (pageNo P Q key size) 0 e)
+
+  -- one request, one answer
+  pub page-once : (r r′ : Paged) → r ≡ pageAnswer P Q key size → r′ ≡ pageAnswer P Q key size → r ≡ r′
+  page-once r r′ e f = e ∙ sym f
+
+  -- No other request is refused: sheets that open, each id of the key at most 2,000,000,000 and a size from 1 to 16 are served.
+  pub page-served : sheetsNo P Q ≡ 0 → key .q ≤ lastId → key .p ≤ lastId → 1 ≤ size → size ≤ 16 → pageAnswer P Q key size ≡ pageGiven P Q key size
+  unfolding pageNo askedNo keyNo sizeNo
+  page-served opens a b c d =
+      page-answered (first-passes (sheetsNo P Q) (first (keyNo key) (sizeNo size)) opens ∙ (rw (le-leb (key .q) lastId a, le-leb (key .p) lastId b, le-leb 1 size c, le-leb size 16 d)))
 
   -- the number is the first that applies
   pub page-no : pageAnswer P Q key size .number ≡ pageNo P Q key size
