@@ -1,6 +1,7 @@
 pub mod TakeLaws
 pub mod CoreLaws
-pub mod LocalRow
+pub mod SliceLaws
 pub mod Once
 pub mod Story
 pub mod Examples
+pub mod LocalRow

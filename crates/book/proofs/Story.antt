@@ -33,7 +33,7 @@ use Rattle.book.specs.declared.Next.the-variants as next
 use Rattle.book.specs.Rules.{beginNo, begunBy, begunBook, begunFor, lastKey, asked, idsOk, pageMost, pageBad, takeNo, advanced, taken, takenSlots}
 use Rattle.book.specs.World.{World, listOf, Honest, Reached, began, took, lent, ownPage, served}
 use Rattle.book.proofs.TakeLaws.{Passed, passed, taken-book, taken-slots, refused-book, refused-slots, or-zero, no-refusal, or-both-false, same-length, closed-no, source-same, same-book-source}
-use Rattle.book.proofs.Once.{last-held, next-is-last}
+use Rattle.book.proofs.SliceLaws.{last-held, next-is-last}
 
 -- ---- the ids of a list
 

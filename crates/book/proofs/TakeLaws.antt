@@ -24,21 +24,21 @@ use Rattle.book.specs.Rules.{lastKey, idsOk, sameKey, pageMost, pageBad,
 
 -- ---- the first number that applies
 
--- a test that is not the number of refusal passed
-no-cond : (t : Bool) (k r : ℕ) → cond t (suc k) r ≡ 0 → (t ≡ false) × (r ≡ 0)
-no-cond true k r e = absurd (omega arith)
-no-cond false k r e = (refl, e)
+-- a test whose number is not the one given failed
+pub no-cond : (t : Bool) (k r x : ℕ) → (k ≡ x → ⊥) → cond t k r ≡ x → (t ≡ false) × (r ≡ x)
+no-cond true k r x h e = absurd (h e)
+no-cond false k r x h e = (refl, e)
 
 no-first : (n r : ℕ) → firstNo n r ≡ 0 → (n ≡ 0) × (r ≡ 0)
 unfolding firstNo
 no-first zero r e = (refl, e)
 no-first (suc n) r e = absurd (omega arith)
 
-cond-no : (t : Bool) (k r : ℕ) → t ≡ false → r ≡ 0 → cond t k r ≡ 0
+pub cond-no : (t : Bool) (k r : ℕ) → t ≡ false → r ≡ 0 → cond t k r ≡ 0
 cond-no true k r e f = absurd (true≢false e)
 cond-no false k r e f = f
 
-first-no : (n r : ℕ) → n ≡ 0 → r ≡ 0 → firstNo n r ≡ 0
+pub first-no : (n r : ℕ) → n ≡ 0 → r ≡ 0 → firstNo n r ≡ 0
 unfolding firstNo
 first-no n r e f = ap (λ (m : ℕ). firstNo m r) e ∙ f
 
@@ -88,6 +88,14 @@ source-same a b e =
     let u = eqb (a .«q_edition») (b .«q_edition») in
     ap (λ (x : Bool). cond x 0 13) (and-both t u (eq-eqb (a .«p_edition») (b .«p_edition») (ap (λ (v : Source). v .«p_edition») e)) (eq-eqb (a .«q_edition») (b .«q_edition») (ap (λ (v : Source). v .«q_edition») e)))
 
+pub source-13 : (a b : Source) → (sourceNo a b ≡ 0 → ⊥) → sourceNo a b ≡ 13
+unfolding sourceNo
+source-13 a b h =
+    ⊎-elim
+    (λ (e : (eqb (a .«p_edition») (b .«p_edition») && eqb (a .«q_edition») (b .«q_edition»)) ≡ true). absurd (h (rw e)))
+    (λ (e : (eqb (a .«p_edition») (b .«p_edition») && eqb (a .«q_edition») (b .«q_edition»)) ≡ false). rw e)
+    (decide (eqb (a .«p_edition») (b .«p_edition») && eqb (a .«q_edition») (b .«q_edition»)))
+
 -- ---- what a page that is taken has passed
 
 pub record Passed (b : Book) (len : ℕ) (k : Key) (g : Page) : Type 0 where
@@ -103,16 +111,16 @@ pub record Passed (b : Book) (len : ℕ) (k : Key) (g : Page) : Type 0 where
 pub passed-at : (b : Book) (len : ℕ) (k : Key) (g : Page) → takeNoAt b len k g ≡ 0 → Passed b len k g
 unfolding takeNoAt pageBad
 passed-at b len k g e =
-    let e1 = no-cond (ltb len (b .held)) 10 _ e in
-    let e2 = no-cond (b .closed) 11 _ (e1 .1) in
+    let e1 = no-cond (ltb len (b .held)) 11 _ 0 (λ z. omega arith) e in
+    let e2 = no-cond (b .closed) 12 _ 0 (λ z. omega arith) (e1 .1) in
     let e3 = no-first (sourceNo (b .source) (g .source)) _ (e2 .1) in
-    let e4 = no-cond (not (sameKey (g .key) k)) 13 _ (e3 .1) in
+    let e4 = no-cond (not (sameKey (g .key) k)) 14 _ 0 (λ z. omega arith) (e3 .1) in
     let x1 = ltb pageMost (g .count) in
     let x2 = not (idsOk (pagePairs g)) in
     let x3 = not (ascends (g .key) (pagePairs g)) in
     let x4 = eqb (g .count) 0 && not (g .end) in
-    let e5 = no-cond (x1 || x2 || x3 || x4) 14 _ (e4 .1) in
-    let e6 = no-cond (ltb (len - b .held) (g .count)) 15 _ (e5 .1) in
+    let e5 = no-cond (x1 || x2 || x3 || x4) 15 _ 0 (λ z. omega arith) (e4 .1) in
+    let e6 = no-cond (ltb (len - b .held) (g .count)) 16 _ 0 (λ z. omega arith) (e5 .1) in
     let h = ltb-false len (b .held) (e1 .0) in
     record {
       room = h;
