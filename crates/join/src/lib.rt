@@ -31,7 +31,7 @@ pub struct Tried {
 }
 
 // A pair was found: it is shown, or it is the first beyond the size.
-pub fn with_found(d: Draft, size: usize, v: Pair) -> Draft
+fn with_found(d: Draft, size: usize, v: Pair) -> Draft
     requires { ⌜ size ≤ 16 ⌝ }
     ensures { λ r. ⌜ r ≡ found size v d ⌝ }
 {
@@ -47,7 +47,7 @@ pub fn with_found(d: Draft, size: usize, v: Pair) -> Draft
 }
 
 // The kept partner at position i of P, for the q at position j: ring-walked if it is after the key.
-pub fn try_partner(
+fn try_partner(
     p: &[i32],
     np: usize,
     mp: usize,
@@ -81,7 +81,7 @@ pub fn try_partner(
 }
 
 // The kept partners of the q at position j, in id order, until a pair beyond the size is found.
-pub fn with_partners(
+fn with_partners(
     p: &[i32],
     np: usize,
     mp: usize,
@@ -115,7 +115,7 @@ pub fn with_partners(
 }
 
 // The q at position j: filtered, on the words lent, and its kept partners tried.
-pub fn with_chamber(
+fn with_chamber(
     p: &[i32],
     np: usize,
     mp: usize,
@@ -139,7 +139,7 @@ pub fn with_chamber(
 }
 
 // The first position of Q whose id is not below the key's, or nq.
-pub fn first_from(q: &[i32], nq: usize, mq: usize, key: Key) -> usize
+fn first_from(q: &[i32], nq: usize, mq: usize, key: Key) -> usize
     requires { ⌜ Opens (now q) nq mq ⌝ }
     ensures { λ r. ⌜ r ≡ firstFrom (idAt (pointsOf (now (q .entry)))) key nq ⌝ }
 {

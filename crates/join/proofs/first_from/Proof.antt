@@ -1,3 +1,4 @@
+-- `join::first_from` meets its contract. The loop's invariant: none of the first j chambers is from the key on. Assumes nothing.
 use mathlib.Core.Path.{_≡_}
 use Prim.Native.Nat.{_-_, _≤_}
 use native.Mathlib.Omega.{arith}
@@ -8,8 +9,6 @@ use Rattle.join.proofs.CallLaws.{scan-start, scan-on, scan-stop, scan-e
 use Rattle.join.proofs.first_from.Statement.{statement}
 use Rattle.join.proofs.first_from.Tie as tie
 use Rattle.join.proofs.first_from.Reads as reads
-use Rattle.join.proofs.first_from.Lts as lts
-use Rattle.sheet.proofs.reads.id_at.Reads as id-at-reads
 
 abbrev Inv-loop : tie.InvT-loop
 Inv-loop q nq mq key j₀ j = (j ≤ nq) × (firstFrom (idAt (pointsOf q)) key j ≡ j)
@@ -17,37 +16,30 @@ Inv-loop q nq mq key j₀ j = (j ≤ nq) × (firstFrom (idAt (pointsOf q)) key j
 abbrev μ-loop : tie.MeasureT-loop
 μ-loop q nq mq key j₀ j = nq - j
 
--- src/lib.rt:147:5
 loop-holds : tie.Need-loop-holds Inv-loop μ-loop
 loop-holds c = (omega arith, scan-start _ _)
 
--- src/lib.rt:148:12
 id-at-requires : tie.Need-id-at-requires Inv-loop μ-loop
 id-at-requires c κs = (c .before .before .pre, c .loop-test .taken)
 
--- src/lib.rt:149:13
 returns : tie.Need-returns Inv-loop μ-loop
 returns c =
     let i = c .before .before in
     let l = i .before .before in
     scan-stop _ _ _ _ _ (l .loop .inv .1) (c .before .before .id-at .ensures) (c .if1 .taken) (i .before .loop-test .taken)
 
--- src/lib.rt:151:9
 add-j : tie.Need-add-j Inv-loop μ-loop
 add-j c = omega arith
 
--- src/lib.rt:147:5
 loop-less : tie.Need-loop-less Inv-loop μ-loop
 loop-less c = omega arith
 
--- src/lib.rt:147:5
 loop-again : tie.Need-loop-again Inv-loop μ-loop
 loop-again c =
     let i = c .before .before in
     let l = i .before .before in
     (omega (arith, i .before .loop-test .taken), scan-on _ _ _ _ (l .loop .inv .1) (i .id-at .ensures) (c .if1 .left))
 
--- src/lib.rt:142:1
 returns-2 : tie.Need-returns-2 Inv-loop μ-loop
 returns-2 c = scan-end _ _ _ _ (c .before .loop .inv .1) (c .before .loop .inv .0) (c .loop-test .left)
 

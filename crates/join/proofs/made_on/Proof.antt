@@ -1,3 +1,4 @@
+-- `join::made_on` meets its contract. The loop's invariant is `Rounds`: what is left of the chambers, and room for the count. Assumes nothing.
 use mathlib.Core.Path.{_≡_, refl, _∙_}
 use Prim.Native.Nat.{_+_, _-_}
 use native.Mathlib.Omega.{arith}
@@ -8,10 +9,6 @@ use Rattle.join.proofs.TurnLaws.{Rounds, rounds-start, rounds-room, rou
 use Rattle.join.proofs.CallLaws.{still-hold, chamber-same, capped, page-room}
 use Rattle.join.proofs.made_on.Statement.{statement}
 use Rattle.join.proofs.made_on.Tie as tie
-use Rattle.join.proofs.made_on.Reads as reads
-use Rattle.join.proofs.made_on.Lts as lts
-use Rattle.join.proofs.first_from.Reads as first-from-reads
-use Rattle.join.proofs.with_chamber.Reads as with-chamber-reads
 
 abbrev Inv-loop : tie.InvT-loop
 Inv-loop p np mp q nq mq key size bits₀ r₀ j₀ bits r j = (length bits ≡ length bits₀) × Rounds (walksOf (length bits₀) p q) key size mp (mp + mq) np nq r j
@@ -19,23 +16,18 @@ Inv-loop p np mp q nq mq key size bits₀ r₀ j₀ bits r j = (length bits ≡ 
 abbrev μ-loop : tie.MeasureT-loop
 μ-loop p np mp q nq mq key size bits₀ r₀ j₀ bits r j = nq - j
 
--- src/lib.rt:177:9
 first-from-requires : tie.Need-first-from-requires Inv-loop μ-loop
 first-from-requires c κs = c .before .pre .1
 
--- src/lib.rt:178:5
 loop-holds : tie.Need-loop-holds Inv-loop μ-loop
 loop-holds c = (refl, rounds-start _ _ _ _ _ _ _ _ (c .first-from .ensures))
 
--- src/lib.rt:180:13
 same-length : tie.Need-same-length Inv-loop μ-loop
 same-length c = c .before .before .loop .inv .0
 
--- src/lib.rt:180:13
 returns : tie.Need-returns Inv-loop μ-loop
 returns c = rounds-stop _ _ _ _ _ _ _ _ _ (c .if1 .taken) (c .before .before .loop .inv .1)
 
--- src/lib.rt:182:9
 with-chamber-requires : tie.Need-with-chamber-requires Inv-loop μ-loop
 with-chamber-requires c κs =
     let l = c .before .before .before in
@@ -43,15 +35,12 @@ with-chamber-requires c κs =
     let in-loop = c .before .before .loop-test .taken in
     (s .pre .0, s .pre .1, in-loop, s .pre .2, still-hold _ _ _ (l .loop .inv .0) (s .pre .3), lt-of-le-of-lt (rounds-room _ _ _ _ _ _ _ _ (l .loop .j) in-loop (l .loop .inv .1)) (page-room (s .pre .0) (s .pre .1)))
 
--- src/lib.rt:183:9
 add-j : tie.Need-add-j Inv-loop μ-loop
 add-j c = omega arith
 
--- src/lib.rt:178:5
 loop-less : tie.Need-loop-less Inv-loop μ-loop
 loop-less c = omega arith
 
--- src/lib.rt:178:5
 loop-again : tie.Need-loop-again Inv-loop μ-loop
 loop-again c =
     let k = c .before .before in
@@ -62,11 +51,9 @@ loop-again c =
       rounds-on _ _ _ _ _ (capped (s .pre .0) (s .pre .1) (length (s .args .bits .now))) _ _ _ (l .loop .j) (k .before .before .before .loop-test .taken) (k .before .before .if1 .left) (l .loop .inv .1) _ (chamber-same _ _ _ _ _ _ _ _ _ _ long (k .with-chamber .ensures)),
     )
 
--- src/lib.rt:157:1
 same-length-2 : tie.Need-same-length-2 Inv-loop μ-loop
 same-length-2 c = c .before .loop .inv .0
 
--- src/lib.rt:157:1
 returns-2 : tie.Need-returns-2 Inv-loop μ-loop
 returns-2 c = rounds-end _ _ _ _ _ _ _ _ _ (c .loop-test .left) (c .before .loop .inv .1)
 

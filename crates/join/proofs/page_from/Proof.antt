@@ -1,11 +1,9 @@
+-- `join::page_from` meets its contract. Assumes nothing.
 use mathlib.Core.Path.{refl}
 use Rattle.join.specs.Maker.{pageFrom}
 use Rattle.join.proofs.page_from.Statement.{statement}
 use Rattle.join.proofs.page_from.Tie as tie
-use Rattle.join.proofs.page_from.Reads as reads
-use Rattle.join.proofs.page_from.Lts as lts
 
--- src/lib.rt:208:1
 returns : tie.Need-returns
 unfolding pageFrom
 returns c = refl

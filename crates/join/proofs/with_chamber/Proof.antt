@@ -1,32 +1,25 @@
+-- `join::with_chamber` meets its contract: the lent words are the filter walk's, and as many as before. Assumes nothing.
 use native.Mathlib.Omega.{arith}
 use Rattle.join.proofs.CallLaws.{still-hold, words-are, chamber-walked, filter-few, spot-fits}
 use borrow.Author.Needs.{needs}
 use Rattle.join.proofs.with_chamber.Statement.{statement}
 use Rattle.join.proofs.with_chamber.Tie as tie
 use Rattle.join.proofs.with_chamber.Reads as reads
-use Rattle.join.proofs.with_chamber.Lts as lts
-use Rattle.join.proofs.with_partners.Reads as with-partners-reads
-use Rattle.sheet.proofs.reads.spot_at.Reads as spot-at-reads
-use Rattle.walk.proofs.filter.filter_kept.Reads as filter-kept-reads
 
--- src/lib.rt:134:9
 spot-at-requires : tie.Need-spot-at-requires
 spot-at-requires c κs = search needs
 
--- src/lib.rt:135:9
 filter-kept-requires : tie.Need-filter-kept-requires
 filter-kept-requires c κs =
     let s = c .before .before .before in
     (s .pre .0, spot-fits (s .pre .1) _ _ (s .pre .2) (c .before .spot-at .ensures), s .pre .4)
 
--- src/lib.rt:137:16
 add-r : tie.Need-add-r
 add-r c =
     let k = c .before .before .before in
     let s = k .before .before .before .before in
     omega (arith, s .pre .5, filter-few (s .pre .0) _ _ _ (k .filter-kept .ensures .1))
 
--- src/lib.rt:138:5
 with-partners-requires : tie.Need-with-partners-requires
 with-partners-requires c κs =
     let k = c .before .before .before .before in
@@ -34,11 +27,9 @@ with-partners-requires c κs =
     let long = k .filter-kept .kept .1 .1 .1 .1 .0 in
     (s .pre .0, s .pre .1, s .pre .2, s .pre .3, still-hold _ _ _ long (s .pre .4), omega (arith, s .pre .5, filter-few (s .pre .0) _ _ _ (k .filter-kept .ensures .1)), words-are _ _ _ _ (k .before .before .spot-at .ensures) _ _ long (k .filter-kept .ensures .0))
 
--- src/lib.rt:118:1
 same-length : tie.Need-same-length
 same-length c = search needs
 
--- src/lib.rt:118:1
 returns : tie.Need-returns
 returns c =
     let k = c .before .before .before .before .before in

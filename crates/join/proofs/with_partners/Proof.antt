@@ -1,3 +1,4 @@
+-- `join::with_partners` meets its contract. The loop's invariant is `Tries`: what is left of the partners, at a kept position, and room for the count. Assumes nothing.
 use mathlib.Core.Path.{_∙_}
 use mathlib.Core.Logic.{⊎-elim}
 use Prim.Native.Nat.{_+_, _-_}
@@ -9,11 +10,6 @@ use Rattle.join.proofs.TurnLaws.{Tries, tries-start, tries-room, tries-
 use Rattle.join.proofs.CallLaws.{with-yes, with-no, words-of, capped}
 use Rattle.join.proofs.with_partners.Statement.{statement}
 use Rattle.join.proofs.with_partners.Tie as tie
-use Rattle.join.proofs.with_partners.Reads as reads
-use Rattle.join.proofs.with_partners.Lts as lts
-use Rattle.bits.proofs.next_from.Reads as next-from-reads
-use Rattle.join.proofs.try_partner.Reads as try-partner-reads
-use Rattle.join.proofs.with_found.Reads as with-found-reads
 
 abbrev Inv-loop : tie.InvT-loop
 Inv-loop p np mp q nq mq key size j bits r₀ i₀ r i = Tries (walksOf (length bits) p q) key size (mp + mq) j np r₀ r i
@@ -21,27 +17,22 @@ Inv-loop p np mp q nq mq key size j bits r₀ i₀ r i = Tries (walksOf (length 
 abbrev μ-loop : tie.MeasureT-loop
 μ-loop p np mp q nq mq key size j bits r₀ i₀ r i = np - i
 
--- src/lib.rt:101:9
 next-from-requires : tie.Need-next-from-requires Inv-loop μ-loop
 next-from-requires c κs = c .before .pre .4 .numbered
 
--- src/lib.rt:102:5
 loop-holds : tie.Need-loop-holds Inv-loop μ-loop
 loop-holds c =
     let s = c .before .before in
     tries-start _ _ _ _ _ _ _ _ (words-of _ _ _ _ (s .pre .6)) (s .pre .4 .enough) _ (c .next-from .ensures)
 
--- src/lib.rt:104:13
 returns : tie.Need-returns Inv-loop μ-loop
 returns c = tries-stop _ _ _ _ _ _ _ _ _ (c .if1 .taken) (c .before .before .loop .inv)
 
--- src/lib.rt:106:13
 try-partner-requires : tie.Need-try-partner-requires Inv-loop μ-loop
 try-partner-requires c κs =
     let s = c .before .before .before .before .before in
     (s .pre .0, s .pre .1, s .pre .2, c .before .loop-test .taken)
 
--- src/lib.rt:107:20
 add-r : tie.Need-add-r Inv-loop μ-loop
 add-r c =
     let t = c .before .before in
@@ -52,25 +43,20 @@ add-r c =
     let cap = tried-few _ _ (s .args .size) _ _ (capped (s .pre .0) (s .pre .1) words) _ _ _ (t .try-partner .ensures words) in
     omega (arith, s .pre .5)
 
--- src/lib.rt:110:13
 with-found-requires : tie.Need-with-found-requires Inv-loop μ-loop
 with-found-requires c κs = c .before .before .before .before .before .before .before .before .before .before .pre .3
 
--- src/lib.rt:112:35
 add-next-from : tie.Need-add-next-from Inv-loop μ-loop
 add-next-from c = omega (arith, c .before .before .before .before .before .loop-test .taken)
 
--- src/lib.rt:112:9
 next-from-requires-2 : tie.Need-next-from-requires-2 Inv-loop μ-loop
 next-from-requires-2 c κs = c .before .before .before .before .before .before .before .before .before .pre .4 .numbered
 
--- src/lib.rt:102:5
 loop-less : tie.Need-loop-less Inv-loop μ-loop
 loop-less c =
     let k = c .before .before in
     omega (arith, from-le _ _ _ (c .next-from2 .ensures), k .before .before .before .before .loop-test .taken)
 
--- src/lib.rt:102:5
 loop-again : tie.Need-loop-again Inv-loop μ-loop
 loop-again c =
     let k = c .before .before in
@@ -85,7 +71,6 @@ loop-again c =
     (c .before .if2 .came))
     _ (c .next-from2 .ensures)
 
--- src/lib.rt:84:1
 returns-2 : tie.Need-returns-2 Inv-loop μ-loop
 returns-2 c = tries-end _ _ _ _ _ _ _ _ _ (c .loop-test .left) (c .before .loop .inv)
 

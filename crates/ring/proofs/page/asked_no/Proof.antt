@@ -1,18 +1,14 @@
+-- `ring::page::asked_no` meets its contract. Assumes nothing.
 use Rattle.ring.proofs.PageLaws.{asked-9, asked-10, asked-0}
 use Rattle.ring.proofs.page.asked_no.Statement.{statement}
 use Rattle.ring.proofs.page.asked_no.Tie as tie
-use Rattle.ring.proofs.page.asked_no.Reads as reads
-use Rattle.ring.proofs.page.asked_no.Lts as lts
 
--- src/page.rt:37:9
 returns : tie.Need-returns
 returns c = asked-9 _ _ (c .if1 .taken)
 
--- src/page.rt:40:9
 returns-2 : tie.Need-returns-2
 returns-2 c = asked-10 _ _ (c .before .if1 .left) (c .if2 .taken)
 
--- src/page.rt:33:1
 returns-3 : tie.Need-returns-3
 returns-3 c = asked-0 _ _ (c .before .if1 .left) (c .if2 .left)
 

@@ -1,42 +1,30 @@
+-- `ring::page::page` meets its contract, number by number. Assumes nothing.
 use Rattle.ring.proofs.HeadLaws.{headed-both}
 use Rattle.ring.proofs.PageLaws.{size-in, page-sheets, page-asked, page-made, pumps-fit}
 use borrow.Author.Needs.{needs}
 use Rattle.ring.proofs.page.page.Statement.{statement}
 use Rattle.ring.proofs.page.page.Tie as tie
-use Rattle.ring.proofs.page.page.Reads as reads
-use Rattle.ring.proofs.page.page.Lts as lts
-use Rattle.ring.proofs.open.heads_of.Reads as heads-of-reads
-use Rattle.ring.proofs.page.asked_no.Reads as asked-no-reads
-use Rattle.ring.proofs.page.given.Reads as given-reads
-use Rattle.ring.proofs.page.refused.Reads as refused-reads
 
--- src/page.rt:85:9
 heads-of-requires : tie.Need-heads-of-requires
 heads-of-requires c κs = search needs
 
--- src/page.rt:87:9
 refused-requires : tie.Need-refused-requires
 refused-requires c κs = search needs
 
--- src/page.rt:87:9
 returns : tie.Need-returns
 returns c = page-sheets _ _ _ _ _ (c .before .before .before .heads-of .ensures) _ (c .before .if1 .taken) (c .refused .ensures)
 
--- src/page.rt:89:9
 asked-no-requires : tie.Need-asked-no-requires
 asked-no-requires c κs = search needs
 
--- src/page.rt:91:9
 refused-requires-2 : tie.Need-refused-requires-2
 refused-requires-2 c κs = search needs
 
--- src/page.rt:91:9
 returns-2 : tie.Need-returns-2
 returns-2 c =
     let a = c .before .before in
     page-asked _ _ _ _ _ (a .before .before .before .heads-of .ensures) _ (a .before .if1 .left) _ (a .asked-no .ensures) (c .before .if2 .taken) (c .refused2 .ensures)
 
--- src/page.rt:93:5
 given-requires : tie.Need-given-requires
 given-requires c κs =
     let a = c .before in
@@ -44,7 +32,6 @@ given-requires c κs =
     let o = headed-both _ _ _ (h .ensures) (a .before .if1 .left) in
     (o .p-facts, o .q-facts, pumps-fit _ _ _ o, size-in _ _ (a .asked-no .ensures) (c .if2 .left))
 
--- src/page.rt:82:1
 returns-3 : tie.Need-returns-3
 returns-3 c =
     let a = c .before .before in

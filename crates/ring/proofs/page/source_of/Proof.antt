@@ -1,36 +1,27 @@
+-- `ring::page::source_of` meets its contract: a sheet that opens has its trailer. Assumes nothing.
 use Rattle.ring.proofs.PageLaws.{source-read}
 use borrow.Author.Needs.{needs}
 use Rattle.ring.proofs.page.source_of.Statement.{statement}
 use Rattle.ring.proofs.page.source_of.Tie as tie
-use Rattle.ring.proofs.page.source_of.Reads as reads
-use Rattle.ring.proofs.page.source_of.Lts as lts
-use Rattle.words.proofs.num_at.Reads as num-at-reads
 
--- src/page.rt:51:37
 sub-num-at : tie.Need-sub-num-at
 sub-num-at c = search needs
 
--- src/page.rt:51:20
 num-at-requires : tie.Need-num-at-requires
 num-at-requires c κs = search needs
 
--- src/page.rt:51:20
 cast-t10 : tie.Need-cast-t10
 cast-t10 c = search needs
 
--- src/page.rt:52:37
 sub-num-at-2 : tie.Need-sub-num-at-2
 sub-num-at-2 c = search needs
 
--- src/page.rt:52:20
 num-at-requires-2 : tie.Need-num-at-requires-2
 num-at-requires-2 c κs = search needs
 
--- src/page.rt:52:20
 cast-t14 : tie.Need-cast-t14
 cast-t14 c = search needs
 
--- src/page.rt:46:1
 returns : tie.Need-returns
 returns c = source-read _ _ _ _ (c .before .num-at .ensures .0) (c .num-at2 .ensures .0)
 
