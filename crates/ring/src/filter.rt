@@ -27,7 +27,7 @@ pub fn filter_walk(p: &[i32], q: &[i32], j: usize) -> Filtered
     if h.nq <= j {
         return refused(9);
     }
-    let at = sheet::places::spot_at(q, j);
+    let at = sheet::reads::spot_at(q, h.nq, h.mq, j);
     let mut kept = [0u64; 16];
     let opened = walk::filter::filter_kept(p, h.np, h.mp, at, &mut kept);
     Filtered {

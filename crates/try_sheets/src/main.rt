@@ -41,10 +41,9 @@ fn print_signed(z: i64) {
 fn print_point(r: ring::Pointed) {
     match r {
         ring::Pointed::At(a) => {
-            let place = [a.x, a.y];
             print(a.id as u64);
-            print_signed(sheet::places::wide_at(&place, 0));
-            print_signed(sheet::places::wide_at(&place, 1));
+            print_signed(words::wide(a.x));
+            print_signed(words::wide(a.y));
         }
         ring::Pointed::Refused(number) => {
             io::write_all(libc::STDOUT_FILENO, b" refused");
@@ -72,7 +71,7 @@ fn point_case() {
 fn print_words(s: &[i32]) {
     let mut k = 0;
     while k < s.len() {
-        print_signed(sheet::places::wide_at(s, k));
+        print_signed(words::wide(words::at(s, k)));
         k += 1;
     }
 }

@@ -14,8 +14,11 @@ abbrev μ-loop : tie.MeasureT-loop
 loop-holds : tie.Need-loop-holds Inv-loop μ-loop
 loop-holds c = search needs
 
-wide-at-requires : tie.Need-wide-at-requires Inv-loop μ-loop
-wide-at-requires c κs = search needs
+at-requires : tie.Need-at-requires Inv-loop μ-loop
+at-requires c κs = search needs
+
+wide-requires : tie.Need-wide-requires Inv-loop μ-loop
+wide-requires c κs = search needs
 
 print-signed-requires : tie.Need-print-signed-requires Inv-loop μ-loop
 print-signed-requires c κs = search needs
@@ -39,7 +42,8 @@ print-words-spec =
     Inv-loop
     μ-loop
     loop-holds
-    wide-at-requires
+    at-requires
+    wide-requires
     print-signed-requires
     add-k
     loop-less

@@ -13,7 +13,7 @@ use Rattle.ring.proofs.filter.filter_walk.Lts as lts
 use Rattle.bits.proofs.len.Reads as len-reads
 use Rattle.ring.proofs.filter.refused.Reads as refused-reads
 use Rattle.ring.proofs.open.heads_of.Reads as heads-of-reads
-use Rattle.sheet.proofs.places.spot_at.Reads as spot-at-reads
+use Rattle.sheet.proofs.reads.spot_at.Reads as spot-at-reads
 use Rattle.walk.proofs.filter.filter_kept.Reads as filter-kept-reads
 
 -- src/filter.rt:23:9
@@ -41,7 +41,7 @@ spot-at-requires : tie.Need-spot-at-requires
 spot-at-requires c κs =
     let e = c .before .before in
     let o = headed-both _ _ _ (e .before .before .heads-of .ensures) (e .if1 .left) in
-    omega (arith, c .if2 .left, o .q-facts .n-le)
+    (o .q-facts, c .if2 .left)
 
 -- src/filter.rt:32:63
 slice-aggregate-filter-kept : tie.Need-slice-aggregate-filter-kept
