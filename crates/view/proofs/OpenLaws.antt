@@ -55,3 +55,11 @@ open-shown s r h e part = ⊎-elim yes no (decide (eqb (sheetNo (now s)) 0))
         let f = is-shut (now s) h e t in
         let c = part .0 ∙ ap (λ (g : Head). take (g .len) (now s)) f in
         rw t (λ i. record { number = f i .number; start = part .1 i; covers = c i; n = f i .n; m = f i .m })
+
+-- what an opened view shows, as the head of its words
+pub shown-head : (s : RefT (List ℤ)) (o : Opened) → shown o ≡ openOf s → record { number = o .number; len = length (now (o .sheet .words)); n = o .sheet .n; m = o .sheet .m } ≡ headOf (now s)
+unfolding openOf headOf
+shown-head s o e = ap headed e ∙ ⊎-elim (λ t. rw t) (λ t. rw t) (decide (eqb (sheetNo (now s)) 0))
+  where
+    headed : Shown → Head
+    headed x = record { number = x .number; len = length (x .covers); n = x .n; m = x .m }

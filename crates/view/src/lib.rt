@@ -1,12 +1,13 @@
 // An opened sheet: a view of the words where the caller keeps them, with the sheet's counts. No copy is made.
 // Whoever is handed a view checks it like any slice: its counts are read anew from its words, and its own are never trusted.
 use ring::Filtered;
+use ring::Head;
 use ring::Pointed;
 use ring::Walked;
 ghost use mathlib.Core.Path.{_≡_};
 ghost use Prim.Native.Nat.{_≤_};
 ghost use lib.ListN.{length, take};
-ghost use Rattle.ring.specs.Answers.{pointed, filtered, walked};
+ghost use Rattle.ring.specs.Answers.{headOf, pointed, filtered, walked};
 ghost use Rattle.view.specs.Shown.{shown, openOf};
 
 // The words that the view covers, and the numbers of points and nodes that it claims for them.
@@ -66,6 +67,27 @@ pub fn ring_walk_at<'a, 'b>(p: Sheet<'a>, q: Sheet<'b>, j: usize, i: usize) -> W
     ensures { λ r. ⌜ r ≡ walked (now (p .entry .words)) (now (q .entry .words)) j i ⌝ }
 {
     ring::ringwalk::ring_walk(p.words, q.words, j, i)
+}
+
+// For callers that hold no view: what `open` shows of the words.
+pub fn open_head(words: &[i32]) -> Head
+    ensures { λ r. ⌜ r ≡ headOf (now (words .entry)) ⌝ }
+{
+    let o = open(words);
+    Head {
+        number: o.number,
+        len: o.sheet.words.len(),
+        n: o.sheet.n,
+        m: o.sheet.m,
+    }
+}
+
+// The record at a position, through the view that `open` gives: of words that are no sheet it covers none, and the reader refuses by 1.
+pub fn point_opened(words: &[i32], position: usize) -> Pointed
+    ensures { λ r. ⌜ r ≡ pointed (openOf (words .entry) .covers) position ⌝ }
+{
+    let o = open(words);
+    point_at(o.sheet, position)
 }
 
 // For callers that hold no view: one is made of the words with any counts, and handed to the reader, which does not look at them.
