@@ -1,0 +1,228 @@
+// Views in use: each line is an answer of a call of `view`. Besides the listing's two sheets: sheets with one word changed, parts of a sheet, no words at all,
+// and views that claim counts which are not their sheet's.
+use ring::Filtered;
+use ring::Head;
+use ring::Pointed;
+use ring::Walked;
+use walk::Answer;
+use walk::Hit;
+
+fn say(word: &[u8]) {
+    io::write_all(libc::STDOUT_FILENO, word);
+}
+
+fn number(n: u64) {
+    say(b" ");
+    io::print_decimal(libc::STDOUT_FILENO, n);
+}
+
+fn show_head(h: Head) {
+    say(b"open");
+    number(h.number as u64);
+    number(h.len as u64);
+    number(h.n as u64);
+    number(h.m as u64);
+    say(b"\n");
+}
+
+fn show_point(a: Pointed) {
+    match a {
+        Pointed::At(asset) => {
+            say(b"point");
+            number(asset.id as u64);
+            number(words::num(asset.x) as u64);
+            number(words::num(asset.y) as u64);
+        }
+        Pointed::Refused(no) => {
+            say(b"point refused");
+            number(no as u64);
+        }
+    }
+    say(b"\n");
+}
+
+fn show_filter(f: Filtered) {
+    say(b"filter");
+    number(f.number as u64);
+    number(f.bits[0]);
+    number(f.bits[15]);
+    number(f.count as u64);
+    number(f.opened);
+    say(b"\n");
+}
+
+fn show_hit(h: Hit) {
+    match h {
+        Hit::Clear => say(b"ring clear"),
+        Hit::Point(b) => {
+            say(b"ring point");
+            number(b.set as u64);
+            number(b.position as u64);
+        }
+        Hit::Side { set: s, node: v } => {
+            say(b"ring side");
+            number(s as u64);
+            number(v as u64);
+        }
+    }
+}
+
+fn show_answer(a: Answer) {
+    let h = a.hit;
+    show_hit(h);
+    say(b", opened");
+    number(a.opened);
+}
+
+fn show_walk(w: Walked) {
+    match w {
+        Walked::Done(a) => show_answer(a),
+        Walked::Refused(no) => {
+            say(b"ring refused");
+            number(no as u64);
+        }
+    }
+    say(b"\n");
+}
+
+// The two sheets of the listing, with one word changed: word 23 is none, and changes nothing.
+fn sheet_p(at: usize, word: i32) -> [i32; 23] {
+    let mut s: [i32; 23] = [
+        1,
+        0,
+        0,
+        2,
+        10,
+        0,
+        0,
+        1,
+        0,
+        1,
+        0,
+        0,
+        2,
+        0,
+        0,
+        10,
+        0,
+        17,
+        7,
+        2,
+        1,
+        7,
+        1,
+    ];
+    if at < 23 {
+        s[at] = word;
+    }
+    s
+}
+
+fn sheet_q(at: usize, word: i32) -> [i32; 23] {
+    let mut s: [i32; 23] = [
+        5,
+        4,
+        0,
+        6,
+        16,
+        1,
+        0,
+        1,
+        0,
+        1,
+        0,
+        0,
+        2,
+        4,
+        0,
+        16,
+        1,
+        17,
+        7,
+        2,
+        1,
+        9,
+        1,
+    ];
+    if at < 23 {
+        s[at] = word;
+    }
+    s
+}
+
+// What `open` shows of P with one word changed, and the point reader through the view that it gives.
+fn open_changed(at: usize, word: i32) {
+    let p = sheet_p(at, word);
+    show_head(view::open_head(&p));
+    show_point(view::point_opened(&p, 1));
+}
+
+fn open_cases() {
+    open_changed(23, 0);
+    open_changed(22, 2);
+    open_changed(19, 1001);
+    open_changed(17, 18);
+    open_changed(0, 0);
+    open_changed(6, 1);
+    open_changed(10, 1);
+    open_changed(15, 11);
+    let p = sheet_p(23, 0);
+    show_head(view::open_head(&p[23..]));
+    show_head(view::open_head(&p[18..]));
+    show_head(view::open_head(&p[1..]));
+}
+
+// The points of a view of P that claims n points and m nodes.
+fn point_cases(n: usize, m: usize) {
+    let p = sheet_p(23, 0);
+    show_point(view::point_through(&p, n, m, 0));
+    show_point(view::point_through(&p, n, m, 1));
+    show_point(view::point_through(&p, n, m, 2));
+    show_point(view::point_through(&p[23..], n, m, 0));
+    show_point(view::point_through(&p[1..], n, m, 0));
+}
+
+// The walks at position j of Q, through views that claim n points and m nodes, and of Q the other way round.
+fn walk_row(p: &[i32], q: &[i32], n: usize, m: usize, j: usize) {
+    show_filter(view::filter_walk_through(p, n, m, q, m, n, j));
+    show_walk(view::ring_walk_through(p, n, m, q, m, n, j, 0));
+    show_walk(view::ring_walk_through(p, n, m, q, m, n, j, 1));
+    show_walk(view::ring_walk_through(p, n, m, q, m, n, j, 2));
+}
+
+fn walk_cases(n: usize, m: usize) {
+    let p = sheet_p(23, 0);
+    let q = sheet_q(23, 0);
+    walk_row(&p, &q, n, m, 0);
+    walk_row(&p, &q, n, m, 1);
+    walk_row(&p, &q, n, m, 2);
+}
+
+// The walks at positions that no sheet has, and over no words: P is checked first.
+fn refused_row(p: &[i32], q: &[i32]) {
+    show_filter(view::filter_walk_through(p, 2, 1, q, 2, 1, 1000));
+    show_walk(view::ring_walk_through(p, 2, 1, q, 2, 1, 1000, 1000));
+    show_walk(view::ring_walk_through(&p[..0], 2, 1, q, 2, 1, 0, 0));
+    show_walk(view::ring_walk_through(p, 2, 1, &q[..0], 2, 1, 0, 0));
+}
+
+// Over P and Q with one word of each changed.
+fn refused_cases(at: usize, p_word: i32, other: usize, q_word: i32) {
+    let p = sheet_p(at, p_word);
+    let q = sheet_q(other, q_word);
+    refused_row(&p, &q);
+}
+
+fn main() {
+    open_cases();
+    point_cases(2, 1);
+    point_cases(0, 0);
+    point_cases(1000, 400);
+    point_cases(18446744073709551615, 18446744073709551615);
+    walk_cases(2, 1);
+    walk_cases(0, 18446744073709551615);
+    refused_cases(22, 2, 19, 1001);
+    refused_cases(23, 0, 19, 1001);
+    refused_cases(15, 11, 22, 2);
+    refused_cases(23, 0, 23, 0);
+}
