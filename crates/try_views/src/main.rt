@@ -1,7 +1,11 @@
 // Views in use: each line is an answer of a call of `view`. Besides the listing's two sheets: sheets with one word changed, parts of a sheet, no words at all,
 // and views that claim counts which are not their sheet's.
+use list::Key;
+use list::Page;
+use list::Pair;
 use ring::Filtered;
 use ring::Head;
+use ring::Paged;
 use ring::Pointed;
 use ring::Walked;
 use walk::Answer;
@@ -82,6 +86,30 @@ fn show_walk(w: Walked) {
             number(no as u64);
         }
     }
+    say(b"\n");
+}
+
+fn show_pair(v: Pair) {
+    number(v.q as u64);
+    number(v.p as u64);
+}
+
+fn show_pairs(g: Page) {
+    number(g.count as u64);
+    if g.end {
+        say(b" end");
+    }
+    show_pair(g.pairs[0]);
+    show_pair(g.pairs[1]);
+    show_pair(g.pairs[15]);
+}
+
+fn show_page(a: Paged) {
+    say(b"page");
+    number(a.number as u64);
+    number(a.opened);
+    let g = a.page;
+    show_pairs(g);
     say(b"\n");
 }
 
@@ -213,6 +241,29 @@ fn refused_cases(at: usize, p_word: i32, other: usize, q_word: i32) {
     refused_row(&p, &q);
 }
 
+// A page request through views that claim n points and m nodes, and of Q the other way round.
+fn ask(p: &[i32], q: &[i32], n: usize, m: usize, q_id: u32, p_id: u32, size: usize) {
+    let key = Key { q: q_id, p: p_id };
+    show_page(view::page_through(p, n, m, q, m, n, key, size));
+}
+
+fn page_row(p: &[i32], q: &[i32], n: usize, m: usize) {
+    ask(p, q, n, m, 0, 0, 2);
+    ask(p, q, n, m, 5, 2, 2);
+    ask(p, q, n, m, 6, 2, 2);
+    ask(p, q, n, m, 5, 3, 2);
+    ask(p, q, n, m, 0, 2000000001, 0);
+    ask(p, q, n, m, 0, 0, 0);
+    ask(p, q, n, m, 0, 0, 17);
+    ask(&p[..0], q, n, m, 0, 2000000001, 0);
+}
+
+fn page_cases(n: usize, m: usize) {
+    let p = sheet_p(23, 0);
+    let q = sheet_q(23, 0);
+    page_row(&p, &q, n, m);
+}
+
 fn main() {
     open_cases();
     point_cases(2, 1);
@@ -221,6 +272,8 @@ fn main() {
     point_cases(18446744073709551615, 18446744073709551615);
     walk_cases(2, 1);
     walk_cases(0, 18446744073709551615);
+    page_cases(2, 1);
+    page_cases(0, 18446744073709551615);
     refused_cases(22, 2, 19, 1001);
     refused_cases(23, 0, 19, 1001);
     refused_cases(15, 11, 22, 2);

@@ -12,6 +12,9 @@ use denote.Ref.{RefT, now}
 use Rattle.sheet.specs.Layout.{points, nodes}
 use Rattle.ring.specs.Numbers.{sheetNo}
 use Rattle.ring.specs.Answers.{pointed, filtered, walked}
+use Rattle.list.specs.declared.Key.{Key}
+use Rattle.ring.specs.Page.{pageAnswer}
+use Rattle.ring.specs.declared.Paged.{Paged}
 use Rattle.ring.specs.declared.Pointed.{Pointed}
 use Rattle.ring.specs.declared.Filtered.{Filtered}
 use Rattle.ring.specs.declared.Walked.{Walked}
@@ -40,3 +43,7 @@ filter-once p p′ q q′ j r r′ v w e f = e ∙ ap (λ (x : List ℤ). filter
 pub ring-once : (p p′ q q′ : Sheet) (j i : ℕ) (r r′ : Walked) → now (p .words) ≡ now (p′ .words) → now (q .words) ≡ now (q′ .words)
     → r ≡ walked (now (p .words)) (now (q .words)) j i → r′ ≡ walked (now (p′ .words)) (now (q′ .words)) j i → r ≡ r′
 ring-once p p′ q q′ j i r r′ v w e f = e ∙ ap (λ (x : List ℤ). walked x (now (q .words)) j i) v ∙ ap (λ (y : List ℤ). walked (now (p′ .words)) y j i) w ∙ sym f
+
+pub page-once : (p p′ q q′ : Sheet) (key : Key) (size : ℕ) (r r′ : Paged) → now (p .words) ≡ now (p′ .words) → now (q .words) ≡ now (q′ .words)
+    → r ≡ pageAnswer (now (p .words)) (now (q .words)) key size → r′ ≡ pageAnswer (now (p′ .words)) (now (q′ .words)) key size → r ≡ r′
+page-once p p′ q q′ key size r r′ v w e f = e ∙ ap (λ (x : List ℤ). pageAnswer x (now (q .words)) key size) v ∙ ap (λ (y : List ℤ). pageAnswer (now (p′ .words)) y key size) w ∙ sym f

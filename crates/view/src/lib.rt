@@ -1,13 +1,16 @@
 // An opened sheet: a view of the words where the caller keeps them, with the sheet's counts. No copy is made.
 // Whoever is handed a view checks it like any slice: its counts are read anew from its words, and its own are never trusted.
+use list::Key;
 use ring::Filtered;
 use ring::Head;
+use ring::Paged;
 use ring::Pointed;
 use ring::Walked;
 ghost use mathlib.Core.Path.{_≡_};
 ghost use Prim.Native.Nat.{_≤_};
 ghost use lib.ListN.{length, take};
 ghost use Rattle.ring.specs.Answers.{headOf, pointed, filtered, walked};
+ghost use Rattle.ring.specs.Page.{pageAnswer};
 ghost use Rattle.view.specs.Shown.{shown, openOf};
 
 // The words that the view covers, and the numbers of points and nodes that it claims for them.
@@ -69,6 +72,13 @@ pub fn ring_walk_at<'a, 'b>(p: Sheet<'a>, q: Sheet<'b>, j: usize, i: usize) -> W
     ring::ringwalk::ring_walk(p.words, q.words, j, i)
 }
 
+// The page that follows a key; refused by 1 to 8 of P's words, then of Q's, then by 9 for the key, then by 10 for the size.
+pub fn page_at<'a, 'b>(p: Sheet<'a>, q: Sheet<'b>, key: Key, size: usize) -> Paged
+    ensures { λ r. ⌜ r ≡ pageAnswer (now (p .entry .words)) (now (q .entry .words)) key size ⌝ }
+{
+    ring::page::page(p.words, q.words, key, size)
+}
+
 // For callers that hold no view: what `open` shows of the words.
 pub fn open_head(words: &[i32]) -> Head
     ensures { λ r. ⌜ r ≡ headOf (now (words .entry)) ⌝ }
@@ -90,7 +100,7 @@ pub fn point_opened(words: &[i32], position: usize) -> Pointed
     point_at(o.sheet, position)
 }
 
-// For callers that hold no view: one is made of the words with any counts, and handed to the reader, which does not look at them.
+// For callers that hold no view, the four readers again: views are made of the words with any counts, and handed to the reader, which looks at the words alone.
 pub fn point_through(words: &[i32], n: usize, m: usize, position: usize) -> Pointed
     ensures { λ r. ⌜ r ≡ pointed (now (words .entry)) position ⌝ }
 {
@@ -148,5 +158,33 @@ pub fn ring_walk_through(
         },
         j,
         i,
+    )
+}
+
+pub fn page_through(
+    p: &[i32],
+    np: usize,
+    mp: usize,
+    q: &[i32],
+    nq: usize,
+    mq: usize,
+    key: Key,
+    size: usize,
+) -> Paged
+    ensures { λ r. ⌜ r ≡ pageAnswer (now (p .entry)) (now (q .entry)) key size ⌝ }
+{
+    page_at(
+        Sheet {
+            words: p,
+            n: np,
+            m: mp,
+        },
+        Sheet {
+            words: q,
+            n: nq,
+            m: mq,
+        },
+        key,
+        size,
     )
 }
