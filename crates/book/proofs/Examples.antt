@@ -5,17 +5,16 @@ use mathlib.Core.Bool.{Bool, true, false}
 use mathlib.Core.List.{List, [], _∷_, _++_}
 use Prim.Native.Nat.{ℕ}
 use lib.ListN.{length, replicate}
-use Rattle.list.specs.declared.Key.{Key}
 use Rattle.list.specs.declared.Pair.{Pair}
 use Rattle.list.specs.declared.Source.{Source}
 use Rattle.list.specs.declared.Page.{Page}
 use Rattle.list.specs.Pairs.{start, none, keyOf, follows, ascends}
-use Rattle.list.specs.Pages.{sourceNo, padded, pagePairs}
+use Rattle.list.specs.Pages.{sourceNo, pagePairs}
 use Rattle.words.specs.Range.{idOk, editionOk}
 use Rattle.book.specs.declared.Book.{Book}
 use Rattle.book.specs.declared.Begun.the-variants as begun
 use Rattle.book.specs.declared.Next.the-variants as next
-use Rattle.book.specs.Rules.{beginNo, begunBook, begunBy, begunFor, lastKey, nextNo, nextBy, askedAt, asked, idsOk, sameKey, pageBad, firstNo, takeNoAt, takeNo, advanced, accepted, refused, decidedBy, decided, taken, takenSlots}
+use Rattle.book.specs.Rules.{beginNo, begunBook, begunBy, begunFor, lastKey, nextNo, nextBy, askedAt, asked, idsOk, sameKey, pageBad, firstNo, takeNoAt, takeNo, advanced, accepted, decidedBy, decided, taken, takenSlots}
 
 -- editions 7 and 9, whose list is (5, 1), (5, 2), (6, 2)
 abbrev ours : Source

@@ -5,3 +5,4 @@ pub mod Once
 pub mod Story
 pub mod Examples
 pub mod LocalRow
+pub mod Rows

@@ -1,7 +1,7 @@
 -- One input, one answer and one final state of the slots: from each promise alone. And the number and the value that each answer has.
 -- Assumes nothing.
 use mathlib.Core.Path.{_≡_, refl, sym, ap, _∙_}
-use mathlib.Core.List.{List, [], _∷_}
+use mathlib.Core.List.{List}
 use Prim.Native.Nat.{ℕ, zero, suc}
 use lib.ListN.{length, take}
 use Rattle.list.specs.declared.Key.{Key}

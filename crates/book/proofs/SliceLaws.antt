@@ -3,7 +3,7 @@
 -- Assumes nothing.
 use mathlib.Core.Path.{_≡_, refl, sym, ap, _∙_}
 use mathlib.Core.Bool.{Bool, true, false, cond, not}
-use mathlib.Core.List.{List, [], _∷_}
+use mathlib.Core.List.{List}
 use Prim.Native.Nat.{ℕ, zero, suc, _+_, _-_, _≤_, _<_}
 use native.Mathlib.Omega.{arith}
 use lib.ListN.{length, take}
@@ -18,7 +18,6 @@ use Rattle.list.specs.Pairs.{start, ascends, lastOr}
 use Rattle.list.specs.Pages.{sourceNo, pagePairs}
 use Rattle.book.specs.declared.Book.{Book}
 use Rattle.book.specs.declared.Next.the-variants as next
-use Rattle.book.specs.declared.Asked.{Asked}
 use Rattle.book.specs.declared.Decided.{Decided}
 use Rattle.book.specs.Rules.{lastKey, nextNo, nextBy, askedAt, asked, idsOk, sameKey, pageBad, firstNo, takeNoAt, takeNo, advanced, accepted, refused, decided, taken, takenSlots}
 use Rattle.book.proofs.TakeLaws.{no-cond, cond-no, first-no, source-13, by-zero, by-number, refused-slots, taken-slots, no-refusal, source-same}

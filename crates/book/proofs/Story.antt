@@ -2,7 +2,7 @@
 -- answers its own next request adds a pair or closes it.
 -- Assumes nothing.
 use mathlib.Core.Path.{_≡_, refl, sym, ap, ap₂, subst, _∙_}
-use mathlib.Core.Bool.{Bool, true, false, cond, not, _&&_, _||_, true≢false, and-false}
+use mathlib.Core.Bool.{Bool, true, false, not, _&&_, _||_, true≢false, and-false}
 use mathlib.Core.Logic.{_⊎_, inl, inr, ⊎-elim}
 use mathlib.Core.List.{List, [], _∷_, _++_, List·Memᴰ, List·Memᴰ·head, List·Memᴰ·tail}
 use Prim.Native.Nat.{ℕ, zero, suc, _+_, _-_, _≤_, _<_}
@@ -22,12 +22,10 @@ use Rattle.list.specs.declared.Page.{Page}
 use Rattle.list.specs.Pairs.{start, keyOf, follows, ascends, after, lastOr}
 use Rattle.list.specs.Pages.{sourceNo, shown, pageOf, pagePairs}
 use Rattle.list.specs.Rows.{Rising}
-use Rattle.list.specs.RingList.{ringList}
 use Rattle.list.proofs.Order.{asc-left, after-asc, after-last}
 use Rattle.list.proofs.PageLaws.{page-shows, shown-count, length-padded, end-mark}
 use Rattle.list.proofs.RowLaws.{ring-ascends, ring-only}
 use Rattle.book.specs.declared.Book.{Book}
-use Rattle.book.specs.declared.Begun.{Begun}
 use Rattle.book.specs.declared.Begun.the-variants as begun
 use Rattle.book.specs.declared.Next.the-variants as next
 use Rattle.book.specs.Rules.{beginNo, begunBy, begunBook, begunFor, lastKey, asked, idsOk, pageMost, pageBad, takeNo, advanced, taken, takenSlots}

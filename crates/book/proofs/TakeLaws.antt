@@ -1,12 +1,12 @@
 -- What a page that is taken has passed, and what a taken page and a refused one do: of every state, slice and page.
 -- Assumes nothing.
-use mathlib.Core.Path.{_≡_, refl, sym, ap, subst, _∙_}
+use mathlib.Core.Path.{_≡_, refl, sym, ap, _∙_}
 use mathlib.Core.Bool.{Bool, true, false, cond, not, _&&_, _||_, true≢false}
 use mathlib.Core.Logic.{_⊎_, inl, inr, ⊎-elim}
-use mathlib.Core.List.{List, [], _∷_, _++_}
-use Prim.Native.Nat.{ℕ, zero, suc, _+_, _-_, _≤_, _<_}
+use mathlib.Core.List.{List}
+use Prim.Native.Nat.{ℕ, zero, suc, _+_, _-_, _≤_}
 use native.Mathlib.Omega.{arith}
-use lib.ListN.{length, take, drop, getD}
+use lib.ListN.{length, take, drop}
 use lib.Seq.{paste, paste-zero, take-paste, drop-paste, length-paste, take-take, take-at, length-take-le}
 use lib.Dec.{eqb, ltb}
 use borrow.Author.Tests.{ltb-false, eqb-true, le-ltb, eq-eqb, not-false}
@@ -15,10 +15,9 @@ use Rattle.list.specs.declared.Key.{Key}
 use Rattle.list.specs.declared.Pair.{Pair}
 use Rattle.list.specs.declared.Source.{Source}
 use Rattle.list.specs.declared.Page.{Page}
-use Rattle.list.specs.Pairs.{start, none, keyOf, ascends, lastOr}
+use Rattle.list.specs.Pairs.{ascends}
 use Rattle.list.specs.Pages.{sourceNo, pagePairs}
 use Rattle.book.specs.declared.Book.{Book}
-use Rattle.book.specs.declared.Taken.{Taken}
 use Rattle.book.specs.declared.Decided.{Decided}
 use Rattle.book.specs.Rules.{lastKey, idsOk, sameKey, pageMost, pageBad, firstNo, takeNoAt, takeNo, advanced, accepted, refused, decidedBy, decided, taken, takenSlots}
 

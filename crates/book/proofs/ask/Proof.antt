@@ -1,13 +1,8 @@
-use mathlib.Core.Path.{_≡_, refl, sym, ap, _∙_}
-use mathlib.Core.Bool.{Bool, cond}
 use borrow.Author.Needs.{needs}
 use borrow.Author.Tests.{lt-ltb, le-ltb}
 use Rattle.book.specs.Rules.{askedAt, nextNo, nextBy}
 use Rattle.book.proofs.ask.Statement.{statement}
 use Rattle.book.proofs.ask.Tie as tie
-use Rattle.book.proofs.ask.Reads as reads
-use Rattle.book.proofs.ask.Lts as lts
-use Rattle.list.proofs.key_of.Reads as key-of-reads
 
 returns : tie.Need-returns
 unfolding askedAt nextNo nextBy

@@ -1,4 +1,4 @@
-use mathlib.Core.Path.{_≡_, sym, ap, _∙_}
+use mathlib.Core.Path.{sym, _∙_}
 use native.Mathlib.Omega.{arith}
 use Rattle.book.specs.Rules.{advanced, accepted, refused}
 use Rattle.book.proofs.TakeLaws.{passed-at}
@@ -6,9 +6,6 @@ use Rattle.book.proofs.CoreLaws.{decided-no, decided-yes}
 use borrow.Author.Needs.{needs}
 use Rattle.book.proofs.decide.Statement.{statement}
 use Rattle.book.proofs.decide.Tie as tie
-use Rattle.book.proofs.decide.Reads as reads
-use Rattle.book.proofs.decide.Lts as lts
-use Rattle.book.proofs.take_number.Reads as take-number-reads
 
 take-number-requires : tie.Need-take-number-requires
 take-number-requires c κs = search needs

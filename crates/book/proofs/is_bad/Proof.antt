@@ -2,9 +2,6 @@ use Rattle.book.proofs.CoreLaws.{bad-many, bad-is}
 use borrow.Author.Needs.{needs}
 use Rattle.book.proofs.is_bad.Statement.{statement}
 use Rattle.book.proofs.is_bad.Tie as tie
-use Rattle.book.proofs.is_bad.Reads as reads
-use Rattle.book.proofs.is_bad.Lts as lts
-use Rattle.book.proofs.pairs_rise.Reads as pairs-rise-reads
 
 returns : tie.Need-returns
 returns c = bad-many _ (c .if1 .taken)

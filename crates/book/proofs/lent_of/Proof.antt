@@ -1,4 +1,3 @@
-use mathlib.Core.Path.{_≡_, refl}
 use borrow.Author.Tests.{lt-ltb, le-ltb}
 use Rattle.book.specs.Rules.{lentOf}
 use Rattle.book.proofs.lent_of.Statement.{statement}

@@ -6,11 +6,6 @@ use borrow.Author.Needs.{needs}
 use Rattle.book.proofs.CoreLaws.{long-of, Testing, testing-start, testing-stop, testing-on, testing-end}
 use Rattle.book.proofs.pairs_rise.Statement.{statement}
 use Rattle.book.proofs.pairs_rise.Tie as tie
-use Rattle.book.proofs.pairs_rise.Reads as reads
-use Rattle.book.proofs.pairs_rise.Lts as lts
-use Rattle.words.proofs.is_id.Reads as is-id-reads
-use Rattle.list.proofs.is_after.Reads as is-after-reads
-use Rattle.list.proofs.key_of.Reads as key-of-reads
 
 abbrev Inv-loop : tie.InvT-loop
 Inv-loop n g last₀ k₀ last k = Testing last₀ (g .pairs) n last k

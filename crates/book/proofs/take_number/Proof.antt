@@ -1,19 +1,12 @@
 use mathlib.Core.Path.{_≡_, sym, ap, _∙_}
-use mathlib.Core.Bool.{Bool, true, false}
 use borrow.Author.Tests.{not-true, not-false}
 use Rattle.list.specs.Pairs.{keyOf}
 use Rattle.list.specs.Pages.{sourceNo}
-use Rattle.book.specs.Rules.{sameKey, pageBad}
+use Rattle.book.specs.Rules.{sameKey}
 use Rattle.book.proofs.CoreLaws.{is-11, is-12, is-13, is-14, is-15, is-16, is-0}
 use borrow.Author.Needs.{needs}
 use Rattle.book.proofs.take_number.Statement.{statement}
 use Rattle.book.proofs.take_number.Tie as tie
-use Rattle.book.proofs.take_number.Reads as reads
-use Rattle.book.proofs.take_number.Lts as lts
-use Rattle.book.proofs.is_bad.Reads as is-bad-reads
-use Rattle.book.proofs.is_same.Reads as is-same-reads
-use Rattle.list.proofs.key_of.Reads as key-of-reads
-use Rattle.list.proofs.source_no.Reads as source-no-reads
 
 -- what the calls answered, as tests on the arguments
 abbrev first : tie.After-source-no → tie.Start

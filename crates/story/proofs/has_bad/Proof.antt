@@ -2,11 +2,6 @@ use Prim.Native.Nat.{_≤_, _-_}
 use borrow.Author.Needs.{needs}
 use Rattle.story.proofs.has_bad.Statement.{statement}
 use Rattle.story.proofs.has_bad.Tie as tie
-use Rattle.story.proofs.has_bad.Reads as reads
-use Rattle.story.proofs.has_bad.Lts as lts
-use Rattle.list.proofs.key_of.Reads as key-of-reads
-use Rattle.story.proofs.is_id.Reads as is-id-reads
-use Rattle.story.proofs.rank.Reads as rank-reads
 
 abbrev Inv-loop : tie.InvT-loop
 Inv-loop g last₀ bad₀ i₀ last bad i = i ≤ 16

@@ -2,9 +2,6 @@ use Prim.Native.Nat.{_≤_, _-_}
 use borrow.Author.Needs.{needs}
 use Rattle.story.proofs.is_prefix.Statement.{statement}
 use Rattle.story.proofs.is_prefix.Tie as tie
-use Rattle.story.proofs.is_prefix.Reads as reads
-use Rattle.story.proofs.is_prefix.Lts as lts
-use Rattle.story.proofs.is_pair.Reads as is-pair-reads
 
 abbrev Inv-loop : tie.InvT-loop
 Inv-loop held slots l good₀ i₀ good i = i ≤ 64

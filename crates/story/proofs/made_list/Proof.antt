@@ -2,9 +2,6 @@ use Prim.Native.Nat.{_≤_, _-_}
 use borrow.Author.Needs.{needs}
 use Rattle.story.proofs.made_list.Statement.{statement}
 use Rattle.story.proofs.made_list.Tie as tie
-use Rattle.story.proofs.made_list.Reads as reads
-use Rattle.story.proofs.made_list.Lts as lts
-use Rattle.story.proofs.pair_after.Reads as pair-after-reads
 
 abbrev Inv-loop : tie.InvT-loop
 Inv-loop n step l₀ v₀ i₀ l v i = i ≤ 64

@@ -2,11 +2,6 @@ use Prim.Native.Nat.{_≤_, _-_}
 use borrow.Author.Needs.{needs}
 use Rattle.story.proofs.main.Statement.{statement}
 use Rattle.story.proofs.main.Tie as tie
-use Rattle.story.proofs.main.Reads as reads
-use Rattle.story.proofs.main.Lts as lts
-use Rattle.story.proofs.line.Reads as line-reads
-use Rattle.story.proofs.mixed.Reads as mixed-reads
-use Rattle.story.proofs.played.Reads as played-reads
 
 abbrev Inv-loop : tie.InvT-loop
 Inv-loop t₀ seed₀ i₀ t5 t6 t7 t8 t9 t10 t11 t12 t13 t14 t15 t seed i = i ≤ 600

@@ -2,10 +2,6 @@ use Prim.Native.Nat.{_≤_, _-_}
 use borrow.Author.Needs.{needs}
 use Rattle.story.proofs.page_after.Statement.{statement}
 use Rattle.story.proofs.page_after.Tie as tie
-use Rattle.story.proofs.page_after.Reads as reads
-use Rattle.story.proofs.page_after.Lts as lts
-use Rattle.story.proofs.empty_page.Reads as empty-page-reads
-use Rattle.story.proofs.with_pair.Reads as with-pair-reads
 
 abbrev Inv-loop : tie.InvT-loop
 Inv-loop n size l g₀ i₀ g i = i ≤ 64

@@ -2,10 +2,6 @@ use Prim.Native.Nat.{_≤_, _-_}
 use borrow.Author.Needs.{needs}
 use Rattle.story.proofs.played.Statement.{statement}
 use Rattle.story.proofs.played.Tie as tie
-use Rattle.story.proofs.played.Reads as reads
-use Rattle.story.proofs.played.Lts as lts
-use Rattle.story.proofs.opened.Reads as opened-reads
-use Rattle.story.proofs.stepped.Reads as stepped-reads
 
 abbrev Inv-loop : tie.InvT-loop
 Inv-loop seed g₀ i₀ g i = i ≤ 40

@@ -1,13 +1,10 @@
-use mathlib.Core.Path.{_≡_, refl, sym, ap₂, _∙_}
+use mathlib.Core.Path.{_≡_, sym, ap₂, _∙_}
 use mathlib.Core.Bool.{Bool, _&&_}
 use Rattle.words.specs.Range.{editionOk}
 use Rattle.book.specs.Rules.{beginNo, begunBy, begunBook, begunFor}
 use borrow.Author.Needs.{needs}
 use Rattle.book.proofs.Book.begin.Statement.{statement}
 use Rattle.book.proofs.Book.begin.Tie as tie
-use Rattle.book.proofs.Book.begin.Reads as reads
-use Rattle.book.proofs.Book.begin.Lts as lts
-use Rattle.words.proofs.is_edition.Reads as is-edition-reads
 
 is-edition-requires : tie.Need-is-edition-requires
 is-edition-requires c κs = search needs
