@@ -20,6 +20,15 @@ LARGEST = 2 ** 64 - 1
 PAST = reading.ID + 1
 
 
+def page_line(rules, p, q, key, size, listed):
+    number, page, opened = rules.page_call(p, q, key, size, listed)
+    if number:
+        page = rules.Page((0, 0), (0, 0), [], False)
+    shown = page.pairs + [(0, 0)] * (16 - len(page.pairs))
+    fields = [number, opened, *page.editions, *page.key, len(page.pairs), int(page.end)] + [word for pair in shown for word in pair]
+    return "page %d %d %d: %s" % (key + (size, " ".join(map(str, fields))))
+
+
 class Pages:
     def __init__(self):
         self.cases = Cases("try_pages")
@@ -27,24 +36,19 @@ class Pages:
         self.seen = collections.Counter()
 
     def add(self, label, p, q, requests, listed=None):
-        lines = []
+        words = [1, len(p), len(q), len(requests)] + p + q + [word for request in requests for word in request]
+        asked = []
         for key_q, key_p, size in requests:
             key = tuple(LARGEST_ID if word < 0 else word for word in (key_q, key_p))
-            asked = LARGEST if size < 0 else size
-            number, page, opened = reading.page_call(p, q, key, asked, listed)
-            if number:
-                page = reading.Page((0, 0), (0, 0), [], False)
-            shown = page.pairs + [(0, 0)] * (16 - len(page.pairs))
-            fields = [number, opened, *page.editions, *page.key, len(page.pairs), int(page.end)] + [word for pair in shown for word in pair]
-            lines.append("page %d %d %d: %s" % (key + (asked, " ".join(map(str, fields)))))
+            asked.append((page_line, p, q, key, LARGEST if size < 0 else size, listed))
+        for line in self.cases.add(label, words, asked):
+            size = int(line.split(":")[0].split()[3])
+            number, _, _, _, _, _, count, end = map(int, line.split(": ")[1].split()[:8])
             self.seen[number] += 1
             if not number:
-                self.seen["end mark" if page.end else "no end mark"] += 1
-                if page.end and len(page.pairs) == asked:
-                    self.seen["full last page"] += 1
-                if page.end and not page.pairs:
-                    self.seen["empty page"] += 1
-        self.cases.add(label, [1, len(p), len(q), len(requests)] + p + q + [word for request in requests for word in request], lines)
+                self.seen["end mark" if end else "no end mark"] += 1
+                self.seen["full last page"] += end and count == size
+                self.seen["empty page"] += end and count == 0
         self.pairs += 1
 
 

@@ -42,6 +42,23 @@ def shaped(rng, counts, reach=20):
     return trees.sheet(made, trees.shuffled(rng, n), trees.runs(counts), 5)
 
 
+def open_line(rules, words):
+    return "open %d" % rules.open_number(words)
+
+
+def point_line(rules, words, position):
+    number, point = rules.point_call(words, position)
+    return "point %d: %s" % (position, "refused %d" % number if number else "%d %d %d" % point)
+
+
+def pack_line(rules, n, point_words, order, edition, lent):
+    number = rules.pack_number(n, point_words, order, edition, lent)
+    if number:
+        return "pack %d as it was" % number
+    words = rules.pack([tuple(point_words[3 * i:3 * i + 3]) for i in range(n)], order, edition)
+    return "pack 0 open %d:%s" % (rules.open_number(words), "".join(" %d" % word for word in words))
+
+
 class Sheets:
     def __init__(self):
         self.cases = Cases("try_sheets")
@@ -52,31 +69,37 @@ class Sheets:
     def open(self, label, words, expect=None):
         number = reading.open_number(words)
         assert expect is None or number == expect, (label, number, expect)
-        self.cases.add("open: " + label, [1, len(words)] + list(words), ["open %d" % number])
+        self.cases.add("open: " + label, [1, len(words)] + list(words), [(open_line, words)])
         self.seen[number] += 1
         self.opened += 1
 
     def point(self, label, words, at, expect=None):
         position = 2 ** 64 - 1 if at < 0 else at
-        number, point = reading.point_call(words, position)
+        number, _ = reading.point_call(words, position)
         assert expect is None or number == expect, (label, number, expect)
-        said = "refused %d" % number if number else "%d %d %d" % point
-        self.cases.add("point: " + label, [3, len(words)] + list(words) + [at], ["point %d: %s" % (position, said)])
+        self.cases.add("point: " + label, [3, len(words)] + list(words) + [at], [(point_line, words, position)])
 
     def pack(self, label, given, expect=None):
         n, point_words, order, edition, lent = given
-        number = reading.pack_number(n, point_words, order, edition, lent)
+        number = reading.pack_number(*given)
         assert expect is None or number == expect, (label, number, expect)
-        if number == 0:
-            words = reading.pack([tuple(point_words[3 * i:3 * i + 3]) for i in range(n)], order, edition)
-            assert len(words) == lent and reading.open_number(words) == 0
-            line = "pack 0 open 0:" + "".join(" %d" % word for word in words)
-        else:
-            line = "pack %d as it was" % number
         head = [2, n % 2 ** 24, n // 2 ** 24 % 2 ** 24, n // 2 ** 48, len(point_words), len(order), edition, lent]
-        self.cases.add("pack: " + label, head + list(point_words) + list(order), [line])
+        self.cases.add("pack: " + label, head + list(point_words) + list(order), [(pack_line, *given)])
         self.pack_seen[number] += 1
         self.packs += 1
+
+
+def covering_nothing(rng, counts):
+    """A sheet whose runs join, and whose tree is right but for nodes that cover nothing; those have the root's box."""
+    made = points(rng, sum(counts[0]))
+    order = trees.shuffled(rng, len(made))
+    whole = (min(p[1] for p in made), min(p[2] for p in made), max(p[1] for p in made), max(p[2] for p in made))
+    nodes = []
+    for run in trees.runs(counts):
+        nodes.append(run + whole)
+        if run[2] > 0 and all(nodes[k][2] > 0 for k in range(run[1], run[1] + run[2]) if run[0] > 0):
+            nodes[-1] = run + reading.tightest(made, order, nodes, len(nodes) - 1)
+    return reading.sheet_words(made, order, nodes, 5)
 
 
 def right_sheets(out, rng):
@@ -139,6 +162,9 @@ def wrong_sheets(out, rng):
         out.open("a word more at the end", words + [1], None)
     for n in (2, 3, 5):
         out.open("%d singles to level 8" % n, shaped(rng, [[1] * n] * 8 + [[n]]), 7)
+    for counts in ([[2, 0, 3], [3]], [[2, 3, 0], [3]], [[0, 2, 3], [3]]):
+        out.open("a leaf that covers nothing", covering_nothing(rng, counts), 7)
+    out.open("a higher node that covers nothing", covering_nothing(rng, [[2, 3], [2, 0], [2]]), 7)
     out.open("a leaf of 17", shaped(rng, [[17]]), 7)
     out.open("a node over 17", shaped(rng, [[1] * 17, [17]]), 7)
     out.open("two nodes at the top", shaped(rng, [[2, 3]]), 7)
@@ -288,6 +314,9 @@ def wrong_packs(out, rng):
     for n in (1001, 1100):
         flat = [word for k in range(n) for word in (k + 1, 0, 0)]
         out.pack("n %d" % n, (n, flat, list(range(n)), 1, 6), 3)
+    for n, words in ((12297829382473034411, 1), (6148914691236517206, 2)):
+        assert 3 * n % 2 ** 64 == words
+        out.pack("n %d, whose 3n is %d in 64 bits" % (n, words), (n, [1] * words, [], 1, 6), 18)
     third = 2 ** 64 // 3
     for n in (2 ** 63, 2 ** 64 - 1, third, third + 1, 2 ** 32, 2 ** 32 + 1, 6148914691236517206):
         out.pack("n %d, nothing handed in" % n, (n, [], [], 1, 6), 18)

@@ -22,6 +22,18 @@ def position(word):
     return LARGEST if word < 0 else word
 
 
+def filter_line(rules, p, q, j):
+    number, kept, opened = rules.filter_call(p, q, j)
+    words = " ".join("%x" % word for word in rules.kept_words(kept))
+    return "filter %d: %d %d %d %s" % (j, number, len(kept), opened, words)
+
+
+def ring_line(rules, p, q, j, i):
+    number, answer, opened = rules.ring_call(p, q, j, i)
+    said = "refused %d" % number if number else "%s %d" % (" ".join(map(str, answer)), opened)
+    return "ring %d %d: %s" % (j, i, said)
+
+
 class Walks:
     def __init__(self):
         self.cases = Cases("try_walks")
@@ -29,24 +41,12 @@ class Walks:
         self.seen = collections.Counter()
 
     def add(self, label, p, q, filters, rings):
-        lines = []
-        for j in filters:
-            number, kept, opened = reading.filter_call(p, q, position(j))
-            words = reading.kept_words(kept)
-            lines.append("filter %d: %d %d %d %s" % (position(j), number, len(kept), opened, " ".join("%x" % word for word in words)))
-            self.seen["filter %d" % number] += 1
-        for j, i in rings:
-            number, answer, opened = reading.ring_call(p, q, position(j), position(i))
-            if number:
-                said = "refused %d" % number
-            else:
-                said = "%s %d" % (" ".join(map(str, answer)), opened)
-            lines.append("ring %d %d: %s" % (position(j), position(i), said))
-            self.seen["ring refused %d" % number if number else "ring %s %s" % (answer[0], "QP"[answer[1] == 0] if len(answer) > 1 else "")] += 1
-        asked = list(filters) + [word for pair in rings for word in pair]
-        self.cases.add(label, [1, len(p), len(q), len(filters), len(rings)] + p + q + asked, lines)
+        words = [1, len(p), len(q), len(filters), len(rings)] + p + q + list(filters) + [word for pair in rings for word in pair]
+        asked = [(filter_line, p, q, position(j)) for j in filters] + [(ring_line, p, q, position(j), position(i)) for j, i in rings]
+        for line in self.cases.add(label, words, asked):
+            kind, said = line.split()[0], line.split(": ")[1].split()
+            self.seen[" ".join([kind] + said[:1 if said[0] in ("0", "9", "clear") else 2])] += 1
         self.pairs += 1
-        self.seen[label] += 1
 
 
 def small_pairs(out, rng):
@@ -139,7 +139,7 @@ def cases():
     large_pairs(out, rng)
     refused(out, rng)
     assert out.pairs >= 300
-    for answer in ("clear ", "point P", "point Q", "side P", "side Q"):
+    for answer in ("clear", "point 0", "point 1", "side 0", "side 1"):
         assert out.seen["ring " + answer] >= 50, (answer, out.seen)
     assert out.seen["ring refused 9"] >= 10 and out.seen["filter 9"] >= 10
     return out.cases

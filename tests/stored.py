@@ -2,22 +2,31 @@
 import os
 import struct
 
+import reading
+
 TOP = os.path.join(os.path.dirname(os.path.abspath(__file__)), "..")
 
 
 class Cases:
-    """What a generator makes: for each case the words that the program reads, the lines that it must print, and a label for people."""
+    """What a generator makes: for each case the words that the program reads, the lines that it must print, and a label for people.
+
+    A line is asked by a function of a reading of the rules and of what is handed to the call."""
 
     def __init__(self, program):
         self.program = program
         self.words = []
         self.lines = []
         self.labels = []
+        self.asked = []
 
-    def add(self, label, words, lines):
+    def add(self, label, words, asked):
+        """A case of `words`, which asks each (function, argument, ..) of `asked`. Answers the lines that must be printed."""
+        lines = [ask(reading, *given) for ask, *given in asked]
         self.words += words
         self.lines += lines
         self.labels += [label] * len(lines)
+        self.asked += asked
+        return lines
 
     def input(self):
         """The bytes that the program reads: the cases, and a 0 that ends them. A word of 32 bits is stored by its bits, whatever its sign."""

@@ -1,0 +1,153 @@
+"""Wrong readings of the rules. Each is an edit of reading.py, and the stored cases must tell it from the right one: that is what they are worth."""
+import os
+import types
+
+HERE = os.path.dirname(os.path.abspath(__file__))
+
+FIVE_THEN_SIX = '''    # 5: an id or coordinate breaks its rule
+    if not points_right(sheet.points):
+        return 5
+    # 6: order and rank not as stated
+    if not order_right(n, sheet.order, sheet.rank):
+        return 6
+'''
+SIX_THEN_FIVE = '''    if not order_right(n, sheet.order, sheet.rank):
+        return 6
+    if not points_right(sheet.points):
+        return 5
+'''
+SIX_THEN_SEVENTEEN = '''    if sorted(order) != list(range(n)):
+        return 6
+    # 17: lent output not exactly the sheet's length
+    if out_length != packed_length(n):
+        return 17
+'''
+SEVENTEEN_THEN_SIX = '''    if out_length != packed_length(n):
+        return 17
+    if sorted(order) != list(range(n)):
+        return 6
+'''
+FIRST_OF_TWO = "    answer, opened = ring_walk(q, 1, a, b, j)\n    if answer != CLEAR:\n        return answer, opened\n    answer, more = ring_walk(p, 0, a, b, i)\n"
+OTHER_FIRST = "    answer, opened = ring_walk(p, 0, a, b, i)\n    if answer != CLEAR:\n        return answer, opened\n    answer, more = ring_walk(q, 1, a, b, j)\n"
+SHEETS_OF_PAGE = '''handed in."""
+    number = open_number(p_words) or open_number(q_words)'''
+KEY_THEN_SIZE = '''        return 9, None, 0
+    if size < 1 or size > SIZE:
+        return 10, None, 0
+    p, q'''
+
+SHEETS = [
+    ("POINTS = 1_000", "POINTS = 999"),
+    ("POINTS = 1_000", "POINTS = 1_001"),
+    ("NODES = 400", "NODES = 399"),
+    ("NODES = 400", "NODES = 401"),
+    ("LEVEL = 7", "LEVEL = 6"),
+    ("LEVEL = 7", "LEVEL = 8"),
+    ("COVERED = 16", "COVERED = 15"),
+    ("COVERED = 16", "COVERED = 17"),
+    ("ID = 2_000_000_000", "ID = 1_999_999_999"),
+    ("ID = 2_000_000_000", "ID = 2_000_000_001"),
+    ("EDITION = 1_000_000_000", "EDITION = 999_999_999"),
+    ("EDITION = 1_000_000_000", "EDITION = 1_000_000_001"),
+    ("COORDINATE = 1_000_000", "COORDINATE = 999_999"),
+    ("COORDINATE = 1_000_000", "COORDINATE = 1_000_001"),
+    ("if number < 1 or number > ID:", "if number < 0 or number > ID:"),
+    ("points[k - 1][0] >= number", "points[k - 1][0] > number"),
+    ("if word < 0 or word > n - 1:", "if word < 0 or word > n:"),
+    ("if order[rank[i]] != i:", "if rank[order[i]] > n:"),
+    ("if (n == 0) != (len(nodes) == 0):", "if n == 0 and len(nodes) > 0:"),
+    ("if (len(here) == 1) != (level == highest):", "if len(here) != 1 and level == highest:"),
+    ("if node[2] < 1 or node[2] > COVERED:", "if node[2] < 0 or node[2] > COVERED:"),
+    ("node[3:] == tightest(points, order, nodes, j)", "all(a <= b for a, b in zip(node[3:5], tightest(points, order, nodes, j)))"),
+    ("all(node[3:] == tightest", "all(node[0] > 0 or node[3:] == tightest"),
+    (" or root != (0 if m == 0 else 7)", ""),
+    (" or len(words) != span + 6:", ":"),
+    ("if span != 5 * n + 7 * m or", "if"),
+    ("if form != 1:", "if form < 1:"),
+    ("m < 0 or m > NODES or edition < 1", "m < 0 or m > NODES or edition < 0"),
+    (FIVE_THEN_SIX, SIX_THEN_FIVE),
+    (SIX_THEN_SEVENTEEN, SEVENTEEN_THEN_SIX),
+    ("        if len(runs) - here == 1:\n            break\n", "        if len(runs) - here <= 2:\n            break\n"),
+    ("runs.append((level, first + k, min(COVERED, count - k)))", "runs.append((level, first + k, COVERED))"),
+    ("if len(point_words) != 3 * n or len(order) != n:", "if len(point_words) != 3 * n:"),
+    ("    if i >= sheet.n:", "    if i > sheet.n:"),
+]
+
+WALKS = [
+    # "Letting a side that touches the circle block"
+    ("any(all(product(a, b, corner) < 0 for corner", "any(all(product(a, b, corner) <= 0 for corner"),
+    # "Halving the centre in whole numbers"
+    ("    x, y = a[0] + b[0], a[1] + b[1]\n", "    x, y = (a[0] + b[0]) // 2 * 2, (a[1] + b[1]) // 2 * 2\n"),
+    # "Skipping a box when its centre, or three corners, lie behind the line"
+    ("if all(behind(q, sheet.place(i), corner) for corner in corners(box)):", "if behind(q, sheet.place(i), ((box[0] + box[2]) / 2, (box[1] + box[3]) / 2)):"),
+    ("if all(behind(q, sheet.place(i), corner) for corner in corners(box)):", "if sum(behind(q, sheet.place(i), corner) for corner in corners(box)) >= 3:"),
+    ("dx * dx + dy * dy > (a[0]", "dx * dx + dy * dy >= (a[0]"),
+    ("for side in (left, bottom, right, top))", "for side in (left, bottom, right))"),
+    ("    return product(a, b, x) <= 0", "    return product(a, b, x) < 0"),
+    ("(x[1] - p[1]) <= 0", "(x[1] - p[1]) < 0"),
+    ("if position != end and blocks", "if blocks"),
+    ("if position != end and blocks", "if sheet.place(position) not in (a, b) and blocks"),
+    ("        if side_inside(a, b, box):", "        if j < sheet.m - 1 and side_inside(a, b, box):"),
+    ("        if side_inside(a, b, box):", "        if level == 0 and side_inside(a, b, box):"),
+    ("        if far(a, b, box):\n            return CLEAR\n        if side_inside(a, b, box):\n            return (\"side\", which, j)\n        opened += 1\n",
+     "        opened += 1\n        if far(a, b, box):\n            return CLEAR\n        if side_inside(a, b, box):\n            return (\"side\", which, j)\n"),
+    (FIRST_OF_TWO, OTHER_FIRST),
+    ("    return answer, opened + more", "    return answer, more"),
+    ("words[i // 64] |= 1 << (i % 64)", "words[i // 64] |= 1 << (63 - i % 64)"),
+    ("    if j >= q.n or i >= p.n:", "    if j > q.n or i >= p.n:"),
+    ("    if j >= q.n or i >= p.n:", "    if j >= q.n:"),
+    ("over P.\"\"\"\n    number = open_number(p_words) or open_number(q_words)", "over P.\"\"\"\n    number = open_number(q_words) or open_number(p_words)"),
+    ("over P.\"\"\"\n    number = open_number(p_words) or open_number(q_words)", "over P.\"\"\"\n    number = open_number(p_words)"),
+]
+
+PAGES = [
+    # "Setting the end mark only when the page is not full"
+    ("following[:size], len(following) <= size)", "following[:size], len(following) < size)"),
+    # "a page maker honest on the first page and then closing with an empty one"
+    ("[pair for pair in pairs if pair > key]", "[pair for pair in pairs if pair > key and key == (0, 0)]"),
+    ("[pair for pair in pairs if pair > key]", "[pair for pair in pairs if pair >= key]"),
+    ("[pair for pair in pairs if pair > key]", "[pair for pair in pairs if pair[0] > key[0] or pair in pairs and pair[1] > key[1]]"),
+    ("        if q_id < key[0]:\n", "        if q_id <= key[0]:\n"),
+    ("            if pair <= key:\n                continue\n            answer, more = pair_walk(p, q, j, i)\n            opened += more\n",
+     "            answer, more = pair_walk(p, q, j, i)\n            opened += more\n            if pair <= key:\n                continue\n"),
+    ("            answer, more = pair_walk(p, q, j, i)\n", "            if len(found) == size:\n                return opened, found\n            answer, more = pair_walk(p, q, j, i)\n"),
+    ("                found.append(pair)\n", "                found.append(pair)\n        if len(found) == size:\n            return opened, found\n"),
+    ("SIZE = 16", "SIZE = 15"),
+    ("if size < 1 or size > SIZE:", "if size < 0 or size > SIZE:"),
+    (KEY_THEN_SIZE, KEY_THEN_SIZE.replace("return 9", "return 9 if 1 <= size <= SIZE else 10")),
+    (SHEETS_OF_PAGE, SHEETS_OF_PAGE.replace("(p_words)", "(words)").replace("(q_words)", "(p_words)").replace("(words)", "(q_words)")),
+    ("    if key[0] < 0 or key[0] > ID or key[1] < 0 or key[1] > ID:", "    if key[0] < 0 or key[0] > ID:"),
+    ("ID = 2_000_000_000", "ID = 2_000_000_001"),
+    ("page = page_of(pairs, (p.edition, q.edition), key, size)", "page = page_of(pairs, (q.edition, p.edition), key, size)"),
+]
+
+STEP = 100
+WRONG = {"try_sheets": SHEETS, "try_walks": WALKS, "try_pages": PAGES}
+
+
+def misread(old, new):
+    """The reading with one edit."""
+    with open(os.path.join(HERE, "reading.py"), encoding="utf-8") as file:
+        text = file.read()
+    assert text.count(old) == 1, "%r stands %d times in reading.py" % (old, text.count(old))
+    module = types.ModuleType("misread")
+    exec(compile(text.replace(old, new), "misread", "exec"), module.__dict__)
+    return module
+
+
+def told(cases, rules):
+    """Whether some stored case tells a reading from the right one: by another line, or by a rule of its own that it breaks. Every hundredth case is tried
+    first, from each start in turn, so that every kind of case is met soon."""
+    for start in range(STEP):
+        for (ask, *given), line in zip(cases.asked[start::STEP], cases.lines[start::STEP]):
+            try:
+                if ask(rules, *given) != line:
+                    return True
+            except Exception:
+                return True
+    return False
+
+
+def untold(cases):
+    """The wrong readings that no stored case of a program tells."""
+    return [new for old, new in WRONG[cases.program] if not told(cases, misread(old, new))]
