@@ -12,7 +12,7 @@ use lib.Seq.{paste, take-paste, take-add, take-length, length-paste}
 use lib.Dec.{eqb, ltb}
 use borrow.Author.Tests.{ltb-true, ltb-false, le-ltb, ne-eqb, not-true}
 use Rattle.integers.specs.Bools.{decide, and-left, and-right, and-both}
-use Rattle.plane.specs.Point.{idAt}
+use Rattle.plane.specs.Point.{Point, idAt}
 use Rattle.words.specs.Range.{idOk}
 use Rattle.words.proofs.RangeLaws.{id-make}
 use Rattle.list.specs.declared.Key.{Key}
@@ -22,6 +22,7 @@ use Rattle.list.specs.declared.Page.{Page}
 use Rattle.list.specs.Pairs.{start, keyOf, follows, ascends, after, lastOr}
 use Rattle.list.specs.Pages.{sourceNo, shown, pageOf, pagePairs}
 use Rattle.list.specs.Rows.{Rising}
+use Rattle.list.specs.RingList.{ringList}
 use Rattle.list.proofs.Order.{asc-left, after-asc, after-last}
 use Rattle.list.proofs.PageLaws.{page-shows, shown-count, length-padded, end-mark}
 use Rattle.list.proofs.RowLaws.{ring-ascends, ring-only}
@@ -243,6 +244,12 @@ module _ (w : World) where
       ids-of (listOf w s) (λ v m.
       let at = ring-only P Q rp rq v m in
       rw (at .is) (and-both (idOk (idAt Q (at .at-q))) (idOk (idAt P (at .at-p))) (id-ok (idAt Q) (length Q) (at .at-q) rq (at .q-in)) (id-ok (idAt P) (length P) (at .at-p) rp (at .p-in))))
+
+  -- what a page request answers on two sheets with these points is honest, where the points are those of their editions
+  pub honest-from : (s : Source) (k : Key) (size : ℕ) (P Q : List Point) (g : Page) → 0 < size → size ≤ 16 → w .pumps (s .«p_edition») ≡ P → w .chambers (s .«q_edition») ≡ Q
+      → g ≡ pageOf s (ringList P Q) k size → Honest w g
+  honest-from s k size P Q g some most p q e =
+      record { of = s; after = k; size = size; some = some; most = most; is = e ∙ sym (ap₂ (λ (x y : List Point). pageOf s (ringList x y) k size) p q) }
 
   -- the list of a book
   abbrev pub bookList : Book → List Pair

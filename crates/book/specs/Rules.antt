@@ -32,7 +32,7 @@ beginNo s = cond (editionOk (s .«p_edition») && editionOk (s .«q_edition»)) 
 unfoldable pub begunBook : Source → Book
 begunBook s = record { held = 0; closed = false; source = s }
 
--- the document's number for each case of the answer, and the book: "a number in a refused answer is all zero"
+-- the document's number for each case of the answer, and the book: "An array or number in a refused answer is all zero"
 unfoldable pub begunNo : Begun → ℕ
 begunNo (begun.Open b) = 0
 begunNo (begun.Refused n) = n
