@@ -7,7 +7,12 @@ use native.Mathlib.Omega.{arith}
 use lib.IntN.{ℤ}
 use borrow.Author.Tests.{eq-eqb, ne-eqb}
 use Rattle.words.specs.Word.{num}
+use Rattle.plane.specs.Point.{pointAt}
+use Rattle.plane.specs.Rule.{spot}
+use Rattle.sheet.specs.Layout.{points}
 use Rattle.sheet.specs.Points.{idAt, xAt, yAt}
+use Rattle.sheet.specs.Places.{spotOf, pointsOf}
+use Rattle.sheet.proofs.PointsLaws.{point-at}
 use Rattle.ring.specs.Numbers.{sheetNo, positionNo, pointNo}
 use Rattle.ring.specs.Answers.{headOf, assetOf, pointedBy, pointed}
 use Rattle.ring.specs.declared.Head.{Head}
@@ -49,3 +54,8 @@ module _ (w : List ℤ) (i : ℕ) (h : Head) (e : h ≡ headOf w) where
 pub asset-read : (w : List ℤ) (i k : ℕ) (x y : ℤ) → k ≡ num (idAt w i) → x ≡ xAt w i → y ≡ yAt w i → record { id = k; x = x; y = y } ≡ assetOf w i
 unfolding assetOf
 asset-read w i k x y d e f = λ t. record { id = d t; x = e t; y = f t }
+
+-- it is the record of the list of points
+pub asset-listed : (w : List ℤ) (i : ℕ) → i < points w → pointAt (pointsOf w) i ≡ record { id = assetOf w i .id; spot = spot (assetOf w i .x) (assetOf w i .y) }
+unfolding assetOf spotOf
+asset-listed w i h = point-at w i h

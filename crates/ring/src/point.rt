@@ -2,12 +2,12 @@
 use crate::Asset;
 use crate::Pointed;
 ghost use mathlib.Core.Path.{_≡_};
-ghost use Prim.Native.Nat.{_<_};
+ghost use Prim.Native.Nat.{_≤_};
 ghost use Rattle.ring.specs.Answers.{assetOf, pointed};
 
 // The record at a position, of any words.
 fn asset_at(words: &[i32], i: usize) -> Asset
-    requires { ⌜ i < 60000 ⌝ }
+    requires { ⌜ i ≤ 60000 ⌝ }
     ensures { λ r. ⌜ r ≡ assetOf (now (words .entry)) i ⌝ }
 {
     Asset {

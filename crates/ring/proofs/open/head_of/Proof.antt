@@ -1,14 +1,12 @@
+-- `ring::open::head_of` meets its contract. A sheet has its trailer, so the counts can be read.
+-- Assumes nothing.
 use mathlib.Core.Path.{sym, _∙_}
 use native.Mathlib.Omega.{arith}
 use lib.ListN.{length}
-use Rattle.ring.proofs.HeadLaws.{long, head-found, head-shut}
 use borrow.Author.Needs.{needs}
+use Rattle.ring.proofs.HeadLaws.{long, head-found, head-shut}
 use Rattle.ring.proofs.open.head_of.Statement.{statement}
 use Rattle.ring.proofs.open.head_of.Tie as tie
-use Rattle.ring.proofs.open.head_of.Reads as reads
-use Rattle.ring.proofs.open.head_of.Lts as lts
-use Rattle.sheet.proofs.open_no.Reads as open-no-reads
-use Rattle.words.proofs.num_at.Reads as num-at-reads
 
 open-no-requires : tie.Need-open-no-requires
 open-no-requires c κs = search needs

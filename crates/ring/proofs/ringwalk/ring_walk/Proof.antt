@@ -1,30 +1,23 @@
+-- `ring::ringwalk::ring_walk` meets its contract: refused by the sheets' number, by 9 past the points of Q or of P, and else the walk's answer.
+-- Assumes nothing.
+use borrow.Author.Needs.{needs}
 use Rattle.ring.proofs.HeadLaws.{headed-both}
 use Rattle.ring.proofs.RingLaws.{ring-sheets, ring-past-q, ring-past-p, ring-walks}
-use borrow.Author.Needs.{needs}
 use Rattle.ring.proofs.ringwalk.ring_walk.Statement.{statement}
 use Rattle.ring.proofs.ringwalk.ring_walk.Tie as tie
-use Rattle.ring.proofs.ringwalk.ring_walk.Reads as reads
-use Rattle.ring.proofs.ringwalk.ring_walk.Lts as lts
-use Rattle.ring.proofs.open.heads_of.Reads as heads-of-reads
-use Rattle.walk.proofs.ring.pair_walk.Reads as pair-walk-reads
 
--- src/ringwalk.rt:11:9
 heads-of-requires : tie.Need-heads-of-requires
 heads-of-requires c κs = search needs
 
--- src/ringwalk.rt:13:9
 returns : tie.Need-returns
 returns c = ring-sheets _ _ _ _ _ (c .before .before .heads-of .ensures) (c .if1 .taken)
 
--- src/ringwalk.rt:16:9
 returns-2 : tie.Need-returns-2
 returns-2 c = let e = c .before .before in ring-past-q _ _ _ _ _ (e .before .before .heads-of .ensures) (e .if1 .left) (c .if2 .taken)
 
--- src/ringwalk.rt:19:9
 returns-3 : tie.Need-returns-3
 returns-3 c = let d = c .before .before in let e = d .before .before in ring-past-p _ _ _ _ _ (e .before .before .heads-of .ensures) (e .if1 .left) (d .if2 .left) (c .if3 .taken)
 
--- src/ringwalk.rt:21:18
 pair-walk-requires : tie.Need-pair-walk-requires
 pair-walk-requires c κs =
     let d = c .before .before in
@@ -32,7 +25,6 @@ pair-walk-requires c κs =
     let o = headed-both _ _ _ (e .before .before .heads-of .ensures) (e .if1 .left) in
     (o .p-facts, o .q-facts, d .if2 .left, c .if3 .left)
 
--- src/ringwalk.rt:8:1
 returns-4 : tie.Need-returns-4
 returns-4 c =
     let f = c .before in
