@@ -1,3 +1,11 @@
 -- What the proofs of several functions use.
+--     SplitLaws     where the input is split
+--     LineLaws      a record found by its id, and lines one after the other
+--     ShowLaws      what a page of the list shows: its ends are there, and the next key is in range
+--     CountLaws     the pairs that are left after a key, and that the pages come to an end
+--     OutcomeLaws   which outcome an input has
 pub mod SplitLaws
 pub mod LineLaws
+pub mod ShowLaws
+pub mod CountLaws
+pub mod OutcomeLaws

@@ -1,2 +1,3 @@
 pub mod Split
 pub mod Listing
+pub mod Outcome

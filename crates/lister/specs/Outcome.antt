@@ -1,0 +1,66 @@
+-- What the program does with what it has read.
+use mathlib.Core.Path.{_≡_}
+use mathlib.Core.Bool.{Bool, cond}
+use mathlib.Core.List.{List, _++_}
+use Prim.Native.Nat.{ℕ, _/_, _≤_}
+use lib.Dec.{eqb}
+use lib.IntN.{ℤ}
+use lib.ListN.{length, take, drop}
+use Rattle.words.specs.Bytes.{wordsOf}
+use Rattle.words.specs.Range.{lastId}
+use Rattle.sheet.specs.Places.{pointsOf}
+use Rattle.sheet.specs.Open.{Opens}
+use Rattle.list.specs.declared.Key.{Key}
+use Rattle.list.specs.declared.Pair.{Pair}
+use Rattle.list.specs.Pairs.{lastOr, after, isNone}
+use Rattle.list.specs.Pages.{shown}
+use Rattle.list.specs.RingList.{ringList}
+use Rattle.ring.specs.declared.Head.{Head}
+use Rattle.ring.specs.Numbers.{sheetNo}
+use Rattle.text.specs.Text.{refusedText, inputText}
+use Rattle.lister.specs.Split.{splitAt, badInput}
+use Rattle.lister.specs.Listing.{listingOf}
+use Rattle.lister.specs.declared.Shown.{Shown}
+use Rattle.lister.specs.declared.Outcome.{Outcome}
+use Rattle.lister.specs.declared.Outcome.the-variants.{BadInput, BadQ, BadP, Listed}
+
+-- the ring pairs of two sheets
+abbrev pub pairsOf : List ℤ → List ℤ → List Pair
+pairsOf P Q = ringList (pointsOf P) (pointsOf Q)
+
+-- "It opens Q first. It prints `refused q N` or `refused p N` alone"
+unfoldable pub sheetsOutcome : List ℤ → List ℤ → Outcome
+sheetsOutcome P Q = cond (eqb (sheetNo Q) 0) (cond (eqb (sheetNo P) 0) (Listed (length (pairsOf P Q))) (BadP (sheetNo P))) (BadQ (sheetNo Q))
+
+-- P's words, then Q's
+unfoldable pub wordsOutcome : List ℤ → Outcome
+wordsOutcome w = sheetsOutcome (take (splitAt w) w) (drop (splitAt w) w)
+
+-- "or `refused input`"
+unfoldable pub outcome : List ℕ → Outcome
+outcome bytes = cond (badInput (length bytes)) BadInput (wordsOutcome (wordsOf bytes (length bytes / 4)))
+
+-- what stands on standard output, of two sheets and an outcome: 113 is the byte q, 112 is p
+unfoldable pub printed : List ℤ → List ℤ → Outcome → List ℕ
+printed P Q BadInput = inputText
+printed P Q (BadQ n) = refusedText 113 n
+printed P Q (BadP n) = refusedText 112 n
+printed P Q (Listed n) = listingOf (pointsOf P) (pointsOf Q)
+
+-- two sheets that open, as the functions inside ask it
+pub record Both (P : List ℤ) (hp : Head) (Q : List ℤ) (hq : Head) : Type 0 where
+  pub p-no : sheetNo P ≡ 0
+  pub q-no : sheetNo Q ≡ 0
+  pub p-opens : Opens P (hp .n) (hp .m)
+  pub q-opens : Opens Q (hq .n) (hq .m)
+
+-- a key that a page request takes
+abbrev pub InRange : Key → Type 0
+InRange k = (k .q ≤ lastId) × (k .p ≤ lastId)
+
+-- the page after a key was shown: how many pairs it has, the next key, which a request takes too, and the end mark
+pub record ShownBy (l : List Pair) (k : Key) (s : Shown) : Type 0 where
+  pub count : s .count ≡ length (shown l k 16)
+  pub key : s .key ≡ lastOr k (shown l k 16)
+  pub end : s .end ≡ isNone (after (lastOr k (shown l k 16)) l)
+  pub in-range : InRange (s .key)
