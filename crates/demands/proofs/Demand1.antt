@@ -1,0 +1,149 @@
+-- Demand 1: "Every call takes every input; what breaks the rules is refused by its number, and nothing that was lent has changed then."
+-- "The first that applies, in the order listed. Every refusal gives only its number, with no view, page, marker or count, and leaves lent memory and book
+-- state as they stood. An array or number in a refused answer is all zero, and a view there covers no words."
+--
+-- One theorem for each call: the number of its answer is the defined one, 0 where no rule is broken; and an answer with another number is that number and
+-- nothing else. None has a premise but that the call answered. The definitions of the numbers stand in the document's order: `openNo` of sheet/specs/Open,
+-- `packNo` of pack/specs/Pack, `pointNo`, `filterNo`, `ringNo` of ring/specs/Numbers, `pageNo` of ring/specs/Page, `beginNo`, `nextNo`, `takeNo` of
+-- book/specs/Rules, `markNo` of marker/specs/Mark. What is lent as `&` cannot be written; what is lent as `&mut` (pack, take) is spoken of here.
+-- Assumes nothing.
+use mathlib.Core.Path.{_≡_, refl, sym, ap, subst, _∙_}
+use mathlib.Core.List.{List, []}
+use Prim.Native.Nat.{ℕ, zero, suc}
+use lib.IntN.{ℤ}
+use lib.ListN.{length, take}
+use denote.Ref.{RefT, now}
+use Rattle.sheet.specs.Limits.{form1}
+use Rattle.sheet.specs.Open.{openNo}
+use Rattle.list.specs.declared.Key.{Key}
+use Rattle.list.specs.declared.Pair.{Pair}
+use Rattle.list.specs.declared.Source.{Source}
+use Rattle.list.specs.declared.Page.{Page}
+use Rattle.ring.specs.Numbers.{pointNo, filterNo, ringNo}
+use Rattle.ring.specs.Answers.{pointedNo, pointed, unfiltered, walkedNo, walked}
+use Rattle.ring.specs.Page.{pageNo, pageRefused}
+use Rattle.ring.specs.declared.Head.{Head}
+use Rattle.ring.specs.declared.Pointed.{Pointed}
+use Rattle.ring.specs.declared.Pointed.the-variants as pointing
+use Rattle.ring.specs.declared.Filtered.{Filtered}
+use Rattle.ring.specs.declared.Walked.{Walked}
+use Rattle.ring.specs.declared.Walked.the-variants as walking
+use Rattle.ring.specs.declared.Paged.{Paged}
+use Rattle.ring.proofs.HeadLaws.{head-number, head-shut}
+use Rattle.ring.proofs.PointLaws.{point-refused}
+use Rattle.ring.proofs.FilterLaws.{filter-refused}
+use Rattle.ring.proofs.RingLaws.{ring-refused}
+use Rattle.ring.proofs.PageLaws.{page-refused}
+use Rattle.ring.proofs.Once as of-ring
+use Rattle.ring.proofs.PageLaws as of-page
+use Rattle.view.specs.declared.Opened.{Opened}
+use Rattle.view.specs.Shown.{shown}
+use Rattle.view.proofs.Once as of-view
+use Rattle.pack.specs.Pack.{packNo}
+use Rattle.pack.proofs.ReturnTrip.{refused-same}
+use Rattle.book.specs.declared.Book.{Book}
+use Rattle.book.specs.declared.Begun.{Begun}
+use Rattle.book.specs.declared.Begun.the-variants as begun
+use Rattle.book.specs.declared.Next.{Next}
+use Rattle.book.specs.declared.Next.the-variants as next
+use Rattle.book.specs.declared.Asked.{Asked}
+use Rattle.book.specs.declared.Taken.{Taken}
+use Rattle.book.specs.Rules.{beginNo, begunNo, begunFor, nextNo, askedNo, asked, takeNo, taken, takenSlots}
+use Rattle.book.proofs.Once as of-book
+use Rattle.book.proofs.TakeLaws as of-take
+use Rattle.marker.specs.Mark.{markNo, numberOf}
+use Rattle.marker.specs.declared.Marked.{Marked}
+use Rattle.marker.specs.declared.Marked.the-variants as marking
+use Rattle.demands.specs.Promises.{OpenAnswers, HeadAnswers, PointAnswers, FilterAnswers, RingAnswers, PageAnswers, PackAnswers, MarkAnswers, BeginAnswers, NextAnswers, TakeAnswers, ViewOpens}
+
+-- the number k is one of refusal
+abbrev pub Refuses : ℕ → Type 0
+Refuses k = k ≡ 0 → ⊥
+
+-- ---- open, 1 to 8
+
+pub open-no : (w : List ℤ) (r : ℕ) → OpenAnswers w r → r ≡ openNo form1 w
+open-no w r a = a .promised
+
+pub head-no : (w : List ℤ) (h : Head) → HeadAnswers w h
+    → (h .number ≡ openNo form1 w) × (Refuses (openNo form1 w) → h ≡ record { number = openNo form1 w; len = 0; n = 0; m = 0 })
+head-no w h a = (head-number w h (a .promised), λ ne. a .promised ∙ sym (head-shut w (openNo form1 w) refl ne))
+
+-- "and a view there covers no words"
+pub view-no : (w : RefT (List ℤ)) (r : Opened) → ViewOpens w r
+    → Refuses (openNo form1 (now w)) → shown r ≡ record { number = openNo form1 (now w); start = w .ptr; covers = []; n = 0; m = 0 }
+view-no w r a ne = of-view.open-refused w r a ne
+
+-- ---- pack, "18, 3, 5, 6, 17": refused, the lent words are as they stood
+
+pub pack-no : (n : ℕ) (points order : List ℤ) (ed : ℕ) (out : List ℤ) (r : ℕ) (out′ : List ℤ) → PackAnswers n points order ed out r out′
+    → (r ≡ packNo form1 n points order ed (length out)) × (Refuses r → out′ ≡ out)
+pack-no n points order ed out r out′ a = (a .promised .0, λ ne. refused-same n points order ed out r out′ (a .promised .0) (a .promised .1) ne)
+
+-- ---- the point reader, 1 to 8, then 9
+
+pub point-no : (w : List ℤ) (i : ℕ) (r : Pointed) → PointAnswers w i r
+    → (pointedNo r ≡ pointNo w i) × (Refuses (pointNo w i) → r ≡ pointing.Refused (pointNo w i))
+point-no w i r a = (ap pointedNo (a .promised) ∙ of-ring.point-no w i, λ ne. a .promised ∙ sym (point-refused w i (pointNo w i) refl ne))
+
+-- ---- the filter walk, 1 to 8 for P, then for Q, then 9: refused, all bits and both counts are 0
+
+pub filter-no : (P Q : List ℤ) (j : ℕ) (r : Filtered) → FilterAnswers P Q j r
+    → (r .number ≡ filterNo P Q j) × (Refuses (filterNo P Q j) → r ≡ unfiltered (filterNo P Q j))
+filter-no P Q j r a =
+    (ap (λ (x : Filtered). x .number) (a .promised) ∙ of-ring.filter-no P Q j, λ ne. a .promised ∙ sym (filter-refused P Q j (filterNo P Q j) refl ne))
+
+-- ---- the ring walk, 1 to 8 for P, then for Q, then 9
+
+pub ring-no : (P Q : List ℤ) (j i : ℕ) (r : Walked) → RingAnswers P Q j i r
+    → (walkedNo r ≡ ringNo P Q j i) × (Refuses (ringNo P Q j i) → r ≡ walking.Refused (ringNo P Q j i))
+ring-no P Q j i r a = (ap walkedNo (a .promised) ∙ of-ring.ring-no P Q j i, λ ne. a .promised ∙ sym (ring-refused P Q j i (ringNo P Q j i) refl ne))
+
+-- ---- the page request, 1 to 8 for P, then for Q, then 9, then 10: refused, the page is all zero, and so is its count
+
+pub page-no : (P Q : List ℤ) (key : Key) (size : ℕ) (r : Paged) → PageAnswers P Q key size r
+    → (r .number ≡ pageNo P Q key size) × (Refuses (pageNo P Q key size) → r ≡ pageRefused (pageNo P Q key size))
+page-no P Q key size r a =
+    (ap (λ (x : Paged). x .number) (a .promised) ∙ of-page.page-no P Q key size, λ ne. a .promised ∙ page-refused P Q key size (pageNo P Q key size) refl ne)
+
+-- ---- begin, 3
+
+only-begun : (k : ℕ) (r : Begun) → begunNo r ≡ k → Refuses k → r ≡ begun.Refused k
+unfolding begunNo
+only-begun k (begun.Open b) e ne = absurd (ne (sym e))
+only-begun k (begun.Refused n) e ne = ap begun.Refused e
+
+pub begin-no : (s : Source) (r : Begun) → BeginAnswers s r → (begunNo r ≡ beginNo s) × (Refuses (beginNo s) → r ≡ begun.Refused (beginNo s))
+begin-no s r a =
+    let e : begunNo r ≡ beginNo s = ap begunNo (a .promised) ∙ of-book.begin-no s in
+    (e, λ ne. only-begun (beginNo s) r e ne)
+
+-- ---- the next key, 11: the book comes back as it went in
+
+only-next : (k : ℕ) (r : Next) → askedNo r ≡ k → Refuses k → r ≡ next.Refused k
+unfolding askedNo
+only-next k (next.After key) e ne = absurd (ne (sym e))
+only-next k (next.Refused n) e ne = ap next.Refused e
+
+pub next-no : (b : Book) (slots : List Pair) (r : Asked) → NextAnswers b slots r
+    → (askedNo (r .next) ≡ nextNo b (length slots)) × (r .book ≡ b) × (Refuses (nextNo b (length slots)) → r .next ≡ next.Refused (nextNo b (length slots)))
+next-no b slots r a =
+    let e : askedNo (r .next) ≡ nextNo b (length slots) = ap (λ (x : Asked). askedNo (x .next)) a ∙ of-book.next-no b slots in
+    (e, ap (λ (x : Asked). x .book) a ∙ of-book.asked-book b slots, λ ne. only-next (nextNo b (length slots)) (r .next) e ne)
+
+-- ---- take, 11 to 16: refused, the book comes back as it went in, and every slot is as it stood
+
+pub take-no : (b : Book) (slots : List Pair) (g : Page) (r : Taken) (slots′ : List Pair) → TakeAnswers b slots g r slots′
+    → (r .number ≡ takeNo b slots g) × (Refuses (takeNo b slots g) → (r .book ≡ b) × (slots′ ≡ slots))
+take-no b slots g r slots′ a =
+    (ap (λ (x : Taken). x .number) (a .0) ∙ of-take.take-no b slots g, λ ne. (ap (λ (x : Taken). x .book) (a .0) ∙ of-take.refused-book b slots g ne, a .1 ∙ of-take.refused-slots b slots g ne))
+
+-- ---- the marker, 5
+
+only-marked : (k : ℕ) (r : Marked) → numberOf r ≡ k → Refuses k → r ≡ marking.Refused k
+only-marked k (marking.Refused n) e ne = ap marking.Refused e
+only-marked k (marking.At m) e ne = absurd (ne (sym e))
+
+pub mark-no : (ax ay bx by : ℤ) (r : Marked) → MarkAnswers ax ay bx by r
+    → (numberOf r ≡ markNo ax ay bx by) × (Refuses (markNo ax ay bx by) → r ≡ marking.Refused (markNo ax ay bx by))
+mark-no ax ay bx by r a = (a .promised .number, λ ne. only-marked (markNo ax ay bx by) r (a .promised .number) ne)

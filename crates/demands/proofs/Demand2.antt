@@ -1,0 +1,229 @@
+-- Demand 2: "The list holds a pump house and a chamber exactly if the ring rule makes them a pair, each once, by ids. It depends on the points alone."
+-- For every two sheets that open, and in terms of what the shipped calls answer for them. P are the words of the pump houses' sheet, Q those of the chambers';
+-- q is position j of Q, p is position i of P. The ring rule and the list stand in list/specs/RingList, on lists of points, with no tree in them.
+--
+--     kept-partner       the filter walk keeps every ring partner
+--     clear-iff          the ring walk is clear exactly for a ring pair; point-blocks, side-blocks: what it names does block
+--     pair-exact         a ring pair is a kept position whose ring walk is clear, and no other
+--     page-pairs         a page is that of the list: pairs, number, end mark.  page-opened: the count beside it is that of the defined walks
+--     pages-list         following the pages from (0, 0) gives the list
+--     list-exact         two records are listed exactly if they are a ring pair.  list-only, list-once: nothing else is, and nothing twice
+--     list-by-points     sheets with the same points give the same list, and the same pairs, number and end mark of every page
+--     opened-at-most-m   one walk of one sheet opens at most its nodes
+--     return-trip        pack, then open, gives the same points back
+-- Assumes nothing.
+use mathlib.Core.Path.{_≡_, refl, sym, ap, ap₂, subst, _∙_}
+use mathlib.Core.Bool.{Bool, true, false, _&&_}
+use mathlib.Core.Logic.{_↔_}
+use mathlib.Core.List.{List, List·Memᴰ}
+use Prim.Native.Nat.{ℕ, _+_, _*_, _≤_, _<_}
+use native.Mathlib.Omega.{arith}
+use lib.IntN.{ℤ, pos}
+use lib.ListN.{length, getD}
+use Rattle.words.specs.Range.{lastId}
+use Rattle.words.proofs.TabLaws.{at-tab}
+use Rattle.plane.specs.Point.{Point, pointAt}
+use Rattle.sheet.specs.Limits.{form1}
+use Rattle.sheet.specs.Layout.{points, nodes, edition}
+use Rattle.sheet.specs.Places.{spotOf, pointOf, pointsOf}
+use Rattle.sheet.specs.Open.{openNo, Opens}
+use Rattle.sheet.proofs.SheetLaws.{open-facts, open-trailer, form1-fair}
+use Rattle.sheet.proofs.PointsLaws.{length-points, point-at}
+use Rattle.bits.specs.Set.{kept}
+use Rattle.list.specs.declared.Key.{Key}
+use Rattle.list.specs.declared.Pair.{Pair}
+use Rattle.list.specs.declared.Page.{Page}
+use Rattle.list.specs.Pairs.{start, none}
+use Rattle.list.specs.Pages.{pageOf, followed}
+use Rattle.list.specs.RingList.{ringPair, pairAt, ringList}
+use Rattle.list.proofs.RowLaws.{Placed, ring-iff, ring-only, ring-once}
+use Rattle.walk.specs.declared.Blocker.{Blocker}
+use Rattle.walk.specs.declared.Hit.the-variants.{Point as PointHit, Side}
+use Rattle.walk.specs.declared.Answer.{Answer}
+use Rattle.walk.specs.FilterWalk.{filterKept}
+use Rattle.walk.specs.RingWalk.{clear, ringWalk, pairWalk}
+use Rattle.walk.specs.Claims.{BlocksPair, BlocksPairBelow, overP, overQ}
+use Rattle.walk.proofs.Meaning as of-walk
+use Rattle.join.specs.Work.{pageOpened}
+use Rattle.join.specs.Sheets.{walksOf}
+use Rattle.join.proofs.Meaning as of-join
+use Rattle.ring.specs.Numbers.{first, sheetsNo, positionNo, pointNo, filterNo, ringNo}
+use Rattle.ring.specs.Answers.{assetOf, pointed, filteredTo, walkedClear}
+use Rattle.ring.specs.Page.{sizeNo, sourceOf, pageGiven, pageAnswer}
+use Rattle.ring.specs.declared.Asset.{Asset}
+use Rattle.ring.specs.declared.Pointed.{Pointed}
+use Rattle.ring.specs.declared.Pointed.the-variants.{At}
+use Rattle.ring.specs.declared.Filtered.{Filtered}
+use Rattle.ring.specs.declared.Walked.{Walked}
+use Rattle.ring.specs.declared.Walked.the-variants.{Done}
+use Rattle.ring.specs.declared.Paged.{Paged}
+use Rattle.ring.proofs.NumberLaws.{first-passes, position-in}
+use Rattle.ring.proofs.FilterLaws.{filter-given}
+use Rattle.ring.proofs.RingLaws.{ring-given}
+use Rattle.ring.proofs.PointLaws.{point-given}
+use Rattle.ring.proofs.PageLaws as of-page
+use Rattle.pack.specs.Pack.{pointsIn}
+use Rattle.pack.specs.Claims.{Returned}
+use Rattle.pack.proofs.ReturnTrip as of-pack
+use Rattle.demands.specs.Promises.{OpenAnswers, PointAnswers, FilterAnswers, RingAnswers, PageAnswers, PackAnswers}
+
+-- the words are a sheet: "every well-formed sheet"
+abbrev pub WellFormed : List ℤ → Type 0
+WellFormed w = openNo form1 w ≡ 0
+
+-- a key with ids 0 to 2,000,000,000, and a size 1 to 16
+pub record InRange (key : Key) (size : ℕ) : Type 0 where
+  pub q-in : key .q ≤ lastId
+  pub p-in : key .p ≤ lastId
+  pub some : 1 ≤ size
+  pub most : size ≤ 16
+
+facts : (w : List ℤ) → WellFormed w → Opens w (points w) (nodes w)
+facts w e = open-facts form1 form1-fair w e
+
+-- the sixteen words of the filter walk have a position for each point
+fits : (w : List ℤ) → WellFormed w → points w ≤ 64 * 16
+unfolding form1
+fits w e = omega (arith, open-trailer form1 w e .n-le)
+
+module _ (P Q : List ℤ) (p-opens : WellFormed P) (q-opens : WellFormed Q) where
+  sheets : sheetsNo P Q ≡ 0
+  unfolding sheetsNo
+  sheets = first-passes (openNo form1 P) (openNo form1 Q) p-opens ∙ q-opens
+
+  -- ---- the walks
+
+  module _ (j i : ℕ) (j-in : j < points Q) (i-in : i < points P) where
+    filter-is : (r : Filtered) → FilterAnswers P Q j r → r ≡ filteredTo (filterKept 16 P (spotOf Q j))
+    unfolding filterNo
+    filter-is r a = a .promised ∙ sym (filter-given P Q j (first-passes (sheetsNo P Q) (positionNo Q j) sheets ∙ position-in Q j j-in))
+
+    ring-is : (r : Walked) → RingAnswers P Q j i r → r ≡ Done (pairWalk P Q j i)
+    unfolding ringNo
+    ring-is r a =
+        a .promised
+        ∙ sym (ring-given P Q j i (pairWalk P Q j i) (first-passes (sheetsNo P Q) (first (positionNo Q j) (positionNo P i)) sheets ∙ first-passes (positionNo Q j) (positionNo P i) (position-in Q j j-in) ∙ position-in P i i-in) refl)
+
+    bits-are : (r : Filtered) → FilterAnswers P Q j r → kept (r .bits) i ≡ kept (filterKept 16 P (spotOf Q j) .bits) i
+    unfolding filteredTo
+    bits-are r a = ap (λ (x : Filtered). kept (x .bits) i) (filter-is r a)
+
+    -- "For every position, a ring partner of q is kept."
+    pub kept-partner : (r : Filtered) → FilterAnswers P Q j r → ringPair (pointsOf P) (pointsOf Q) j i ≡ true → kept (r .bits) i ≡ true
+    kept-partner r a e = bits-are r a ∙ of-walk.kept-partner 16 P Q (facts P p-opens) (fits P p-opens) j i j-in i-in e
+
+    -- "(q, p) is a ring pair when no other record of P or Q blocks it": the ring walk is clear exactly then.
+    pub clear-iff : (r : Walked) → RingAnswers P Q j i r → walkedClear r ≡ ringPair (pointsOf P) (pointsOf Q) j i
+    clear-iff r a = ap walkedClear (ring-is r a) ∙ of-walk.pair-clear P Q (facts P p-opens) (facts Q q-opens) j i j-in i-in
+
+    -- "blocked by a point (its set and position)": the record that it names is another than q and p, and blocks.
+    pub point-blocks : (s : Answer) (x : Blocker) → RingAnswers P Q j i (Done s) → s .hit ≡ PointHit x → BlocksPair P Q j i (x .set) (x .position)
+    point-blocks s x a e = of-walk.pair-point P Q (facts P p-opens) (facts Q q-opens) j i x (ap (λ (z : Answer). z .hit) (sym (answer s a)) ∙ e)
+      where
+        answer : (s : Answer) → RingAnswers P Q j i (Done s) → s ≡ pairWalk P Q j i
+        answer s a = let z = ring-is (Done s) a in cc
+
+    -- "or by a box side (its set and node number)": below the node that it names stands such a record.
+    pub side-blocks : (s : Answer) (set v : ℕ) → RingAnswers P Q j i (Done s) → s .hit ≡ Side set v → BlocksPairBelow P Q j i set v
+    side-blocks s set v a e = of-walk.pair-side P Q (facts P p-opens) (facts Q q-opens) j i set v (ap (λ (z : Answer). z .hit) (sym (answer s a)) ∙ e)
+      where
+        answer : (s : Answer) → RingAnswers P Q j i (Done s) → s ≡ pairWalk P Q j i
+        answer s a = let z = ring-is (Done s) a in cc
+
+    -- A ring pair is a kept position whose ring walk is clear, and no other is.
+    pub pair-exact : (f : Filtered) (r : Walked) → FilterAnswers P Q j f → RingAnswers P Q j i r → ringPair (pointsOf P) (pointsOf Q) j i ≡ (kept (f .bits) i && walkedClear r)
+    pair-exact f r a b =
+        of-walk.pair-exact P Q (facts P p-opens) (facts Q q-opens) j i j-in i-in 16 (fits P p-opens) ∙ ap₂ _&&_ (sym (bits-are f a)) (sym (ap walkedClear (ring-is r b)))
+
+    -- "nodes opened never exceed m in one walk of one sheet": the filter walk's,
+    pub opened-at-most-m : (r : Filtered) → FilterAnswers P Q j r → r .opened ≤ nodes P
+    unfolding filteredTo
+    opened-at-most-m r a = subst (λ (x : Filtered). x .opened ≤ nodes P) (sym (filter-is r a)) (of-walk.filter-opened-at-most-m 16 P (spotOf Q j) (facts P p-opens))
+
+    -- and those of the ring walk over Q and over P, the counts of which add up to at most the nodes of both.
+    pub ring-opened-at-most-m : (overQ P Q j i .opened ≤ nodes Q) × (overP P Q j i .opened ≤ nodes P)
+    ring-opened-at-most-m = (of-walk.ring-opened-at-most-m 1 Q (facts Q q-opens) (spotOf Q j) (spotOf P i) j, of-walk.ring-opened-at-most-m 0 P (facts P p-opens) (spotOf Q j) (spotOf P i) i)
+
+    pub ring-opened : (s : Answer) → RingAnswers P Q j i (Done s) → s .opened ≤ nodes P + nodes Q
+    ring-opened s a = subst (λ (x : Answer). x .opened ≤ nodes P + nodes Q) (sym (answer s a)) (of-walk.pair-opened P Q (facts P p-opens) (facts Q q-opens) j i)
+      where
+        answer : (s : Answer) → RingAnswers P Q j i (Done s) → s ≡ pairWalk P Q j i
+        answer s a = let z = ring-is (Done s) a in cc
+
+  -- ---- pages
+
+  page-is : (key : Key) (size : ℕ) (r : Paged) → InRange key size → PageAnswers P Q key size r → r ≡ pageGiven P Q key size
+  page-is key size r h a = a .promised ∙ of-page.page-served P Q key size sheets (h .q-in) (h .p-in) (h .some) (h .most)
+
+  -- "The page holds both editions, the key, the first `size` ring pairs strictly after the key (fewer if fewer follow), their number and an end mark, set exactly
+  -- when no ring pair follows the last one shown, or follows the key if none is shown. Unused pairs are (0, 0)."
+  pub page-pairs : (key : Key) (size : ℕ) (r : Paged) → InRange key size → PageAnswers P Q key size r
+      → (r .number ≡ 0) × (r .page ≡ pageOf (sourceOf P Q) (ringList (pointsOf P) (pointsOf Q)) key size)
+  unfolding pageGiven
+  page-pairs key size r h a = let e = page-is key size r h a in (ap (λ (x : Paged). x .number) e, ap (λ (x : Paged). x .page) e)
+
+  -- "Beside the page stands its count of nodes opened": that of the walks as they are defined, the filter walks' kept sets on sixteen words.
+  pub page-opened : (key : Key) (size : ℕ) (r : Paged) → InRange key size → PageAnswers P Q key size r
+      → r .opened ≡ pageOpened (walksOf 16 P Q) key size (points P) (points Q)
+  unfolding pageGiven
+  page-opened key size r h a = ap (λ (x : Paged). x .opened) (page-is key size r h a)
+
+  -- Following the pages from (0, 0), each next key the last pair shown, whatever the sizes from 1 to 16, gives the whole list, each pair once. `ask` is the page
+  -- request: for every key and size it gives an answer that the promise admits.
+  pub pages-list : (ask : Key → ℕ → Paged) → ((key : Key) (size : ℕ) → PageAnswers P Q key size (ask key size))
+      → (sizes : ℕ → ℕ) → ((k : ℕ) → sizeNo (sizes k) ≡ 0)
+      → followed (length (ringList (pointsOf P) (pointsOf Q))) sizes (λ key size. ask key size .page) start ≡ ringList (pointsOf P) (pointsOf Q)
+  pages-list ask a sizes s =
+      let asked : Key → ℕ → Page = λ key size. ask key size .page in
+      let defined : Key → ℕ → Page = λ key size. pageAnswer P Q key size .page in
+      let same : asked ≡ defined = λ t key size. a key size .promised t .page in
+      ap (λ (f : Key → ℕ → Page). followed (length (ringList (pointsOf P) (pointsOf Q))) sizes f start) same ∙ of-page.pages-list P Q sheets sizes s
+
+  -- ---- the list
+
+  -- "The list holds a pump house and a chamber exactly if the ring rule makes them a pair":
+  pub list-exact : (j i : ℕ) → j < points Q → i < points P
+      → List·Memᴰ (pairAt (pointsOf P) (pointsOf Q) j i) (ringList (pointsOf P) (pointsOf Q)) ↔ (ringPair (pointsOf P) (pointsOf Q) j i ≡ true)
+  list-exact j i j-in i-in =
+      ring-iff (pointsOf P) (pointsOf Q) (of-join.points-rise (facts P p-opens)) (of-join.points-rise (facts Q q-opens)) j i (omega (arith, length-points Q)) (omega (arith, length-points P))
+
+  -- it holds no pair but those of two such records,
+  pub list-only : (v : Pair) → List·Memᴰ v (ringList (pointsOf P) (pointsOf Q)) → Placed (ringPair (pointsOf P) (pointsOf Q)) (pairAt (pointsOf P) (pointsOf Q)) (length (pointsOf P)) (length (pointsOf Q)) v
+  list-only v m = ring-only (pointsOf P) (pointsOf Q) (of-join.points-rise (facts P p-opens)) (of-join.points-rise (facts Q q-opens)) v m
+
+  -- "each once".
+  pub list-once : (a b : ℕ) → a < b → b < length (ringList (pointsOf P) (pointsOf Q)) → getD (ringList (pointsOf P) (pointsOf Q)) a none ≡ getD (ringList (pointsOf P) (pointsOf Q)) b none → ⊥
+  list-once a b h k e = ring-once (pointsOf P) (pointsOf Q) (of-join.points-rise (facts P p-opens)) (of-join.points-rise (facts Q q-opens)) a b h k e
+
+-- "It depends on the points alone": whatever the editions, the orders and the trees of two pairs of sheets.
+module _ (P P′ Q Q′ : List ℤ) (p-opens : WellFormed P) (p-opens′ : WellFormed P′) (q-opens : WellFormed Q) (q-opens′ : WellFormed Q′) (same-p : pointsOf P ≡ pointsOf P′) (same-q : pointsOf Q ≡ pointsOf Q′) where
+  pub same-list : ringList (pointsOf P) (pointsOf Q) ≡ ringList (pointsOf P′) (pointsOf Q′)
+  same-list = of-join.same-list P P′ Q Q′ same-p same-q
+
+  pub list-by-points : (key : Key) (size : ℕ) (r r′ : Paged) → InRange key size → PageAnswers P Q key size r → PageAnswers P′ Q′ key size r′
+      → (r .page .pairs ≡ r′ .page .pairs) × (r .page .count ≡ r′ .page .count) × (r .page .end ≡ r′ .page .end)
+  list-by-points key size r r′ h a b =
+      let e = page-pairs P Q p-opens q-opens key size r h a .1 in
+      let f = page-pairs P′ Q′ p-opens′ q-opens′ key size r′ h b .1 in
+      let l = of-join.list-by-points P P′ Q Q′ same-p same-q (sourceOf P Q) (sourceOf P′ Q′) key size in
+      (ap (λ (g : Page). g .pairs) e ∙ l .0 ∙ sym (ap (λ (g : Page). g .pairs) f), ap (λ (g : Page). g .count) e ∙ l .1 ∙ sym (ap (λ (g : Page). g .count) f), ap (λ (g : Page). g .end) e ∙ l .2 ∙ sym (ap (λ (g : Page). g .end) f))
+
+-- ---- the return trip
+
+module _ (n : ℕ) (p order : List ℤ) (ed : ℕ) (out : List ℤ) (out′ : List ℤ) (packs : PackAnswers n p order ed out 0 out′) where
+  returned : Returned n p ed out′
+  returned = of-pack.return-trip n p order ed out 0 out′ (packs .promised .0) (packs .promised .1) refl
+
+  -- "packing one from a point list", then "opening": what pack leaves where it answers 0 opens, its points are the given ones, in order, and its edition is the given one.
+  pub return-trip : (k : ℕ) → OpenAnswers out′ k → (k ≡ 0) × (pointsOf out′ ≡ pointsIn n p) × (points out′ ≡ n) × (edition out′ ≡ pos ed)
+  return-trip k a = (a .promised ∙ returned .opens, returned .same-points, returned .same-number, returned .same-edition)
+
+  -- So the point reader gives back each record that was handed to pack.
+  pub return-point : (i : ℕ) → i < n → (r : Pointed) → PointAnswers out′ i r → r ≡ At (assetOf p i)
+  unfolding pointNo pointsIn assetOf spotOf
+  return-point i h r a =
+      let inside : i < points out′ = omega (arith, returned .same-number) in
+      let same : pointOf out′ i ≡ pointOf p i = sym (point-at out′ i inside) ∙ ap (λ (l : List Point). pointAt l i) (returned .same-points) ∙ at-tab n (pointOf p) _ i h in
+      a .promised
+      ∙ sym (point-given out′ i (assetOf out′ i) (first-passes (openNo form1 out′) (positionNo out′ i) (returned .opens) ∙ position-in out′ i inside) refl)
+      ∙ ap (λ (x : Point). At record { id = x .id; x = x .spot .x; y = x .spot .y }) same

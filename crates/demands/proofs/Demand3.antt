@@ -1,0 +1,211 @@
+-- Demand 3: "Pages may be lost, repeated, late or out of order, but not altered or invented; P sheets with one edition number hold the same points, and Q sheets likewise;
+-- nobody else writes the book or hands in an older state of it. Then a book begun empty always holds exactly the first so many pairs of its list, calls itself closed only
+-- when it holds all, and while it is open with room for all, each page that answers its own next request adds a pair or closes it."
+--
+-- The premises are in specs/World: `History w b s` is a book b with its slots s after any such history, every step of which is an answer that the promise of a shipped
+-- call admits (`Book::begin`, `ring::page::page`, `Book::take`). `bookList w b` is the ring list of the book's two editions.
+--
+--     held-prefix     it holds the first so many pairs of its list
+--     closed-all      it is closed only when it holds all
+--     progress        its own page is given, is taken, and adds a pair or closes it
+--     closes          so a book that goes on asking is closed after at most one request more than pairs are missing
+--     next-is-last    its next key is its last pair
+-- Assumes nothing.
+use mathlib.Core.Path.{_≡_, refl, sym, ap, subst, _∙_}
+use mathlib.Core.Bool.{true, false}
+use mathlib.Core.Logic.{_⊎_, ⊎-elim}
+use mathlib.Core.List.{List, [], _∷_, List·Memᴰ, List·Memᴰ·head, List·Memᴰ·tail, Memᴰ·append-left}
+use Prim.Native.Nat.{ℕ, zero, suc, _+_, _≤_, _<_}
+use native.Mathlib.Omega.{arith}
+use lib.IntN.{ℤ}
+use lib.ListN.{length, take, drop, take-append-drop}
+use Rattle.integers.specs.Bools.{decide}
+use Rattle.words.specs.Range.{lastId}
+use Rattle.plane.specs.Point.{Point}
+use Rattle.sheet.specs.Limits.{form1}
+use Rattle.sheet.specs.Places.{pointsOf}
+use Rattle.sheet.specs.Open.{openNo}
+use Rattle.sheet.proofs.SheetLaws.{open-facts, form1-fair}
+use Rattle.list.specs.declared.Key.{Key}
+use Rattle.list.specs.declared.Pair.{Pair}
+use Rattle.list.specs.declared.Source.{Source}
+use Rattle.list.specs.declared.Page.{Page}
+use Rattle.list.specs.Pairs.{start, keyOf, lastOr}
+use Rattle.list.specs.Pages.{shown, pageOf}
+use Rattle.list.specs.RingList.{ringList}
+use Rattle.list.proofs.PageLaws.{shown-count, length-padded}
+use Rattle.list.proofs.RowLaws.{ring-only}
+use Rattle.join.proofs.Meaning.{points-rise}
+use Rattle.ring.specs.Numbers.{sheetsNo}
+use Rattle.ring.specs.Page.{askedNo, pageNo, sourceOf, pageGiven}
+use Rattle.ring.specs.declared.Paged.{Paged}
+use Rattle.ring.proofs.NumberLaws.{first-passes}
+use Rattle.ring.proofs.PageLaws.{asked-size, page-answered}
+use Rattle.book.specs.declared.Book.{Book}
+use Rattle.book.specs.declared.Begun.the-variants as begun
+use Rattle.book.specs.declared.Next.the-variants as next
+use Rattle.book.specs.declared.Asked.{Asked}
+use Rattle.book.specs.declared.Taken.{Taken}
+use Rattle.book.specs.Rules.{lastKey, asked, takeNo, taken, takenSlots}
+use Rattle.book.specs.World as of-world
+use Rattle.book.specs.World.{World, Honest, Reached, listOf, ownPage}
+use Rattle.book.proofs.Story as of-story
+use Rattle.book.proofs.SliceLaws as of-slice
+use Rattle.book.proofs.TakeLaws as of-take
+use Rattle.demands.specs.Promises.{PageAnswers, BeginAnswers, NextAnswers, TakeAnswers}
+use Rattle.demands.specs.World.{Editions, PumpSheet, ChamberSheet, bookList, Answered, History, began, took, lent, OwnPage, Asking, stops, asks}
+use Rattle.demands.proofs.Demand1 as demand1
+use Rattle.demands.proofs.Demand2 as demand2
+
+-- the last of some keys is one of them
+last-in : (X : Key → Type 0) (k : Key) (l : List Pair) → X k → ((v : Pair) → List·Memᴰ v l → X (keyOf v)) → X (lastOr k l)
+unfolding lastOr
+last-in X k [] x f = x
+last-in X k (v ∷ l) x f = last-in X (keyOf v) l (f v (List·Memᴰ·head refl)) (λ u m. f u (List·Memᴰ·tail m))
+
+module _ (w : Editions) where
+  -- ids ascend, since the sheets open
+  abbrev worldOf : World
+  worldOf =
+      record {
+        pumps = λ e. pointsOf (w .pumps e);
+        chambers = λ e. pointsOf (w .chambers e);
+        pumps-rise = λ e. points-rise (open-facts form1 form1-fair (w .pumps e) (w .pumps-open e));
+        chambers-rise = λ e. points-rise (open-facts form1 form1-fair (w .chambers e) (w .chambers-open e));
+      }
+
+  -- the list of two sheets of this world is that of their editions
+  list-is : (P Q : List ℤ) → PumpSheet w P → ChamberSheet w Q → ringList (pointsOf P) (pointsOf Q) ≡ listOf worldOf (sourceOf P Q)
+  unfolding sourceOf
+  list-is P Q p q = ap (λ (x : List Point). ringList x (pointsOf Q)) (p .same) ∙ ap (ringList (pointsOf (w .pumps (sourceOf P Q .«p_edition»)))) (q .same)
+
+  sheets : (P Q : List ℤ) → PumpSheet w P → ChamberSheet w Q → sheetsNo P Q ≡ 0
+  unfolding sheetsNo
+  sheets P Q p q = first-passes (openNo form1 P) (openNo form1 Q) (p .opens) ∙ q .opens
+
+  -- "not altered or invented": a page that was answered is honest
+  pub honest : (g : Page) → Answered w g → Honest worldOf g
+  unfolding pageNo pageGiven
+  honest g a =
+      let no : pageNo (a .P) (a .Q) (a .key) (a .size) ≡ 0 = sym (demand1.page-no (a .P) (a .Q) (a .key) (a .size) (a .r) (a .answers) .0) ∙ a .given in
+      let sizes = asked-size (a .key) (a .size) (sym (first-passes (sheetsNo (a .P) (a .Q)) (askedNo (a .key) (a .size)) (sheets (a .P) (a .Q) (a .p-sheet) (a .q-sheet))) ∙ no) in
+      record {
+        of = sourceOf (a .P) (a .Q);
+        after = a .key;
+        size = a .size;
+        some = sizes .0;
+        most = sizes .1;
+        is = a .is ∙ ap (λ (x : Paged). x .page) (a .answers .promised ∙ page-answered (a .P) (a .Q) (a .key) (a .size) no)
+            ∙ ap (λ (l : List Pair). pageOf (sourceOf (a .P) (a .Q)) l (a .key) (a .size)) (list-is (a .P) (a .Q) (a .p-sheet) (a .q-sheet));
+      }
+
+  reached : {b : Book} {s : List Pair} → History w b s → Reached worldOf b s
+  reached (began s b slots a) = of-world.began s b slots (sym (a .promised))
+  reached (took {b} {slots} g r slots′ h a t) =
+      subst
+      (λ (x : Taken). Reached worldOf (x .book) slots′)
+      (sym (t .0))
+      (subst (λ (x : List Pair). Reached worldOf (taken b slots g .book) x) (sym (t .1)) (of-world.took g (reached h) (honest g a)))
+  reached (lent other h e f) = of-world.lent other (reached h) e f
+
+  -- "Then a book begun empty always holds exactly the first so many pairs of its list"
+  pub held-prefix : {b : Book} {s : List Pair} → History w b s
+      → (b .held ≤ length s) × (b .held ≤ length (bookList w b)) × (take (b .held) s ≡ take (b .held) (bookList w b))
+  held-prefix h = of-story.held-prefix worldOf (reached h)
+
+  -- "calls itself closed only when it holds all"
+  pub closed-all : {b : Book} {s : List Pair} → History w b s → b .closed ≡ true
+      → (b .held ≡ length (bookList w b)) × (take (b .held) s ≡ bookList w b)
+  closed-all h e = of-story.closed-all worldOf (reached h) e
+
+  -- "Its next key is its last pair."
+  pub next-is-last : {b : Book} {s : List Pair} → History w b s → (r : Asked) → NextAnswers b s r → r .next ≡ next.After (lastOr start (take (b .held) s))
+  next-is-last {b} {s} h r a = ap (λ (x : Asked). x .next) a ∙ of-slice.next-is-last b s (held-prefix h .0)
+
+  -- ---- a book's own page
+
+  -- an id of the book's list is at most 2,000,000,000
+  listed-in : (b : Book) (v : Pair) → List·Memᴰ v (bookList w b) → (v .q ≤ lastId) × (v .p ≤ lastId)
+  listed-in b v m =
+      let rp = worldOf .pumps-rise (b .source .«p_edition») in
+      let rq = worldOf .chambers-rise (b .source .«q_edition») in
+      let at = ring-only (worldOf .pumps (b .source .«p_edition»)) (worldOf .chambers (b .source .«q_edition»)) rp rq v m in
+      (omega (arith, ap (λ (x : Pair). x .q) (at .is), rq .high (at .at-q) (at .q-in)), omega (arith, ap (λ (x : Pair). x .p) (at .is), rp .high (at .at-p) (at .p-in)))
+
+  module _ {b : Book} {s : List Pair} (h : History w b s) {g : Page} (o : OwnPage w b s g) where
+    key-last : o .key ≡ lastOr start (take (b .held) s)
+    key-last = let z = sym (o .next-is) ∙ next-is-last h (o .asked) (o .asks) in cc
+
+    key-due : o .key ≡ lastKey (b .held) s
+    key-due = key-last ∙ sym (of-slice.last-held (b .held) s (held-prefix h .0))
+
+    in-range : demand2.InRange (o .key) (o .size)
+    in-range =
+        let l = bookList w b in
+        let z = last-in (λ k. (k .q ≤ lastId) × (k .p ≤ lastId)) start (take (b .held) l) (omega arith, omega arith) (λ v m. listed-in b v (subst (List·Memᴰ v) (take-append-drop (b .held) l) (Memᴰ·append-left (drop (b .held) l) m))) in
+        let k : o .key ≡ lastOr start (take (b .held) l) = key-last ∙ ap (lastOr start) (held-prefix h .2) in
+        record {
+          q-in = omega (arith, ap (λ (x : Key). x .q) k, z .0);
+          p-in = omega (arith, ap (λ (x : Key). x .p) k, z .1);
+          some = o .some;
+          most = o .most;
+        }
+
+    given : (o .r .number ≡ 0) × (o .r .page ≡ pageOf (sourceOf (o .P) (o .Q)) (ringList (pointsOf (o .P)) (pointsOf (o .Q))) (o .key) (o .size))
+    given = demand2.page-pairs (o .P) (o .Q) (o .p-sheet .opens) (o .q-sheet .opens) (o .key) (o .size) (o .r) in-range (o .answers)
+
+    own-answered : Answered w g
+    own-answered =
+        record {
+          P = o .P;
+          Q = o .Q;
+          p-sheet = o .p-sheet;
+          q-sheet = o .q-sheet;
+          key = o .key;
+          size = o .size;
+          r = o .r;
+          answers = o .answers;
+          given = given .0;
+          is = o .is;
+        }
+
+    own-is : g ≡ ownPage worldOf b s (o .size)
+    own-is =
+        o .is ∙ given .1
+        ∙ ap (λ (l : List Pair). pageOf (sourceOf (o .P) (o .Q)) l (o .key) (o .size)) (list-is (o .P) (o .Q) (o .p-sheet) (o .q-sheet))
+        ∙ ap (λ (x : Source). pageOf x (listOf worldOf x) (o .key) (o .size)) (o .of-book)
+        ∙ ap (λ (k : Key). pageOf (b .source) (listOf worldOf (b .source)) k (o .size)) key-due
+
+    own-long : length (g .pairs) ≡ 16
+    own-long =
+        ap (λ (x : Page). length (x .pairs)) own-is
+        ∙ (unfold pageOf in length-padded (shown (bookList w b) (lastKey (b .held) s) (o .size)) (omega (arith, o .most, shown-count (bookList w b) (lastKey (b .held) s) (o .size))))
+
+    -- "and while it is open with room for all, each page that answers its own next request adds a pair or closes it": the page request serves it, and the book takes it.
+    pub progress : b .closed ≡ false → length (bookList w b) ≤ length s → (r : Taken) (s′ : List Pair) → TakeAnswers b s g r s′
+        → (o .r .number ≡ 0) × (r .number ≡ 0) × ((b .held < r .book .held) ⊎ (r .book .closed ≡ true))
+    progress still room r s′ t =
+        let z = of-story.progress worldOf (reached h) still room (o .size) (o .some) (o .most) in
+        let e : r ≡ taken b s (ownPage worldOf b s (o .size)) = t .0 ∙ ap (taken b s) own-is in
+        (given .0, ap (λ (x : Taken). x .number) e ∙ of-take.take-no b s (ownPage worldOf b s (o .size)) ∙ z .0, subst (λ (x : Taken). (b .held < x .book .held) ⊎ (x .book .closed ≡ true)) (sym e) (z .1))
+
+  -- a closed book stays closed
+  stays-closed : {k : ℕ} {b b′ : Book} {s s′ : List Pair} → Asking w k b s b′ s′ → b .closed ≡ true → b′ .closed ≡ true
+  stays-closed (stops b s) e = e
+  stays-closed (asks {b = b} {slots = s} g r s′ o t more) e =
+      stays-closed more (ap (λ (x : Taken). x .book .closed) (t .0) ∙ ap (λ (x : Book). x .closed) (of-take.refused-book b s g (of-take.closed-no b s g e)) ∙ e)
+
+  -- So a book with room for its list that goes on asking is closed after at most one request more than pairs are missing.
+  pub closes : {k : ℕ} {b b′ : Book} {s s′ : List Pair} → History w b s → length (bookList w b) ≤ length s → length (bookList w b) < b .held + k → Asking w k b s b′ s′ → b′ .closed ≡ true
+  closes h room n (stops b s) = absurd (omega (arith, held-prefix h .1))
+  closes h room n (asks {b = b} {slots = s} g r s′ o t more) =
+      let l : length (bookList w (r .book)) ≡ length (bookList w b) = ap (λ (x : Taken). length (listOf worldOf (x .book .source))) (t .0) ∙ ap (λ (x : Source). length (listOf worldOf x)) (of-take.same-book-source b s g) in
+      let long : length s′ ≡ length s = ap length (t .1) ∙ of-take.same-length b s g (own-long h o) in
+      ⊎-elim
+      (λ (e : b .closed ≡ true). stays-closed (asks g r s′ o t more) e)
+      (λ (e : b .closed ≡ false).
+      ⊎-elim
+      (λ (x : b .held < r .book .held). closes (took g r s′ h (own-answered h o) t) (omega (arith, l, long)) (omega (arith, l)) more)
+      (λ (x : r .book .closed ≡ true). stays-closed more x)
+      (progress h o e room r s′ t .2))
+      (decide (b .closed))

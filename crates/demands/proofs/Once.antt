@@ -1,0 +1,106 @@
+-- "For each function open to callers, one input admits one result and one final state of what was lent, refusals too; prove it from the promise."
+-- Each theorem starts from two answers that the call's promise admits for one input, and ends with their being one. No exception.
+-- Of a view that `open` makes it says all that there is to see: the number, the words covered and where they stand, the counts.
+-- Assumes nothing.
+use mathlib.Core.Path.{_≡_, refl, sym, _∙_}
+use mathlib.Core.List.{List}
+use Prim.Native.Nat.{ℕ}
+use lib.IntN.{ℤ}
+use denote.Ref.{RefT}
+use Rattle.list.specs.declared.Key.{Key}
+use Rattle.list.specs.declared.Pair.{Pair}
+use Rattle.list.specs.declared.Source.{Source}
+use Rattle.list.specs.declared.Page.{Page}
+use Rattle.ring.specs.declared.Head.{Head}
+use Rattle.ring.specs.declared.Pointed.{Pointed}
+use Rattle.ring.specs.declared.Filtered.{Filtered}
+use Rattle.ring.specs.declared.Walked.{Walked}
+use Rattle.ring.specs.declared.Paged.{Paged}
+use Rattle.view.specs.declared.Sheet.{Sheet}
+use Rattle.view.specs.declared.Opened.{Opened}
+use Rattle.view.specs.Shown.{shown}
+use Rattle.book.specs.declared.Book.{Book}
+use Rattle.book.specs.declared.Begun.{Begun}
+use Rattle.book.specs.declared.Asked.{Asked}
+use Rattle.book.specs.declared.Taken.{Taken}
+use Rattle.book.specs.declared.TakenArray.{TakenArray}
+use Rattle.marker.specs.declared.Marked.{Marked}
+use Rattle.ring.proofs.Once as of-ring
+use Rattle.ring.proofs.PageLaws as of-page
+use Rattle.view.proofs.Once as of-view
+use Rattle.book.proofs.Once as of-book
+use Rattle.pack.proofs.Once as of-pack
+use Rattle.marker.proofs.Once as of-marker
+use Rattle.demands.specs.Promises.{OpenAnswers, HeadAnswers, PointAnswers, FilterAnswers, RingAnswers, PageAnswers, PackAnswers, MarkAnswers, BeginAnswers, NextAnswers, TakeAnswers, NextArrayAnswers, TakeArrayAnswers, ViewOpens, ViewPoints, ViewFilters, ViewRings, PointThrough, FilterThrough, RingThrough}
+
+-- ---- ring
+
+pub open-once : (w : List ℤ) (r r′ : ℕ) → OpenAnswers w r → OpenAnswers w r′ → r ≡ r′
+open-once w r r′ a b = of-ring.open-once w r r′ (a .promised) (b .promised)
+
+pub head-once : (w : List ℤ) (r r′ : Head) → HeadAnswers w r → HeadAnswers w r′ → r ≡ r′
+head-once w r r′ a b = of-ring.head-once w r r′ (a .promised) (b .promised)
+
+pub point-once : (w : List ℤ) (i : ℕ) (r r′ : Pointed) → PointAnswers w i r → PointAnswers w i r′ → r ≡ r′
+point-once w i r r′ a b = of-ring.point-once w i r r′ (a .promised) (b .promised)
+
+pub filter-once : (P Q : List ℤ) (j : ℕ) (r r′ : Filtered) → FilterAnswers P Q j r → FilterAnswers P Q j r′ → r ≡ r′
+filter-once P Q j r r′ a b = of-ring.filter-once P Q j r r′ (a .promised) (b .promised)
+
+pub ring-once : (P Q : List ℤ) (j i : ℕ) (r r′ : Walked) → RingAnswers P Q j i r → RingAnswers P Q j i r′ → r ≡ r′
+ring-once P Q j i r r′ a b = of-ring.ring-once P Q j i r r′ (a .promised) (b .promised)
+
+pub page-once : (P Q : List ℤ) (key : Key) (size : ℕ) (r r′ : Paged) → PageAnswers P Q key size r → PageAnswers P Q key size r′ → r ≡ r′
+page-once P Q key size r r′ a b = of-page.page-once P Q key size r r′ (a .promised) (b .promised)
+
+-- ---- pack: one answer, and one final state of the lent words
+
+pub pack-once : (n : ℕ) (points order : List ℤ) (ed : ℕ) (out : List ℤ) (r r′ : ℕ) (w w′ : List ℤ)
+    → PackAnswers n points order ed out r w → PackAnswers n points order ed out r′ w′ → (r ≡ r′) × (w ≡ w′)
+pack-once n points order ed out r r′ w w′ a b =
+    (of-pack.pack-once n points order ed out r r′ (a .promised .0) (b .promised .0), of-pack.pack-words-once n points order ed out w w′ (a .promised .1) (b .promised .1))
+
+-- ---- marker
+
+pub mark-once : (ax ay bx by : ℤ) (r r′ : Marked) → MarkAnswers ax ay bx by r → MarkAnswers ax ay bx by r′ → r ≡ r′
+mark-once ax ay bx by r r′ a b = of-marker.mark-once ax ay bx by r r′ (a .promised) (b .promised)
+
+-- ---- book: one answer with the book handed back in it, and one final state of the slots
+
+pub begin-once : (s : Source) (r r′ : Begun) → BeginAnswers s r → BeginAnswers s r′ → r ≡ r′
+begin-once s r r′ a b = of-book.begin-once s r r′ (a .promised) (b .promised)
+
+pub next-once : (b : Book) (slots : List Pair) (r r′ : Asked) → NextAnswers b slots r → NextAnswers b slots r′ → r ≡ r′
+next-once b slots r r′ x y = of-book.next-once b slots r r′ x y
+
+pub take-once : (b : Book) (slots : List Pair) (g : Page) (r r′ : Taken) (t t′ : List Pair) → TakeAnswers b slots g r t → TakeAnswers b slots g r′ t′ → (r ≡ r′) × (t ≡ t′)
+take-once b slots g r r′ t t′ x y = of-book.take-once b slots g r r′ t t′ x y
+
+pub next-array-once : (slots : List Pair) (len : ℕ) (b : Book) (r r′ : Asked) → NextArrayAnswers slots len b r → NextArrayAnswers slots len b r′ → r ≡ r′
+next-array-once slots len b r r′ x y = of-book.next-array-once slots len b r r′ (x .promised) (y .promised)
+
+pub take-array-once : (slots : List Pair) (len : ℕ) (b : Book) (g : Page) (r r′ : TakenArray) → TakeArrayAnswers slots len b g r → TakeArrayAnswers slots len b g r′ → r ≡ r′
+take-array-once slots len b g r r′ x y = of-book.take-array-once slots len b g r r′ (x .promised) (y .promised)
+
+-- ---- view
+
+pub view-open-once : (w : RefT (List ℤ)) (r r′ : Opened) → ViewOpens w r → ViewOpens w r′ → shown r ≡ shown r′
+view-open-once w r r′ x y = of-view.open-once w r r′ x y
+
+pub view-point-once : (d : Sheet) (i : ℕ) (r r′ : Pointed) → ViewPoints d i r → ViewPoints d i r′ → r ≡ r′
+view-point-once d i r r′ x y = of-view.point-once d d i r r′ refl x y
+
+pub view-filter-once : (p q : Sheet) (j : ℕ) (r r′ : Filtered) → ViewFilters p q j r → ViewFilters p q j r′ → r ≡ r′
+view-filter-once p q j r r′ x y = of-view.filter-once p p q q j r r′ refl refl x y
+
+pub view-ring-once : (p q : Sheet) (j i : ℕ) (r r′ : Walked) → ViewRings p q j i r → ViewRings p q j i r′ → r ≡ r′
+view-ring-once p q j i r r′ x y = of-view.ring-once p p q q j i r r′ refl refl x y
+
+pub point-through-once : (w : List ℤ) (n m i : ℕ) (r r′ : Pointed) → PointThrough w n m i r → PointThrough w n m i r′ → r ≡ r′
+point-through-once w n m i r r′ a b = of-ring.point-once w i r r′ (a .promised) (b .promised)
+
+pub filter-through-once : (P : List ℤ) (np mp : ℕ) (Q : List ℤ) (nq mq j : ℕ) (r r′ : Filtered) → FilterThrough P np mp Q nq mq j r → FilterThrough P np mp Q nq mq j r′ → r ≡ r′
+filter-through-once P np mp Q nq mq j r r′ a b = of-ring.filter-once P Q j r r′ (a .promised) (b .promised)
+
+pub ring-through-once : (P : List ℤ) (np mp : ℕ) (Q : List ℤ) (nq mq j i : ℕ) (r r′ : Walked) → RingThrough P np mp Q nq mq j i r → RingThrough P np mp Q nq mq j i r′ → r ≡ r′
+ring-through-once P np mp Q nq mq j i r r′ a b = of-ring.ring-once P Q j i r r′ (a .promised) (b .promised)

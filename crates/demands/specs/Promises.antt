@@ -1,0 +1,181 @@
+-- What the shipped calls promise, under one name for each call: `PageAnswers P Q key size r` says that r is an answer which the `ensures` of the page request
+-- admits, where the words P and Q, the key and the size are handed in. The theorems of this crate start from these, so whoever weakens an `ensures` breaks them.
+--
+-- `Post` of a call is its `ensures`, read as a plain claim: of the lifetimes κs of what is lent, the arguments, the answer, and the arguments at exit.
+-- Words and slots that are lent are lists that stand at some place of memory, and no promise depends on the place.
+-- The calls over slices of records (`Book::next_key`, `Book::take`) and over views (`view::open`, `point_at`, `filter_walk_at`, `ring_walk_at`) have no such reading.
+-- Theirs is stated here, and proofs/Says shows that it is their `ensures`, word for word.
+use mathlib.Core.Path.{_≡_}
+use mathlib.Core.List.{List}
+use Prim.Native.Nat.{ℕ}
+use lib.IntN.{ℤ}
+use base.Fml.{GName}
+use contract.Lifetimes.{Lfts}
+use denote.Ref.{RefT, now}
+use Rattle.list.specs.declared.Key.{Key}
+use Rattle.list.specs.declared.Pair.{Pair}
+use Rattle.list.specs.declared.Source.{Source}
+use Rattle.list.specs.declared.Page.{Page}
+use Rattle.ring.specs.Answers.{pointed, filtered, walked}
+use Rattle.ring.specs.declared.Head.{Head}
+use Rattle.ring.specs.declared.Pointed.{Pointed}
+use Rattle.ring.specs.declared.Filtered.{Filtered}
+use Rattle.ring.specs.declared.Walked.{Walked}
+use Rattle.ring.specs.declared.Paged.{Paged}
+use Rattle.view.specs.declared.Sheet.{Sheet}
+use Rattle.view.specs.declared.Opened.{Opened}
+use Rattle.view.specs.Shown.{shown, openOf}
+use Rattle.book.specs.declared.Book.{Book}
+use Rattle.book.specs.declared.Begun.{Begun}
+use Rattle.book.specs.declared.Asked.{Asked}
+use Rattle.book.specs.declared.Taken.{Taken}
+use Rattle.book.specs.declared.TakenArray.{TakenArray}
+use Rattle.book.specs.Rules.{asked, taken, takenSlots}
+use Rattle.marker.specs.declared.Marked.{Marked}
+use Rattle.ring.proofs.open.open_no.Reads as open-no
+use Rattle.ring.proofs.open.head_of.Reads as head-of
+use Rattle.ring.proofs.point.point.Reads as point
+use Rattle.ring.proofs.filter.filter_walk.Reads as filter-walk
+use Rattle.ring.proofs.ringwalk.ring_walk.Reads as ring-walk
+use Rattle.ring.proofs.page.page.Reads as page
+use Rattle.pack.proofs.pack.Reads as pack
+use Rattle.marker.proofs.mark.Reads as mark
+use Rattle.book.proofs.Book.begin.Reads as begin
+use Rattle.book.proofs.take_array.Reads as take-array
+use Rattle.book.proofs.next_array.Reads as next-array
+use Rattle.view.proofs.point_through.Reads as point-through
+use Rattle.view.proofs.filter_walk_through.Reads as filter-walk-through
+use Rattle.view.proofs.ring_walk_through.Reads as ring-walk-through
+
+-- where something that is lent stands: its address, and the name by which its contents are followed
+pub record Place : Type 0 where
+  pub address : ℕ × ℕ
+  pub name : GName
+
+-- a slice that stands there and holds these
+abbrev pub slice : {X : Type 0} → Place → List X → RefT (List X)
+slice l w = record { ptr = l .address; name = l .name; now = w }
+
+-- ---- ring: the calls on plain slices
+
+-- `ring::open::open_no(w)` answers r
+pub record OpenAnswers (w : List ℤ) (r : ℕ) : Type 0 where
+  pub κs : Lfts 1
+  pub w-at : Place
+  pub promised : open-no.Post κs (slice w-at w, tt) r (slice w-at w, tt)
+
+-- `ring::open::head_of(w)` answers h
+pub record HeadAnswers (w : List ℤ) (h : Head) : Type 0 where
+  pub κs : Lfts 1
+  pub w-at : Place
+  pub promised : head-of.Post κs (slice w-at w, tt) h (slice w-at w, tt)
+
+-- `ring::point::point(w, position)` answers r
+pub record PointAnswers (w : List ℤ) (position : ℕ) (r : Pointed) : Type 0 where
+  pub κs : Lfts 1
+  pub w-at : Place
+  pub promised : point.Post κs (slice w-at w, (position, tt)) r (slice w-at w, (position, tt))
+
+-- `ring::filter::filter_walk(P, Q, j)` answers r
+pub record FilterAnswers (P Q : List ℤ) (j : ℕ) (r : Filtered) : Type 0 where
+  pub κs : Lfts 2
+  pub p-at : Place
+  pub q-at : Place
+  pub promised : filter-walk.Post κs (slice p-at P, (slice q-at Q, (j, tt))) r (slice p-at P, (slice q-at Q, (j, tt)))
+
+-- `ring::ringwalk::ring_walk(P, Q, j, i)` answers r
+pub record RingAnswers (P Q : List ℤ) (j i : ℕ) (r : Walked) : Type 0 where
+  pub κs : Lfts 2
+  pub p-at : Place
+  pub q-at : Place
+  pub promised : ring-walk.Post κs (slice p-at P, (slice q-at Q, (j, (i, tt)))) r (slice p-at P, (slice q-at Q, (j, (i, tt))))
+
+-- `ring::page::page(P, Q, key, size)` answers r
+pub record PageAnswers (P Q : List ℤ) (key : Key) (size : ℕ) (r : Paged) : Type 0 where
+  pub κs : Lfts 2
+  pub p-at : Place
+  pub q-at : Place
+  pub promised : page.Post κs (slice p-at P, (slice q-at Q, (key, (size, tt)))) r (slice p-at P, (slice q-at Q, (key, (size, tt))))
+
+-- ---- pack, marker
+
+-- `pack::pack(n, points, order, edition, out)` answers r, and the words of `out` are `out′` at its exit
+pub record PackAnswers (n : ℕ) (points order : List ℤ) (edition : ℕ) (out : List ℤ) (r : ℕ) (out′ : List ℤ) : Type 0 where
+  pub κs : Lfts 3
+  pub p-at : Place
+  pub o-at : Place
+  pub out-at : Place
+  pub promised : pack.Post κs
+      (n, (slice p-at points, (slice o-at order, (edition, (slice out-at out, tt)))))
+      r
+      (n, (slice p-at points, (slice o-at order, (edition, (slice out-at out′, tt)))))
+
+-- `marker::mark(ax, ay, bx, by)` answers r
+pub record MarkAnswers (ax ay bx by : ℤ) (r : Marked) : Type 0 where
+  pub promised : mark.Post tt (ax, (ay, (bx, (by, tt)))) r (ax, (ay, (bx, (by, tt))))
+
+-- ---- the book
+
+-- `Book::begin(source)` answers r
+pub record BeginAnswers (source : Source) (r : Begun) : Type 0 where
+  pub promised : begin.Post tt (source, tt) r (source, tt)
+
+-- `b.next_key(slots)` answers r
+abbrev pub NextAnswers : Book → List Pair → Asked → Type 0
+NextAnswers b slots r = r ≡ asked b slots
+
+-- `b.take(slots, page)` answers r, and the slots are `slots′` at its exit
+abbrev pub TakeAnswers : Book → List Pair → Page → Taken → List Pair → Type 0
+TakeAnswers b slots page r slots′ = (r ≡ taken b slots page) × (slots′ ≡ takenSlots b slots page)
+
+-- `book::next_array(slots, len, b)` answers r
+pub record NextArrayAnswers (slots : List Pair) (len : ℕ) (b : Book) (r : Asked) : Type 0 where
+  pub promised : next-array.Post tt (slots, (len, (b, tt))) r (slots, (len, (b, tt)))
+
+-- `book::take_array(slots, len, b, page)` answers r
+pub record TakeArrayAnswers (slots : List Pair) (len : ℕ) (b : Book) (page : Page) (r : TakenArray) : Type 0 where
+  pub promised : take-array.Post tt (slots, (len, (b, (page, tt)))) r (slots, (len, (b, (page, tt))))
+
+-- ---- views
+
+-- `view::open(w)` answers r
+abbrev pub ViewOpens : RefT (List ℤ) → Opened → Type 0
+ViewOpens w r = shown r ≡ openOf w
+
+-- `view::point_at(sheet, position)` answers r
+abbrev pub ViewPoints : Sheet → ℕ → Pointed → Type 0
+ViewPoints sheet position r = r ≡ pointed (now (sheet .words)) position
+
+-- `view::filter_walk_at(p, q, j)` answers r
+abbrev pub ViewFilters : Sheet → Sheet → ℕ → Filtered → Type 0
+ViewFilters p q j r = r ≡ filtered (now (p .words)) (now (q .words)) j
+
+-- `view::ring_walk_at(p, q, j, i)` answers r
+abbrev pub ViewRings : Sheet → Sheet → ℕ → ℕ → Walked → Type 0
+ViewRings p q j i r = r ≡ walked (now (p .words)) (now (q .words)) j i
+
+-- `view::point_through(w, n, m, position)` answers r
+pub record PointThrough (w : List ℤ) (n m position : ℕ) (r : Pointed) : Type 0 where
+  pub κs : Lfts 1
+  pub w-at : Place
+  pub promised : point-through.Post κs (slice w-at w, (n, (m, (position, tt)))) r (slice w-at w, (n, (m, (position, tt))))
+
+-- `view::filter_walk_through(P, np, mp, Q, nq, mq, j)` answers r
+pub record FilterThrough (P : List ℤ) (np mp : ℕ) (Q : List ℤ) (nq mq j : ℕ) (r : Filtered) : Type 0 where
+  pub κs : Lfts 2
+  pub p-at : Place
+  pub q-at : Place
+  pub promised : filter-walk-through.Post κs
+      (slice p-at P, (np, (mp, (slice q-at Q, (nq, (mq, (j, tt)))))))
+      r
+      (slice p-at P, (np, (mp, (slice q-at Q, (nq, (mq, (j, tt)))))))
+
+-- `view::ring_walk_through(P, np, mp, Q, nq, mq, j, i)` answers r
+pub record RingThrough (P : List ℤ) (np mp : ℕ) (Q : List ℤ) (nq mq j i : ℕ) (r : Walked) : Type 0 where
+  pub κs : Lfts 2
+  pub p-at : Place
+  pub q-at : Place
+  pub promised : ring-walk-through.Post κs
+      (slice p-at P, (np, (mp, (slice q-at Q, (nq, (mq, (j, (i, tt))))))))
+      r
+      (slice p-at P, (np, (mp, (slice q-at Q, (nq, (mq, (j, (i, tt))))))))
