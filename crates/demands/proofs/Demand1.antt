@@ -2,16 +2,16 @@
 -- "The first that applies, in the order listed. Every refusal gives only its number, with no view, page, marker or count, and leaves lent memory and book
 -- state as they stood. An array or number in a refused answer is all zero, and a view there covers no words."
 --
--- One theorem for each call: the number of its answer is the defined one, 0 where no rule is broken; and an answer with another number is that number and
+-- That every input is taken is proofs/Takes. Here is one theorem for each call: the number of its answer is the defined one, 0 where no rule is broken; and an answer with another number is that number and
 -- nothing else. None has a premise but that the call answered. The definitions of the numbers stand in the document's order: `openNo` of sheet/specs/Open,
 -- `packNo` of pack/specs/Pack, `pointNo`, `filterNo`, `ringNo` of ring/specs/Numbers, `pageNo` of ring/specs/Page, `beginNo`, `nextNo`, `takeNo` of
--- book/specs/Rules, `markNo` of marker/specs/Mark. What is lent as `&` cannot be written; what is lent as `&mut` (pack, take) is spoken of here.
+-- book/specs/Rules, `markNo` of marker/specs/Mark. For the calls through views and on arrays see proofs/Alike. What is lent as `&` cannot be written; what is lent as `&mut` (pack, take) is spoken of here.
 -- Assumes nothing.
 use mathlib.Core.Path.{_≡_, refl, sym, ap, subst, _∙_}
-use mathlib.Core.List.{List, []}
-use Prim.Native.Nat.{ℕ, zero, suc}
+use mathlib.Core.List.{List, [], _++_}
+use Prim.Native.Nat.{ℕ}
 use lib.IntN.{ℤ}
-use lib.ListN.{length, take}
+use lib.ListN.{length, take, drop, take-append-drop}
 use denote.Ref.{RefT, now}
 use Rattle.sheet.specs.Limits.{form1}
 use Rattle.sheet.specs.Open.{openNo}
@@ -20,7 +20,7 @@ use Rattle.list.specs.declared.Pair.{Pair}
 use Rattle.list.specs.declared.Source.{Source}
 use Rattle.list.specs.declared.Page.{Page}
 use Rattle.ring.specs.Numbers.{pointNo, filterNo, ringNo}
-use Rattle.ring.specs.Answers.{pointedNo, pointed, unfiltered, walkedNo, walked}
+use Rattle.ring.specs.Answers.{pointedNo, unfiltered, walkedNo}
 use Rattle.ring.specs.Page.{pageNo, pageRefused}
 use Rattle.ring.specs.declared.Head.{Head}
 use Rattle.ring.specs.declared.Pointed.{Pointed}
@@ -48,13 +48,16 @@ use Rattle.book.specs.declared.Next.{Next}
 use Rattle.book.specs.declared.Next.the-variants as next
 use Rattle.book.specs.declared.Asked.{Asked}
 use Rattle.book.specs.declared.Taken.{Taken}
-use Rattle.book.specs.Rules.{beginNo, begunNo, begunFor, nextNo, askedNo, asked, takeNo, taken, takenSlots}
+use Rattle.book.specs.declared.TakenArray.{TakenArray}
+use Rattle.book.specs.Rules.{beginNo, begunNo, nextNo, askedNo, takeNo, taken, takenSlots, lentOf}
 use Rattle.book.proofs.Once as of-book
 use Rattle.book.proofs.TakeLaws as of-take
-use Rattle.marker.specs.Mark.{markNo, numberOf}
+use Rattle.marker.specs.Mark.{markNo, numberOf, Middle, MiddleAt}
+use Rattle.marker.specs.declared.Marker.{Marker}
 use Rattle.marker.specs.declared.Marked.{Marked}
 use Rattle.marker.specs.declared.Marked.the-variants as marking
-use Rattle.demands.specs.Promises.{OpenAnswers, HeadAnswers, PointAnswers, FilterAnswers, RingAnswers, PageAnswers, PackAnswers, MarkAnswers, BeginAnswers, NextAnswers, TakeAnswers, ViewOpens}
+use Rattle.demands.specs.Promises.{OpenAnswers, HeadAnswers, PointAnswers, FilterAnswers, RingAnswers, PageAnswers, PackAnswers, MarkAnswers, BeginAnswers, NextAnswers, TakeAnswers, TakeArrayAnswers, ViewOpens}
+use Rattle.demands.proofs.Alike.{take-array, take-array-slots}
 
 -- the number k is one of refusal
 abbrev pub Refuses : ℕ → Type 0
@@ -138,6 +141,17 @@ pub take-no : (b : Book) (slots : List Pair) (g : Page) (r : Taken) (slots′ : 
 take-no b slots g r slots′ a =
     (ap (λ (x : Taken). x .number) (a .0) ∙ of-take.take-no b slots g, λ ne. (ap (λ (x : Taken). x .book) (a .0) ∙ of-take.refused-book b slots g ne, a .1 ∙ of-take.refused-slots b slots g ne))
 
+-- and so where the slots are kept in an array
+pub take-array-no : (slots : List Pair) (len : ℕ) (b : Book) (g : Page) (r : TakenArray) → TakeArrayAnswers slots len b g r
+    → (r .taken .number ≡ takeNo b (take (lentOf len) slots) g) × (Refuses (takeNo b (take (lentOf len) slots) g) → (r .taken .book ≡ b) × (r .slots ≡ slots))
+take-array-no slots len b g r a =
+    let lent = take (lentOf len) slots in
+    let z = take-no b lent g (r .taken) (takenSlots b lent g) (take-array slots len b g r a) in (
+      z .0,
+      λ ne.
+          (z .1 ne .0, take-array-slots slots len b g r a ∙ ap (λ (x : List Pair). x ++ drop (lentOf len) slots) (z .1 ne .1) ∙ take-append-drop (lentOf len) slots),
+    )
+
 -- ---- the marker, 5
 
 only-marked : (k : ℕ) (r : Marked) → numberOf r ≡ k → Refuses k → r ≡ marking.Refused k
@@ -147,3 +161,7 @@ only-marked k (marking.At m) e ne = absurd (ne (sym e))
 pub mark-no : (ax ay bx by : ℤ) (r : Marked) → MarkAnswers ax ay bx by r
     → (numberOf r ≡ markNo ax ay bx by) × (Refuses (markNo ax ay bx by) → r ≡ marking.Refused (markNo ax ay bx by))
 mark-no ax ay bx by r a = (a .promised .number, λ ne. only-marked (markNo ax ay bx by) r (a .promised .number) ne)
+
+-- "doubled, each is exactly the sum of the two coordinates. A zero sum gives positive zero": a marker that is answered is the middle
+pub mark-middle : (ax ay bx by : ℤ) (m : Marker) → MarkAnswers ax ay bx by (marking.At m) → Middle ax ay bx by m
+mark-middle ax ay bx by m a = subst (λ (k : ℕ). MiddleAt k ax ay bx by (marking.At m)) (sym (a .promised .number)) (a .promised .marker)

@@ -2,7 +2,7 @@
 -- For every two sheets that open, and in terms of what the shipped calls answer for them. P are the words of the pump houses' sheet, Q those of the chambers';
 -- q is position j of Q, p is position i of P. The ring rule and the list stand in list/specs/RingList, on lists of points, with no tree in them.
 --
---     kept-partner       the filter walk keeps every ring partner
+--     kept-partner       the filter walk keeps every ring partner.  kept-count, kept-unused: its count is that of the positions kept, and unused bits are 0
 --     clear-iff          the ring walk is clear exactly for a ring pair; point-blocks, side-blocks: what it names does block
 --     pair-exact         a ring pair is a kept position whose ring walk is clear, and no other
 --     page-pairs         a page is that of the list: pairs, number, end mark.  page-opened: the count beside it is that of the defined walks
@@ -13,7 +13,7 @@
 --     return-trip        pack, then open, gives the same points back
 -- Assumes nothing.
 use mathlib.Core.Path.{_≡_, refl, sym, ap, ap₂, subst, _∙_}
-use mathlib.Core.Bool.{Bool, true, false, _&&_}
+use mathlib.Core.Bool.{true, _&&_}
 use mathlib.Core.Logic.{_↔_}
 use mathlib.Core.List.{List, List·Memᴰ}
 use Prim.Native.Nat.{ℕ, _+_, _*_, _≤_, _<_}
@@ -29,7 +29,7 @@ use Rattle.sheet.specs.Places.{spotOf, pointOf, pointsOf}
 use Rattle.sheet.specs.Open.{openNo, Opens}
 use Rattle.sheet.proofs.SheetLaws.{open-facts, open-trailer, form1-fair}
 use Rattle.sheet.proofs.PointsLaws.{length-points, point-at}
-use Rattle.bits.specs.Set.{kept}
+use Rattle.bits.specs.Set.{at, kept, cardIn}
 use Rattle.list.specs.declared.Key.{Key}
 use Rattle.list.specs.declared.Pair.{Pair}
 use Rattle.list.specs.declared.Page.{Page}
@@ -41,16 +41,15 @@ use Rattle.walk.specs.declared.Blocker.{Blocker}
 use Rattle.walk.specs.declared.Hit.the-variants.{Point as PointHit, Side}
 use Rattle.walk.specs.declared.Answer.{Answer}
 use Rattle.walk.specs.FilterWalk.{filterKept}
-use Rattle.walk.specs.RingWalk.{clear, ringWalk, pairWalk}
+use Rattle.walk.specs.RingWalk.{pairWalk}
 use Rattle.walk.specs.Claims.{BlocksPair, BlocksPairBelow, overP, overQ}
 use Rattle.walk.proofs.Meaning as of-walk
 use Rattle.join.specs.Work.{pageOpened}
 use Rattle.join.specs.Sheets.{walksOf}
 use Rattle.join.proofs.Meaning as of-join
 use Rattle.ring.specs.Numbers.{first, sheetsNo, positionNo, pointNo, filterNo, ringNo}
-use Rattle.ring.specs.Answers.{assetOf, pointed, filteredTo, walkedClear}
+use Rattle.ring.specs.Answers.{assetOf, filteredTo, walkedClear}
 use Rattle.ring.specs.Page.{sizeNo, sourceOf, pageGiven, pageAnswer}
-use Rattle.ring.specs.declared.Asset.{Asset}
 use Rattle.ring.specs.declared.Pointed.{Pointed}
 use Rattle.ring.specs.declared.Pointed.the-variants.{At}
 use Rattle.ring.specs.declared.Filtered.{Filtered}
@@ -91,64 +90,70 @@ module _ (P Q : List ℤ) (p-opens : WellFormed P) (q-opens : WellFormed Q) wher
   unfolding sheetsNo
   sheets = first-passes (openNo form1 P) (openNo form1 Q) p-opens ∙ q-opens
 
-  -- ---- the walks
+  -- ---- the filter walk for q
 
-  module _ (j i : ℕ) (j-in : j < points Q) (i-in : i < points P) where
+  module _ (j : ℕ) (j-in : j < points Q) where
     filter-is : (r : Filtered) → FilterAnswers P Q j r → r ≡ filteredTo (filterKept 16 P (spotOf Q j))
     unfolding filterNo
     filter-is r a = a .promised ∙ sym (filter-given P Q j (first-passes (sheetsNo P Q) (positionNo Q j) sheets ∙ position-in Q j j-in))
 
-    ring-is : (r : Walked) → RingAnswers P Q j i r → r ≡ Done (pairWalk P Q j i)
-    unfolding ringNo
-    ring-is r a =
-        a .promised
-        ∙ sym (ring-given P Q j i (pairWalk P Q j i) (first-passes (sheetsNo P Q) (first (positionNo Q j) (positionNo P i)) sheets ∙ first-passes (positionNo Q j) (positionNo P i) (position-in Q j j-in) ∙ position-in P i i-in) refl)
-
-    bits-are : (r : Filtered) → FilterAnswers P Q j r → kept (r .bits) i ≡ kept (filterKept 16 P (spotOf Q j) .bits) i
+    bits-are : (r : Filtered) → FilterAnswers P Q j r → r .bits ≡ filterKept 16 P (spotOf Q j) .bits
     unfolding filteredTo
-    bits-are r a = ap (λ (x : Filtered). kept (x .bits) i) (filter-is r a)
+    bits-are r a = ap (λ (x : Filtered). x .bits) (filter-is r a)
 
     -- "For every position, a ring partner of q is kept."
-    pub kept-partner : (r : Filtered) → FilterAnswers P Q j r → ringPair (pointsOf P) (pointsOf Q) j i ≡ true → kept (r .bits) i ≡ true
-    kept-partner r a e = bits-are r a ∙ of-walk.kept-partner 16 P Q (facts P p-opens) (fits P p-opens) j i j-in i-in e
+    pub kept-partner : (r : Filtered) → FilterAnswers P Q j r → (i : ℕ) → i < points P → ringPair (pointsOf P) (pointsOf Q) j i ≡ true → kept (r .bits) i ≡ true
+    kept-partner r a i i-in e =
+        ap (λ (x : List ℕ). kept x i) (bits-are r a) ∙ of-walk.kept-partner 16 P Q (facts P p-opens) (fits P p-opens) j i j-in i-in e
 
-    -- "(q, p) is a ring pair when no other record of P or Q blocks it": the ring walk is clear exactly then.
-    pub clear-iff : (r : Walked) → RingAnswers P Q j i r → walkedClear r ≡ ringPair (pointsOf P) (pointsOf Q) j i
-    clear-iff r a = ap walkedClear (ring-is r a) ∙ of-walk.pair-clear P Q (facts P p-opens) (facts Q q-opens) j i j-in i-in
+    -- "with the number of bits set": the number of positions of P that are kept; "unused bits are 0".
+    pub kept-count : (r : Filtered) → FilterAnswers P Q j r → r .count ≡ cardIn (r .bits) (points P) 0
+    unfolding filteredTo
+    kept-count r a =
+        subst (λ (x : Filtered). x .count ≡ cardIn (x .bits) (points P) 0) (sym (filter-is r a)) (of-walk.count-kept 16 P (spotOf Q j) (facts P p-opens) (fits P p-opens))
 
-    -- "blocked by a point (its set and position)": the record that it names is another than q and p, and blocks.
-    pub point-blocks : (s : Answer) (x : Blocker) → RingAnswers P Q j i (Done s) → s .hit ≡ PointHit x → BlocksPair P Q j i (x .set) (x .position)
-    point-blocks s x a e = of-walk.pair-point P Q (facts P p-opens) (facts Q q-opens) j i x (ap (λ (z : Answer). z .hit) (sym (answer s a)) ∙ e)
-      where
-        answer : (s : Answer) → RingAnswers P Q j i (Done s) → s ≡ pairWalk P Q j i
-        answer s a = let z = ring-is (Done s) a in cc
+    pub kept-unused : (r : Filtered) → FilterAnswers P Q j r → (i : ℕ) → points P ≤ i → at (r .bits) i ≡ 0
+    kept-unused r a i h = ap (λ (x : List ℕ). at x i) (bits-are r a) ∙ of-walk.unused-zero 16 P (spotOf Q j) (facts P p-opens) (fits P p-opens) i h
 
-    -- "or by a box side (its set and node number)": below the node that it names stands such a record.
-    pub side-blocks : (s : Answer) (set v : ℕ) → RingAnswers P Q j i (Done s) → s .hit ≡ Side set v → BlocksPairBelow P Q j i set v
-    side-blocks s set v a e = of-walk.pair-side P Q (facts P p-opens) (facts Q q-opens) j i set v (ap (λ (z : Answer). z .hit) (sym (answer s a)) ∙ e)
-      where
-        answer : (s : Answer) → RingAnswers P Q j i (Done s) → s ≡ pairWalk P Q j i
-        answer s a = let z = ring-is (Done s) a in cc
-
-    -- A ring pair is a kept position whose ring walk is clear, and no other is.
-    pub pair-exact : (f : Filtered) (r : Walked) → FilterAnswers P Q j f → RingAnswers P Q j i r → ringPair (pointsOf P) (pointsOf Q) j i ≡ (kept (f .bits) i && walkedClear r)
-    pair-exact f r a b =
-        of-walk.pair-exact P Q (facts P p-opens) (facts Q q-opens) j i j-in i-in 16 (fits P p-opens) ∙ ap₂ _&&_ (sym (bits-are f a)) (sym (ap walkedClear (ring-is r b)))
-
-    -- "nodes opened never exceed m in one walk of one sheet": the filter walk's,
+    -- "nodes opened never exceed m in one walk of one sheet": the filter walk's.
     pub opened-at-most-m : (r : Filtered) → FilterAnswers P Q j r → r .opened ≤ nodes P
     unfolding filteredTo
     opened-at-most-m r a = subst (λ (x : Filtered). x .opened ≤ nodes P) (sym (filter-is r a)) (of-walk.filter-opened-at-most-m 16 P (spotOf Q j) (facts P p-opens))
 
-    -- and those of the ring walk over Q and over P, the counts of which add up to at most the nodes of both.
-    pub ring-opened-at-most-m : (overQ P Q j i .opened ≤ nodes Q) × (overP P Q j i .opened ≤ nodes P)
-    ring-opened-at-most-m = (of-walk.ring-opened-at-most-m 1 Q (facts Q q-opens) (spotOf Q j) (spotOf P i) j, of-walk.ring-opened-at-most-m 0 P (facts P p-opens) (spotOf Q j) (spotOf P i) i)
+    -- ---- the ring walk for q and p
 
-    pub ring-opened : (s : Answer) → RingAnswers P Q j i (Done s) → s .opened ≤ nodes P + nodes Q
-    ring-opened s a = subst (λ (x : Answer). x .opened ≤ nodes P + nodes Q) (sym (answer s a)) (of-walk.pair-opened P Q (facts P p-opens) (facts Q q-opens) j i)
-      where
-        answer : (s : Answer) → RingAnswers P Q j i (Done s) → s ≡ pairWalk P Q j i
-        answer s a = let z = ring-is (Done s) a in cc
+    module _ (i : ℕ) (i-in : i < points P) where
+      ring-is : (r : Walked) → RingAnswers P Q j i r → r ≡ Done (pairWalk P Q j i)
+      unfolding ringNo
+      ring-is r a =
+          a .promised
+          ∙ sym (ring-given P Q j i (pairWalk P Q j i) (first-passes (sheetsNo P Q) (first (positionNo Q j) (positionNo P i)) sheets ∙ first-passes (positionNo Q j) (positionNo P i) (position-in Q j j-in) ∙ position-in P i i-in) refl)
+
+      answer : (s : Answer) → RingAnswers P Q j i (Done s) → s ≡ pairWalk P Q j i
+      answer s a = let z = ring-is (Done s) a in cc
+
+      -- "(q, p) is a ring pair when no other record of P or Q blocks it": the ring walk is clear exactly then.
+      pub clear-iff : (r : Walked) → RingAnswers P Q j i r → walkedClear r ≡ ringPair (pointsOf P) (pointsOf Q) j i
+      clear-iff r a = ap walkedClear (ring-is r a) ∙ of-walk.pair-clear P Q (facts P p-opens) (facts Q q-opens) j i j-in i-in
+
+      -- "blocked by a point (its set and position)": the record that it names is another than q and p, and blocks.
+      pub point-blocks : (s : Answer) (x : Blocker) → RingAnswers P Q j i (Done s) → s .hit ≡ PointHit x → BlocksPair P Q j i (x .set) (x .position)
+      point-blocks s x a e = of-walk.pair-point P Q (facts P p-opens) (facts Q q-opens) j i x (ap (λ (z : Answer). z .hit) (sym (answer s a)) ∙ e)
+
+      -- "or by a box side (its set and node number)": below the node that it names stands such a record.
+      pub side-blocks : (s : Answer) (set v : ℕ) → RingAnswers P Q j i (Done s) → s .hit ≡ Side set v → BlocksPairBelow P Q j i set v
+      side-blocks s set v a e = of-walk.pair-side P Q (facts P p-opens) (facts Q q-opens) j i set v (ap (λ (z : Answer). z .hit) (sym (answer s a)) ∙ e)
+
+      -- A ring pair is a kept position whose ring walk is clear, and no other is.
+      pub pair-exact : (f : Filtered) (r : Walked) → FilterAnswers P Q j f → RingAnswers P Q j i r → ringPair (pointsOf P) (pointsOf Q) j i ≡ (kept (f .bits) i && walkedClear r)
+      pair-exact f r a b =
+          of-walk.pair-exact P Q (facts P p-opens) (facts Q q-opens) j i j-in i-in 16 (fits P p-opens)
+          ∙ ap₂ _&&_ (sym (ap (λ (x : List ℕ). kept x i) (bits-are f a))) (sym (ap walkedClear (ring-is r b)))
+
+      -- "Q is walked first, then P if Q is clear; the counts add up": each of the two opens at most the nodes of its sheet, and the answer's count is at most the nodes of both.
+      pub ring-opened-at-most-m : (s : Answer) → RingAnswers P Q j i (Done s) → (overQ P Q j i .opened ≤ nodes Q) × (overP P Q j i .opened ≤ nodes P) × (s .opened ≤ nodes P + nodes Q)
+      ring-opened-at-most-m s a =
+          (of-walk.ring-opened-at-most-m 1 Q (facts Q q-opens) (spotOf Q j) (spotOf P i) j, of-walk.ring-opened-at-most-m 0 P (facts P p-opens) (spotOf Q j) (spotOf P i) i, subst (λ (x : Answer). x .opened ≤ nodes P + nodes Q) (sym (answer s a)) (of-walk.pair-opened P Q (facts P p-opens) (facts Q q-opens) j i))
 
   -- ---- pages
 

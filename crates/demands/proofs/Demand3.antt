@@ -15,7 +15,7 @@ use mathlib.Core.Path.{_≡_, refl, sym, ap, subst, _∙_}
 use mathlib.Core.Bool.{true, false}
 use mathlib.Core.Logic.{_⊎_, ⊎-elim}
 use mathlib.Core.List.{List, [], _∷_, List·Memᴰ, List·Memᴰ·head, List·Memᴰ·tail, Memᴰ·append-left}
-use Prim.Native.Nat.{ℕ, zero, suc, _+_, _≤_, _<_}
+use Prim.Native.Nat.{ℕ, _+_, _≤_, _<_}
 use native.Mathlib.Omega.{arith}
 use lib.IntN.{ℤ}
 use lib.ListN.{length, take, drop, take-append-drop}
@@ -42,17 +42,16 @@ use Rattle.ring.specs.declared.Paged.{Paged}
 use Rattle.ring.proofs.NumberLaws.{first-passes}
 use Rattle.ring.proofs.PageLaws.{asked-size, page-answered}
 use Rattle.book.specs.declared.Book.{Book}
-use Rattle.book.specs.declared.Begun.the-variants as begun
 use Rattle.book.specs.declared.Next.the-variants as next
 use Rattle.book.specs.declared.Asked.{Asked}
 use Rattle.book.specs.declared.Taken.{Taken}
-use Rattle.book.specs.Rules.{lastKey, asked, takeNo, taken, takenSlots}
+use Rattle.book.specs.Rules.{lastKey, asked, taken}
 use Rattle.book.specs.World as of-world
 use Rattle.book.specs.World.{World, Honest, Reached, listOf, ownPage}
 use Rattle.book.proofs.Story as of-story
 use Rattle.book.proofs.SliceLaws as of-slice
 use Rattle.book.proofs.TakeLaws as of-take
-use Rattle.demands.specs.Promises.{PageAnswers, BeginAnswers, NextAnswers, TakeAnswers}
+use Rattle.demands.specs.Promises.{NextAnswers, TakeAnswers}
 use Rattle.demands.specs.World.{Editions, PumpSheet, ChamberSheet, bookList, Answered, History, began, took, lent, OwnPage, Asking, stops, asks}
 use Rattle.demands.proofs.Demand1 as demand1
 use Rattle.demands.proofs.Demand2 as demand2
@@ -85,19 +84,12 @@ module _ (w : Editions) where
 
   -- "not altered or invented": a page that was answered is honest
   pub honest : (g : Page) → Answered w g → Honest worldOf g
-  unfolding pageNo pageGiven
+  unfolding pageNo pageGiven sourceOf
   honest g a =
       let no : pageNo (a .P) (a .Q) (a .key) (a .size) ≡ 0 = sym (demand1.page-no (a .P) (a .Q) (a .key) (a .size) (a .r) (a .answers) .0) ∙ a .given in
       let sizes = asked-size (a .key) (a .size) (sym (first-passes (sheetsNo (a .P) (a .Q)) (askedNo (a .key) (a .size)) (sheets (a .P) (a .Q) (a .p-sheet) (a .q-sheet))) ∙ no) in
-      record {
-        of = sourceOf (a .P) (a .Q);
-        after = a .key;
-        size = a .size;
-        some = sizes .0;
-        most = sizes .1;
-        is = a .is ∙ ap (λ (x : Paged). x .page) (a .answers .promised ∙ page-answered (a .P) (a .Q) (a .key) (a .size) no)
-            ∙ ap (λ (l : List Pair). pageOf (sourceOf (a .P) (a .Q)) l (a .key) (a .size)) (list-is (a .P) (a .Q) (a .p-sheet) (a .q-sheet));
-      }
+      of-story.honest-from worldOf (sourceOf (a .P) (a .Q)) (a .key) (a .size) (pointsOf (a .P)) (pointsOf (a .Q)) g (sizes .0) (sizes .1) (sym (a .p-sheet .same)) (sym (a .q-sheet .same))
+      (a .is ∙ ap (λ (x : Paged). x .page) (a .answers .promised ∙ page-answered (a .P) (a .Q) (a .key) (a .size) no))
 
   reached : {b : Book} {s : List Pair} → History w b s → Reached worldOf b s
   reached (began s b slots a) = of-world.began s b slots (sym (a .promised))

@@ -1,10 +1,14 @@
 -- The roof. specs/Promises names what each shipped call promises; the theorems start from these.
+--     Takes       no call asks anything of its arguments
 --     Demand1     every input is answered, by the number that is defined
 --     Demand2     the list is that of the ring rule, and the calls answer for it
 --     Demand3     the book's story, with the pages that the shipped page request answers
 --     Says        where a promise is stated anew, it is the `ensures` of its call
+--     Alike       calls through views, and on arrays, answer as those on slices do, so the theorems hold of them too
 --     Once        one input, one answer, one final state of what was lent
 pub mod Says
+pub mod Alike
+pub mod Takes
 pub mod Once
 pub mod Demand1
 pub mod Demand2

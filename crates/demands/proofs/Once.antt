@@ -2,7 +2,7 @@
 -- Each theorem starts from two answers that the call's promise admits for one input, and ends with their being one. No exception.
 -- Of a view that `open` makes it says all that there is to see: the number, the words covered and where they stand, the counts.
 -- Assumes nothing.
-use mathlib.Core.Path.{_≡_, refl, sym, _∙_}
+use mathlib.Core.Path.{_≡_, refl}
 use mathlib.Core.List.{List}
 use Prim.Native.Nat.{ℕ}
 use lib.IntN.{ℤ}
@@ -18,7 +18,7 @@ use Rattle.ring.specs.declared.Walked.{Walked}
 use Rattle.ring.specs.declared.Paged.{Paged}
 use Rattle.view.specs.declared.Sheet.{Sheet}
 use Rattle.view.specs.declared.Opened.{Opened}
-use Rattle.view.specs.Shown.{shown}
+use Rattle.view.specs.Shown.{shown, openOf}
 use Rattle.book.specs.declared.Book.{Book}
 use Rattle.book.specs.declared.Begun.{Begun}
 use Rattle.book.specs.declared.Asked.{Asked}
@@ -31,7 +31,7 @@ use Rattle.view.proofs.Once as of-view
 use Rattle.book.proofs.Once as of-book
 use Rattle.pack.proofs.Once as of-pack
 use Rattle.marker.proofs.Once as of-marker
-use Rattle.demands.specs.Promises.{OpenAnswers, HeadAnswers, PointAnswers, FilterAnswers, RingAnswers, PageAnswers, PackAnswers, MarkAnswers, BeginAnswers, NextAnswers, TakeAnswers, NextArrayAnswers, TakeArrayAnswers, ViewOpens, ViewPoints, ViewFilters, ViewRings, PointThrough, FilterThrough, RingThrough}
+use Rattle.demands.specs.Promises.{OpenAnswers, HeadAnswers, PointAnswers, FilterAnswers, RingAnswers, PageAnswers, PackAnswers, MarkAnswers, BeginAnswers, NextAnswers, TakeAnswers, NextArrayAnswers, TakeArrayAnswers, ViewOpens, ViewPoints, ViewFilters, ViewRings, ViewPages, OpenHead, PointOpened, PointThrough, FilterThrough, RingThrough, PageThrough}
 
 -- ---- ring
 
@@ -96,6 +96,15 @@ view-filter-once p q j r r′ x y = of-view.filter-once p p q q j r r′ refl re
 pub view-ring-once : (p q : Sheet) (j i : ℕ) (r r′ : Walked) → ViewRings p q j i r → ViewRings p q j i r′ → r ≡ r′
 view-ring-once p q j i r r′ x y = of-view.ring-once p p q q j i r r′ refl refl x y
 
+pub view-page-once : (p q : Sheet) (key : Key) (size : ℕ) (r r′ : Paged) → ViewPages p q key size r → ViewPages p q key size r′ → r ≡ r′
+view-page-once p q key size r r′ x y = of-view.page-once p p q q key size r r′ refl refl x y
+
+pub open-head-once : (w : List ℤ) (r r′ : Head) → OpenHead w r → OpenHead w r′ → r ≡ r′
+open-head-once w r r′ a b = of-ring.head-once w r r′ (a .promised) (b .promised)
+
+pub point-opened-once : (w : RefT (List ℤ)) (i : ℕ) (r r′ : Pointed) → PointOpened w i r → PointOpened w i r′ → r ≡ r′
+point-opened-once w i r r′ a b = of-ring.point-once (openOf w .covers) i r r′ (a .promised) (b .promised)
+
 pub point-through-once : (w : List ℤ) (n m i : ℕ) (r r′ : Pointed) → PointThrough w n m i r → PointThrough w n m i r′ → r ≡ r′
 point-through-once w n m i r r′ a b = of-ring.point-once w i r r′ (a .promised) (b .promised)
 
@@ -104,3 +113,6 @@ filter-through-once P np mp Q nq mq j r r′ a b = of-ring.filter-once P Q j r r
 
 pub ring-through-once : (P : List ℤ) (np mp : ℕ) (Q : List ℤ) (nq mq j i : ℕ) (r r′ : Walked) → RingThrough P np mp Q nq mq j i r → RingThrough P np mp Q nq mq j i r′ → r ≡ r′
 ring-through-once P np mp Q nq mq j i r r′ a b = of-ring.ring-once P Q j i r r′ (a .promised) (b .promised)
+
+pub page-through-once : (P : List ℤ) (np mp : ℕ) (Q : List ℤ) (nq mq : ℕ) (key : Key) (size : ℕ) (r r′ : Paged) → PageThrough P np mp Q nq mq key size r → PageThrough P np mp Q nq mq key size r′ → r ≡ r′
+page-through-once P np mp Q nq mq key size r r′ a b = of-page.page-once P Q key size r r′ (a .promised) (b .promised)

@@ -14,11 +14,13 @@ use ghost.Atoms.{Atoms}
 use contract.Lifetimes.{Lfts}
 use contract.Monad.{Fun, fact}
 use denote.Ref.{RefT}
+use Rattle.list.specs.declared.Key.{Key}
 use Rattle.list.specs.declared.Pair.{Pair}
 use Rattle.list.specs.declared.Page.{Page}
 use Rattle.ring.specs.declared.Pointed.{Pointed}
 use Rattle.ring.specs.declared.Filtered.{Filtered}
 use Rattle.ring.specs.declared.Walked.{Walked}
+use Rattle.ring.specs.declared.Paged.{Paged}
 use Rattle.view.specs.declared.Sheet.{Sheet}
 use Rattle.view.specs.declared.Opened.{Opened}
 use Rattle.book.specs.declared.Book.{Book}
@@ -30,7 +32,8 @@ use Rattle.view.proofs.open as view-open
 use Rattle.view.proofs.point_at as view-point
 use Rattle.view.proofs.filter_walk_at as view-filter
 use Rattle.view.proofs.ring_walk_at as view-ring
-use Rattle.demands.specs.Promises.{Place, slice, NextAnswers, TakeAnswers, ViewOpens, ViewPoints, ViewFilters, ViewRings}
+use Rattle.view.proofs.page_at as view-page
+use Rattle.demands.specs.Promises.{Place, slice, NextAnswers, TakeAnswers, ViewOpens, ViewPoints, ViewFilters, ViewRings, ViewPages}
 
 module _ {M : Type 1} (𝓤 : URA M) (H : Heap 𝓤) (A : Atoms 𝓤) (mem : Memory → SProp 𝓤) (run : Routine → Fun 𝓤) where
   pub next-key-says : (κs : Lfts 1) (l : Place) (b : Book) (s : List Pair) (r : Asked)
@@ -58,3 +61,8 @@ module _ {M : Type 1} (𝓤 : URA M) (H : Heap 𝓤) (A : Atoms 𝓤) (mem : Mem
       → view-ring.ensures-1 𝓤 H κs A mem run p q j i (record { entry = p; exit = p }) (record { entry = q; exit = q }) (record { entry = j; exit = j }) (record { entry = i; exit = i }) r
       ≡ fact 𝓤 (ViewRings p q j i r)
   view-ring-says κs p q j i r = refl
+
+  pub view-page-says : (κs : Lfts 2) (p q : Sheet) (key : Key) (size : ℕ) (r : Paged)
+      → view-page.ensures-1 𝓤 H κs A mem run p q key size (record { entry = p; exit = p }) (record { entry = q; exit = q }) (record { entry = key; exit = key }) (record { entry = size; exit = size }) r
+      ≡ fact 𝓤 (ViewPages p q key size r)
+  view-page-says κs p q key size r = refl

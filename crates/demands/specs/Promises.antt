@@ -3,7 +3,7 @@
 --
 -- `Post` of a call is its `ensures`, read as a plain claim: of the lifetimes κs of what is lent, the arguments, the answer, and the arguments at exit.
 -- Words and slots that are lent are lists that stand at some place of memory, and no promise depends on the place.
--- The calls over slices of records (`Book::next_key`, `Book::take`) and over views (`view::open`, `point_at`, `filter_walk_at`, `ring_walk_at`) have no such reading.
+-- The calls over slices of records (`Book::next_key`, `Book::take`) and over views (`view::open`, `point_at`, `filter_walk_at`, `ring_walk_at`, `page_at`) have no such reading.
 -- Theirs is stated here, and proofs/Says shows that it is their `ensures`, word for word.
 use mathlib.Core.Path.{_≡_}
 use mathlib.Core.List.{List}
@@ -17,6 +17,7 @@ use Rattle.list.specs.declared.Pair.{Pair}
 use Rattle.list.specs.declared.Source.{Source}
 use Rattle.list.specs.declared.Page.{Page}
 use Rattle.ring.specs.Answers.{pointed, filtered, walked}
+use Rattle.ring.specs.Page.{pageAnswer}
 use Rattle.ring.specs.declared.Head.{Head}
 use Rattle.ring.specs.declared.Pointed.{Pointed}
 use Rattle.ring.specs.declared.Filtered.{Filtered}
@@ -43,9 +44,12 @@ use Rattle.marker.proofs.mark.Reads as mark
 use Rattle.book.proofs.Book.begin.Reads as begin
 use Rattle.book.proofs.take_array.Reads as take-array
 use Rattle.book.proofs.next_array.Reads as next-array
+use Rattle.view.proofs.open_head.Reads as open-head
+use Rattle.view.proofs.point_opened.Reads as point-opened
 use Rattle.view.proofs.point_through.Reads as point-through
 use Rattle.view.proofs.filter_walk_through.Reads as filter-walk-through
 use Rattle.view.proofs.ring_walk_through.Reads as ring-walk-through
+use Rattle.view.proofs.page_through.Reads as page-through
 
 -- where something that is lent stands: its address, and the name by which its contents are followed
 pub record Place : Type 0 where
@@ -154,6 +158,21 @@ ViewFilters p q j r = r ≡ filtered (now (p .words)) (now (q .words)) j
 abbrev pub ViewRings : Sheet → Sheet → ℕ → ℕ → Walked → Type 0
 ViewRings p q j i r = r ≡ walked (now (p .words)) (now (q .words)) j i
 
+-- `view::page_at(p, q, key, size)` answers r
+abbrev pub ViewPages : Sheet → Sheet → Key → ℕ → Paged → Type 0
+ViewPages p q key size r = r ≡ pageAnswer (now (p .words)) (now (q .words)) key size
+
+-- `view::open_head(w)` answers h
+pub record OpenHead (w : List ℤ) (h : Head) : Type 0 where
+  pub κs : Lfts 1
+  pub w-at : Place
+  pub promised : open-head.Post κs (slice w-at w, tt) h (slice w-at w, tt)
+
+-- `view::point_opened(w, position)` answers r
+pub record PointOpened (w : RefT (List ℤ)) (position : ℕ) (r : Pointed) : Type 0 where
+  pub κs : Lfts 1
+  pub promised : point-opened.Post κs (w, (position, tt)) r (w, (position, tt))
+
 -- `view::point_through(w, n, m, position)` answers r
 pub record PointThrough (w : List ℤ) (n m position : ℕ) (r : Pointed) : Type 0 where
   pub κs : Lfts 1
@@ -179,3 +198,13 @@ pub record RingThrough (P : List ℤ) (np mp : ℕ) (Q : List ℤ) (nq mq j i : 
       (slice p-at P, (np, (mp, (slice q-at Q, (nq, (mq, (j, (i, tt))))))))
       r
       (slice p-at P, (np, (mp, (slice q-at Q, (nq, (mq, (j, (i, tt))))))))
+
+-- `view::page_through(P, np, mp, Q, nq, mq, key, size)` answers r
+pub record PageThrough (P : List ℤ) (np mp : ℕ) (Q : List ℤ) (nq mq : ℕ) (key : Key) (size : ℕ) (r : Paged) : Type 0 where
+  pub κs : Lfts 2
+  pub p-at : Place
+  pub q-at : Place
+  pub promised : page-through.Post κs
+      (slice p-at P, (np, (mp, (slice q-at Q, (nq, (mq, (key, (size, tt))))))))
+      r
+      (slice p-at P, (np, (mp, (slice q-at Q, (nq, (mq, (key, (size, tt))))))))

@@ -1,0 +1,77 @@
+-- The calls of `view` promise what the calls of `ring` promise of the words that the views cover: "a view handed in included, its counts read anew from its words". So
+-- each theorem of Demand1, Demand2 and Demand3 on an answer of `ring` holds of theirs. And so for a book whose slots are kept in an array.
+-- Assumes nothing.
+use mathlib.Core.Path.{_≡_, ap}
+use mathlib.Core.List.{List, [], _++_}
+use Prim.Native.Nat.{ℕ}
+use lib.IntN.{ℤ}
+use lib.ListN.{take, drop}
+use denote.Ref.{RefT, now}
+use Rattle.list.specs.declared.Key.{Key}
+use Rattle.list.specs.declared.Pair.{Pair}
+use Rattle.list.specs.declared.Page.{Page}
+use Rattle.ring.specs.declared.Head.{Head}
+use Rattle.ring.specs.declared.Pointed.{Pointed}
+use Rattle.ring.specs.declared.Filtered.{Filtered}
+use Rattle.ring.specs.declared.Walked.{Walked}
+use Rattle.ring.specs.declared.Paged.{Paged}
+use Rattle.view.specs.declared.Sheet.{Sheet}
+use Rattle.view.specs.Shown.{openOf}
+use Rattle.book.specs.declared.Book.{Book}
+use Rattle.book.specs.declared.Asked.{Asked}
+use Rattle.book.specs.declared.TakenArray.{TakenArray}
+use Rattle.book.specs.Rules.{takenSlots, lentOf, takenArray}
+use Rattle.demands.specs.Promises.{Place, HeadAnswers, PointAnswers, FilterAnswers, RingAnswers, PageAnswers, NextAnswers, TakeAnswers, NextArrayAnswers, TakeArrayAnswers, ViewPoints, ViewFilters, ViewRings, ViewPages, OpenHead, PointOpened, PointThrough, FilterThrough, RingThrough, PageThrough}
+
+-- ---- through a view
+
+place : RefT (List ℤ) → Place
+place w = record { address = w .ptr; name = w .name }
+
+pub view-point : (d : Sheet) (i : ℕ) (r : Pointed) → ViewPoints d i r → PointAnswers (now (d .words)) i r
+view-point d i r a = record { κs = ([], tt); w-at = place (d .words); promised = a }
+
+pub view-filter : (p q : Sheet) (j : ℕ) (r : Filtered) → ViewFilters p q j r → FilterAnswers (now (p .words)) (now (q .words)) j r
+view-filter p q j r a = record { κs = ([], ([], tt)); p-at = place (p .words); q-at = place (q .words); promised = a }
+
+pub view-ring : (p q : Sheet) (j i : ℕ) (r : Walked) → ViewRings p q j i r → RingAnswers (now (p .words)) (now (q .words)) j i r
+view-ring p q j i r a = record { κs = ([], ([], tt)); p-at = place (p .words); q-at = place (q .words); promised = a }
+
+pub view-page : (p q : Sheet) (key : Key) (size : ℕ) (r : Paged) → ViewPages p q key size r → PageAnswers (now (p .words)) (now (q .words)) key size r
+view-page p q key size r a = record { κs = ([], ([], tt)); p-at = place (p .words); q-at = place (q .words); promised = a }
+
+-- ---- for callers that hold no view
+
+pub open-head : (w : List ℤ) (h : Head) → OpenHead w h → HeadAnswers w h
+open-head w h a = record { κs = a .κs; w-at = a .w-at; promised = a .promised }
+
+-- of the words that the view covers which `open` gives: none, where they are no sheet
+pub point-opened : (w : RefT (List ℤ)) (i : ℕ) (r : Pointed) → PointOpened w i r → PointAnswers (openOf w .covers) i r
+point-opened w i r a = record { κs = a .κs; w-at = place w; promised = a .promised }
+
+-- whatever counts the view claims
+pub point-through : (w : List ℤ) (n m i : ℕ) (r : Pointed) → PointThrough w n m i r → PointAnswers w i r
+point-through w n m i r a = record { κs = a .κs; w-at = a .w-at; promised = a .promised }
+
+pub filter-through : (P : List ℤ) (np mp : ℕ) (Q : List ℤ) (nq mq j : ℕ) (r : Filtered) → FilterThrough P np mp Q nq mq j r → FilterAnswers P Q j r
+filter-through P np mp Q nq mq j r a = record { κs = a .κs; p-at = a .p-at; q-at = a .q-at; promised = a .promised }
+
+pub ring-through : (P : List ℤ) (np mp : ℕ) (Q : List ℤ) (nq mq j i : ℕ) (r : Walked) → RingThrough P np mp Q nq mq j i r → RingAnswers P Q j i r
+ring-through P np mp Q nq mq j i r a = record { κs = a .κs; p-at = a .p-at; q-at = a .q-at; promised = a .promised }
+
+pub page-through : (P : List ℤ) (np mp : ℕ) (Q : List ℤ) (nq mq : ℕ) (key : Key) (size : ℕ) (r : Paged) → PageThrough P np mp Q nq mq key size r → PageAnswers P Q key size r
+page-through P np mp Q nq mq key size r a = record { κs = a .κs; p-at = a .p-at; q-at = a .q-at; promised = a .promised }
+
+-- ---- slots kept in an array: the first so many are lent, the others are as they were
+
+pub next-array : (slots : List Pair) (len : ℕ) (b : Book) (r : Asked) → NextArrayAnswers slots len b r → NextAnswers b (take (lentOf len) slots) r
+next-array slots len b r a = a .promised
+
+module _ (slots : List Pair) (len : ℕ) (b : Book) (g : Page) (r : TakenArray) (a : TakeArrayAnswers slots len b g r) where
+  pub take-array : TakeAnswers b (take (lentOf len) slots) g (r .taken) (takenSlots b (take (lentOf len) slots) g)
+  unfolding takenArray
+  take-array = (ap (λ (x : TakenArray). x .taken) (a .promised), λ t. takenSlots b (take (lentOf len) slots) g)
+
+  pub take-array-slots : r .slots ≡ takenSlots b (take (lentOf len) slots) g ++ drop (lentOf len) slots
+  unfolding takenArray
+  take-array-slots = ap (λ (x : TakenArray). x .slots) (a .promised)
