@@ -1,0 +1,47 @@
+use mathlib.Core.Path.{_≡_}
+use lib.ListN.{length}
+use Prim.Native.Nat.{_≤_, _-_}
+use borrow.Author.Needs.{needs}
+use Rattle.compare.proofs.make_points.Statement.{statement}
+use Rattle.compare.proofs.make_points.Tie as tie
+
+abbrev Inv-loop : tie.InvT-loop
+Inv-loop out₀ n kind seed x₀ k₀ out x k = (length out ≡ length out₀) × (k ≤ n)
+
+abbrev μ-loop : tie.MeasureT-loop
+μ-loop out₀ n kind seed x₀ k₀ out x k = n - k
+
+loop-holds : tie.Need-loop-holds Inv-loop μ-loop
+loop-holds c = search needs
+
+put-point-requires : tie.Need-put-point-requires Inv-loop μ-loop
+put-point-requires c κs = search needs
+
+add-k : tie.Need-add-k Inv-loop μ-loop
+add-k c = search needs
+
+loop-less : tie.Need-loop-less Inv-loop μ-loop
+loop-less c = search needs
+
+loop-again : tie.Need-loop-again Inv-loop μ-loop
+loop-again c = search needs
+
+same-length : tie.Need-same-length Inv-loop μ-loop
+same-length c = search needs
+
+returns : tie.Need-returns Inv-loop μ-loop
+returns c = search needs
+
+pub make-points-spec : {M : Type 1} → statement M
+make-points-spec =
+    tie.close
+    (tie.spec
+    Inv-loop
+    μ-loop
+    loop-holds
+    put-point-requires
+    add-k
+    loop-less
+    loop-again
+    same-length
+    returns)

@@ -1,0 +1,55 @@
+use mathlib.Core.Path.{_≡_}
+use lib.ListN.{length}
+use Prim.Native.Nat.{_≤_, _-_}
+use borrow.Author.Needs.{needs}
+use Rattle.compare.proofs.shuffle.Statement.{statement}
+use Rattle.compare.proofs.shuffle.Tie as tie
+
+abbrev Inv-loop : tie.InvT-loop
+Inv-loop out₀ n seed x₀ k₀ out x k = (length out ≡ length out₀) × (k ≤ n)
+
+abbrev μ-loop : tie.MeasureT-loop
+μ-loop out₀ n seed x₀ k₀ out x k = n - k
+
+loop-holds : tie.Need-loop-holds Inv-loop μ-loop
+loop-holds c = search needs
+
+mixed-requires : tie.Need-mixed-requires Inv-loop μ-loop
+mixed-requires c κs = search needs
+
+drawn-requires : tie.Need-drawn-requires Inv-loop μ-loop
+drawn-requires c κs = search needs
+
+exchange-requires : tie.Need-exchange-requires Inv-loop μ-loop
+exchange-requires c κs = search needs
+
+add-k : tie.Need-add-k Inv-loop μ-loop
+add-k c = search needs
+
+loop-less : tie.Need-loop-less Inv-loop μ-loop
+loop-less c = search needs
+
+loop-again : tie.Need-loop-again Inv-loop μ-loop
+loop-again c = search needs
+
+same-length : tie.Need-same-length Inv-loop μ-loop
+same-length c = search needs
+
+returns : tie.Need-returns Inv-loop μ-loop
+returns c = search needs
+
+pub shuffle-spec : {M : Type 1} → statement M
+shuffle-spec =
+    tie.close
+    (tie.spec
+    Inv-loop
+    μ-loop
+    loop-holds
+    mixed-requires
+    drawn-requires
+    exchange-requires
+    add-k
+    loop-less
+    loop-again
+    same-length
+    returns)
