@@ -1,0 +1,195 @@
+/* The proved calls and their plain C twins, on the same sheets in one process. Prints a line for each measure: its name, what was measured on, how long each
+   took in nanoseconds (the best of several runs), and whether their answers agree. */
+#include "../include/ring.h"
+#include "twins.h"
+
+typedef struct { long sec, nsec; } moment;
+int clock_gettime(int clock, moment *at);
+int printf(const char *format, ...);
+void *malloc(unsigned long size);
+
+#define MOST 1000
+#define ROOM (5 * MOST + 7 * 400 + 6)
+#define PAIRS 100000
+
+static unsigned long long state = 88172645463325252ull;
+static unsigned draw(unsigned below)
+{
+    state ^= state << 13; state ^= state >> 7; state ^= state << 17;
+    return (unsigned)(state % below);
+}
+
+static long now(void) { moment m; clock_gettime(1, &m); return m.sec * 1000000000l + m.nsec; }
+
+/* ---- points and their order */
+
+static int points[3 * MOST];
+static int order[MOST];
+
+static int clamp(int v) { return v < -1000000 ? -1000000 : v > 1000000 ? 1000000 : v; }
+
+static void uniform(int n) { for (int i = 0; i < n; i++) { points[3 * i + 1] = (int)draw(2000001) - 1000000; points[3 * i + 2] = (int)draw(2000001) - 1000000; } }
+
+static void clustered(int n)
+{
+    int x = 0, y = 0;
+    for (int i = 0; i < n; i++) {
+        if (i % 25 == 0) { x = (int)draw(1800001) - 900000; y = (int)draw(1800001) - 900000; }
+        points[3 * i + 1] = clamp(x + (int)draw(20001) + (int)draw(20001) - 20000);
+        points[3 * i + 2] = clamp(y + (int)draw(20001) + (int)draw(20001) - 20000);
+    }
+}
+
+static void grid(int n)
+{
+    for (int i = 0; i < n; i++) { points[3 * i + 1] = (int)draw(60) * 1000; points[3 * i + 2] = (int)draw(60) * 1000; }
+}
+
+static int before(int axis, int a, int b)
+{
+    int u = points[3 * a + axis], v = points[3 * b + axis];
+    return u < v || (u == v && a < b);
+}
+
+static void sort(int *at, int n, int axis)
+{
+    for (int gap = n / 2; gap; gap /= 2)
+        for (int i = gap; i < n; i++) {
+            int v = at[i], k = i;
+            for (; k >= gap && before(axis, v, at[k - gap]); k -= gap) at[k] = at[k - gap];
+            at[k] = v;
+        }
+}
+
+/* sort-tile-recursive: slices by x, each by y */
+static void tile(int n)
+{
+    int leaves = (n + 15) / 16, slices = 1;
+    while (slices * slices < leaves) slices++;
+    int deep = 16 * ((leaves + slices - 1) / slices);
+    for (int i = 0; i < n; i++) order[i] = i;
+    sort(order, n, 1);
+    for (int at = 0; at < n; at += deep) sort(order + at, n - at < deep ? n - at : deep, 2);
+}
+
+static unsigned long size_of(unsigned long n)
+{
+    unsigned long m = 0;
+    for (unsigned long k = n; k;) { k = (k + 15) / 16; m += k; if (k == 1) break; }
+    return 5 * n + 7 * m + 6;
+}
+
+typedef struct { int words[ROOM]; unsigned long len; } packed;
+
+/* ---- measures */
+
+static void tell(const char *what, const char *kind, int n, long proved, long twin, int agree)
+{
+    printf("%s %s %d %ld %ld %s\n", what, kind, n, proved, twin, agree ? "agree" : "DIFFER");
+}
+
+#define BEST(runs, best, work) do { best = 1l << 62; for (int run = 0; run < (runs); run++) { long begun = now(); work; long took = now() - begun; if (took < best) best = took; } } while (0)
+
+static void packing(const char *kind, int n, packed *s, unsigned edition)
+{
+    static packed other;
+    long proved, twin;
+    unsigned a = 1, b = 1;
+    s->len = other.len = size_of((unsigned long)n);
+    BEST(200, proved, a = ring_pack((size_t)n, points, 3 * (size_t)n, order, (size_t)n, edition, s->words, s->len));
+    BEST(200, twin, b = twin_pack((unsigned long)n, points, order, edition, other.words, other.len));
+    int agree = a == 0 && b == 0;
+    for (unsigned long i = 0; i < s->len; i++) agree &= s->words[i] == other.words[i];
+    tell("packing", kind, n, proved, twin, agree);
+}
+
+static void opening(const char *kind, int n, const packed *s)
+{
+    long proved, twin;
+    unsigned a = 1, b = 1;
+    BEST(200, proved, a = ring_open(s->words, s->len).number);
+    BEST(200, twin, b = twin_open(s->words, s->len));
+    tell("opening", kind, n, proved, twin, a == 0 && b == 0);
+}
+
+static twin_pair mine[PAIRS], theirs[PAIRS], brutes[PAIRS];
+static unsigned long mine_opened, theirs_opened;
+
+static unsigned long list_proved(const packed *p, const packed *q, unsigned long size)
+{
+    ring_key key = {0, 0};
+    unsigned long count = 0;
+    mine_opened = 0;
+    for (;;) {
+        ring_paged r = ring_page(p->words, p->len, q->words, q->len, key, size);
+        if (r.number) return ~0ul;
+        mine_opened += r.opened;
+        for (unsigned long k = 0; k < r.page.count; k++) { mine[count].q = r.page.pairs[k].q; mine[count].p = r.page.pairs[k].p; count++; }
+        if (r.page.end) return count;
+        key.q = mine[count - 1].q; key.p = mine[count - 1].p;
+    }
+}
+
+static unsigned long list_twin(const packed *p, const packed *q, unsigned long size)
+{
+    twin_pair key = {0, 0};
+    unsigned long count = 0;
+    theirs_opened = 0;
+    for (;;) {
+        twin_page_answer r = twin_page(p->words, p->len, q->words, q->len, key, size);
+        if (r.number) return ~0ul;
+        theirs_opened += r.opened;
+        for (unsigned long k = 0; k < r.count; k++) theirs[count++] = r.pairs[k];
+        if (r.end) return count;
+        key = theirs[count - 1];
+    }
+}
+
+static int same(const twin_pair *a, const twin_pair *b, unsigned long n)
+{
+    for (unsigned long i = 0; i < n; i++) if (a[i].q != b[i].q || a[i].p != b[i].p) return 0;
+    return 1;
+}
+
+static void listing(const char *kind, int n, const packed *p, const packed *q)
+{
+    long proved, twin, brute;
+    unsigned long a = 0, b = 0, c = 0;
+    int runs = n >= 1000 ? 5 : 20;
+    BEST(runs, proved, a = list_proved(p, q, 16));
+    BEST(runs, twin, b = list_twin(p, q, 16));
+    tell("list", kind, n, proved, twin, a == b && mine_opened == theirs_opened && same(mine, theirs, a));
+    BEST(n >= 1000 ? 3 : runs, brute, c = twin_brute(p->words, p->len, q->words, q->len, brutes, PAIRS));
+    tell("list-brute", kind, n, proved, brute, a == c && same(mine, brutes, a));
+    ring_key key = {a ? mine[a / 2].q : 0, a ? mine[a / 2].p : 0};
+    twin_pair twin_key = {key.q, key.p};
+    static ring_paged r; static twin_page_answer t;
+    BEST(50, proved, r = ring_page(p->words, p->len, q->words, q->len, key, 16));
+    BEST(50, twin, t = twin_page(p->words, p->len, q->words, q->len, twin_key, 16));
+    int agree = r.number == 0 && t.number == 0 && r.opened == t.opened && r.page.count == t.count && !r.page.end == !t.end;
+    for (unsigned long k = 0; k < t.count && agree; k++) agree = r.page.pairs[k].q == t.pairs[k].q && r.page.pairs[k].p == t.pairs[k].p;
+    tell("page", kind, n, proved, twin, agree);
+}
+
+typedef void (*maker)(int);
+
+int main(void)
+{
+    static const char *kinds[] = {"uniform", "clustered", "grid"};
+    static const maker makers[] = {uniform, clustered, grid};
+    static const int sizes[] = {100, 300, 1000};
+    static packed p, q;
+    for (int k = 0; k < 3; k++)
+        for (int s = 0; s < 3; s++) {
+            int n = sizes[s];
+            for (int side = 0; side < 2; side++) {
+                makers[k](n);
+                for (int i = 0; i < n; i++) points[3 * i] = 10 * i + 1 + side;
+                tile(n);
+                packing(kinds[k], n, side ? &q : &p, 7 + 2 * (unsigned)side);
+            }
+            opening(kinds[k], n, &p);
+            listing(kinds[k], n, &p, &q);
+        }
+    return 0;
+}

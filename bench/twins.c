@@ -1,0 +1,247 @@
+#include "twins.h"
+
+typedef long long i64;
+typedef unsigned long long u64;
+typedef struct { i64 x, y; } spot;
+typedef struct { const twin_word *w; twin_size n, m; } sheet;
+
+/* ---- opening */
+
+static int within(i64 v, i64 lo, i64 hi) { return lo <= v && v <= hi; }
+
+static int points_ok(const twin_word *w, twin_size n)
+{
+    for (twin_size i = 0; i < n; i++) {
+        const twin_word *p = w + 3 * i;
+        if (!within(p[0], 1, 2000000000) || !within(p[1], -1000000, 1000000) || !within(p[2], -1000000, 1000000)) return 0;
+        if (i && p[-3] >= p[0]) return 0;
+    }
+    return 1;
+}
+
+static int order_ok(const twin_word *w, twin_size n)
+{
+    const twin_word *order = w + 3 * n, *rank = w + 4 * n;
+    for (twin_size i = 0; i < n; i++)
+        if (order[i] < 0 || (twin_size)order[i] >= n || rank[i] < 0 || (twin_size)rank[i] >= n || order[rank[i]] != (twin_word)i) return 0;
+    return 1;
+}
+
+static int nodes_ok(const twin_word *w, twin_size n, twin_size m)
+{
+    const twin_word *t = w + 5 * n;
+    twin_size level = 0, head = 0, next = 0, top = n;
+    if ((n == 0) != (m == 0)) return 0;
+    for (twin_size j = 0; j < m; j++) {
+        const twin_word *a = t + 7 * j;
+        if (level > 7 || a[0] != (twin_word)level || a[1] != (twin_word)next || a[2] < 1 || a[2] > 16) return 0;
+        next += (twin_size)a[2];
+        int last = j + 1 == m || a[7] != a[0];
+        if (last) {
+            if (next != top || (head == j) != (j + 1 == m)) return 0;
+            level++; next = head; head = j + 1; top = j + 1;
+        }
+    }
+    return 1;
+}
+
+static int boxes_ok(const twin_word *w, twin_size n, twin_size m)
+{
+    const twin_word *order = w + 3 * n, *t = w + 5 * n;
+    for (twin_size j = 0; j < m; j++) {
+        const twin_word *a = t + 7 * j;
+        twin_word box[4];
+        for (twin_word k = a[1]; k < a[1] + a[2]; k++) {
+            twin_word part[4];
+            if (a[0] == 0) {
+                const twin_word *p = w + 3 * order[k];
+                part[0] = part[2] = p[1]; part[1] = part[3] = p[2];
+            } else {
+                for (int s = 0; s < 4; s++) part[s] = t[7 * k + 3 + s];
+            }
+            for (int s = 0; s < 4; s++)
+                if (k == a[1] || (s < 2 ? part[s] < box[s] : part[s] > box[s])) box[s] = part[s];
+        }
+        for (int s = 0; s < 4; s++) if (box[s] != a[3 + s]) return 0;
+    }
+    return 1;
+}
+
+unsigned twin_open(const twin_word *w, twin_size len)
+{
+    if (len < 6) return 1;
+    const twin_word *t = w + len - 6;
+    if (t[5] != 1) return 2;
+    if (!within(t[2], 0, 1000) || !within(t[3], 0, 400) || !within(t[4], 1, 1000000000)) return 3;
+    twin_size n = (twin_size)t[2], m = (twin_size)t[3], span = 5 * n + 7 * m;
+    if (t[0] != (twin_word)span || t[1] != (m ? 7 : 0) || len != span + 6) return 4;
+    if (!points_ok(w, n)) return 5;
+    if (!order_ok(w, n)) return 6;
+    if (!nodes_ok(w, n, m)) return 7;
+    if (!boxes_ok(w, n, m)) return 8;
+    return 0;
+}
+
+/* ---- packing */
+
+unsigned twin_pack(twin_size n, const twin_word *points, const twin_word *order, unsigned edition, twin_word *out, twin_size len)
+{
+    unsigned char seen[1000] = {0};
+    if (n > 1000 || edition < 1 || edition > 1000000000) return 3;
+    if (!points_ok(points, n)) return 5;
+    for (twin_size k = 0; k < n; k++) {
+        if (order[k] < 0 || (twin_size)order[k] >= n || seen[order[k]]) return 6;
+        seen[order[k]] = 1;
+    }
+    twin_size m = 0;
+    for (twin_size k = n; k;) { k = (k + 15) / 16; m += k; if (k == 1) break; }
+    if (len != 5 * n + 7 * m + 6) return 17;
+    for (twin_size i = 0; i < 3 * n; i++) out[i] = points[i];
+    for (twin_size k = 0; k < n; k++) { out[3 * n + k] = order[k]; out[4 * n + order[k]] = (twin_word)k; }
+    twin_word *t = out + 5 * n;
+    twin_size level = 0, head = 0, next = 0, top = n;
+    for (twin_size j = 0; j < m; j++) {
+        twin_size count = next + 16 < top ? 16 : top - next;
+        twin_word *a = t + 7 * j;
+        a[0] = (twin_word)level; a[1] = (twin_word)next; a[2] = (twin_word)count;
+        for (twin_size k = next; k < next + count; k++) {
+            twin_word part[4];
+            if (level == 0) {
+                const twin_word *p = points + 3 * order[k];
+                part[0] = part[2] = p[1]; part[1] = part[3] = p[2];
+            } else {
+                for (int s = 0; s < 4; s++) part[s] = t[7 * k + 3 + s];
+            }
+            for (int s = 0; s < 4; s++)
+                if (k == next || (s < 2 ? part[s] < a[3 + s] : part[s] > a[3 + s])) a[3 + s] = part[s];
+        }
+        next += count;
+        if (next == top) { level++; next = head; head = j + 1; top = j + 1; }
+    }
+    twin_word *e = t + 7 * m;
+    e[0] = (twin_word)(5 * n + 7 * m); e[1] = m ? 7 : 0; e[2] = (twin_word)n; e[3] = (twin_word)m; e[4] = (twin_word)edition; e[5] = 1;
+    return 0;
+}
+
+/* ---- the walks */
+
+static spot spot_at(const sheet *s, twin_size i) { const twin_word *p = s->w + 3 * i; spot z = {p[1], p[2]}; return z; }
+static i64 dot(spot a, spot b, spot z) { return (a.x - z.x) * (b.x - z.x) + (a.y - z.y) * (b.y - z.y); }
+
+typedef struct { u64 bits[16]; u64 opened; twin_size last; } kept;
+
+static int drops_box(spot q, spot p, const twin_word *o)
+{
+    spot a = {o[0], o[1]}, b = {o[0], o[3]}, c = {o[2], o[1]}, d = {o[2], o[3]};
+    return (dot(q, a, p) <= 0) & (dot(q, b, p) <= 0) & (dot(q, c, p) <= 0) & (dot(q, d, p) <= 0);
+}
+
+/* Whether a kept point drops the box (or the point z where o is null): the one that dropped last is tried first. */
+static int dropped(const sheet *s, spot q, kept *k, const twin_word *o, spot z)
+{
+    if (k->last < s->n) {
+        spot p = spot_at(s, k->last);
+        if (o ? drops_box(q, p, o) : dot(q, z, p) <= 0) return 1;
+    }
+    for (twin_size w = 0; w < 16; w++) {
+        for (u64 b = k->bits[w]; b; b &= b - 1) {
+            twin_size i = 64 * w + (twin_size)__builtin_ctzll(b);
+            spot p = spot_at(s, i);
+            if (o ? drops_box(q, p, o) : dot(q, z, p) <= 0) { k->last = i; return 1; }
+        }
+    }
+    return 0;
+}
+
+static void filter_node(const sheet *s, spot q, twin_size j, kept *k)
+{
+    const twin_word *a = s->w + 5 * s->n + 7 * j;
+    spot none = {0, 0};
+    if (dropped(s, q, k, a + 3, none)) return;
+    k->opened++;
+    for (twin_word c = a[1]; c < a[1] + a[2]; c++) {
+        if (a[0]) { filter_node(s, q, (twin_size)c, k); continue; }
+        twin_size i = (twin_size)s->w[3 * s->n + (twin_size)c];
+        if (!dropped(s, q, k, 0, spot_at(s, i))) k->bits[i / 64] |= 1ull << (i % 64);
+    }
+}
+
+static u64 out_of(i64 lo, i64 hi, i64 c) { i64 d = c < lo ? lo - c : c > hi ? c - hi : 0; return (u64)d * (u64)d; }
+
+/* 1 where something blocks */
+static int ring_node(const sheet *s, spot a, spot b, twin_size end, twin_size j, u64 *opened)
+{
+    const twin_word *t = s->w + 5 * s->n + 7 * j, *o = t + 3;
+    u64 d = (u64)dot(a, a, b);
+    if (out_of(2 * (i64)o[0], 2 * (i64)o[2], a.x + b.x) + out_of(2 * (i64)o[1], 2 * (i64)o[3], a.y + b.y) > d) return 0;
+    spot ll = {o[0], o[1]}, lh = {o[0], o[3]}, hl = {o[2], o[1]}, hh = {o[2], o[3]};
+    int i0 = dot(a, b, ll) < 0, i1 = dot(a, b, lh) < 0, i2 = dot(a, b, hl) < 0, i3 = dot(a, b, hh) < 0;
+    if ((i0 & i1) | (i0 & i2) | (i2 & i3) | (i1 & i3)) return 1;
+    (*opened)++;
+    for (twin_word c = t[1]; c < t[1] + t[2]; c++) {
+        if (t[0]) {
+            if (ring_node(s, a, b, end, (twin_size)c, opened)) return 1;
+            continue;
+        }
+        twin_size i = (twin_size)s->w[3 * s->n + (twin_size)c];
+        if (i != end && dot(a, b, spot_at(s, i)) <= 0) return 1;
+    }
+    return 0;
+}
+
+static sheet sheet_of(const twin_word *w, twin_size len)
+{
+    sheet s = {w, (twin_size)w[len - 4], (twin_size)w[len - 3]};
+    return s;
+}
+
+twin_page_answer twin_page(const twin_word *pw, twin_size plen, const twin_word *qw, twin_size qlen, twin_pair key, twin_size size)
+{
+    twin_page_answer r = {0};
+    if ((r.number = twin_open(pw, plen)) || (r.number = twin_open(qw, qlen))) return r;
+    sheet p = sheet_of(pw, plen), q = sheet_of(qw, qlen);
+    for (twin_size j = 0; j < q.n; j++) {
+        unsigned qid = (unsigned)q.w[3 * j];
+        if (qid < key.q) continue;
+        spot a = spot_at(&q, j);
+        kept k = {{0}, 0, ~0ul};
+        if (p.m) filter_node(&p, a, p.m - 1, &k);
+        r.opened += k.opened;
+        for (twin_size w = 0; w < 16; w++) {
+            for (u64 b = k.bits[w]; b; b &= b - 1) {
+                twin_size i = 64 * w + (twin_size)__builtin_ctzll(b);
+                unsigned pid = (unsigned)p.w[3 * i];
+                if (qid == key.q && pid <= key.p) continue;
+                spot z = spot_at(&p, i);
+                u64 opened = 0;
+                int hit = ring_node(&q, a, z, j, q.m - 1, &opened) || ring_node(&p, a, z, i, p.m - 1, &opened);
+                r.opened += opened;
+                if (hit) continue;
+                if (r.count == size) return r;
+                twin_pair v = {qid, pid};
+                r.pairs[r.count++] = v;
+            }
+        }
+    }
+    r.end = 1;
+    return r;
+}
+
+twin_size twin_brute(const twin_word *pw, twin_size plen, const twin_word *qw, twin_size qlen, twin_pair *out, twin_size room)
+{
+    sheet p = sheet_of(pw, plen), q = sheet_of(qw, qlen);
+    twin_size count = 0;
+    for (twin_size j = 0; j < q.n; j++) {
+        spot a = spot_at(&q, j);
+        for (twin_size i = 0; i < p.n; i++) {
+            spot b = spot_at(&p, i);
+            int hit = 0;
+            for (twin_size k = 0; k < q.n && !hit; k++) hit = k != j && dot(a, b, spot_at(&q, k)) <= 0;
+            for (twin_size k = 0; k < p.n && !hit; k++) hit = k != i && dot(a, b, spot_at(&p, k)) <= 0;
+            if (hit) continue;
+            if (count < room) { out[count].q = (unsigned)q.w[3 * j]; out[count].p = (unsigned)p.w[3 * i]; }
+            count++;
+        }
+    }
+    return count;
+}
