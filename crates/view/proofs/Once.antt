@@ -3,12 +3,14 @@
 -- Assumes nothing.
 use mathlib.Core.Path.{_≡_, refl, sym, ap, _∙_}
 use mathlib.Core.Bool.{true, false}
+use mathlib.Core.Logic.{⊎-elim}
 use mathlib.Core.List.{List, []}
 use Prim.Native.Nat.{ℕ}
 use lib.IntN.{ℤ}
 use lib.Dec.{eqb}
-use borrow.Author.Tests.{eq-eqb, ne-eqb}
+use borrow.Author.Tests.{eq-eqb, ne-eqb, eqb-true}
 use denote.Ref.{RefT, now}
+use Rattle.integers.specs.Bools.{decide}
 use Rattle.sheet.specs.Layout.{points, nodes}
 use Rattle.ring.specs.Numbers.{sheetNo}
 use Rattle.ring.specs.Answers.{pointed, filtered, walked}
@@ -25,14 +27,22 @@ use Rattle.view.specs.Shown.{Shown, shown, openOf}
 pub open-once : (s : RefT (List ℤ)) (r r′ : Opened) → shown r ≡ openOf s → shown r′ ≡ openOf s → shown r ≡ shown r′
 open-once s r r′ e f = e ∙ sym f
 
-pub open-no : (s : RefT (List ℤ)) (r : Opened) → shown r ≡ openOf s → sheetNo (now s) ≡ 0 → shown r ≡ record { number = 0; start = s .ptr; covers = now s; n = points (now s); m = nodes (now s) }
+-- its number is the sheet's
+pub open-no : (s : RefT (List ℤ)) (r : Opened) → shown r ≡ openOf s → r .number ≡ sheetNo (now s)
 unfolding openOf
-open-no s r e z = e ∙ rw (eq-eqb (sheetNo (now s)) 0 z)
+open-no s r e = ap (λ (x : Shown). x .number) e ∙ ⊎-elim (λ t. rw t (sym (eqb-true (sheetNo (now s)) 0 t))) (λ t. rw t) (decide (eqb (sheetNo (now s)) 0))
 
+-- opened: the caller's own words, all of them, from where they stand
+pub open-shows : (s : RefT (List ℤ)) (r : Opened) → shown r ≡ openOf s → sheetNo (now s) ≡ 0 → shown r ≡ record { number = 0; start = s .ptr; covers = now s; n = points (now s); m = nodes (now s) }
+unfolding openOf
+open-shows s r e z = e ∙ rw (eq-eqb (sheetNo (now s)) 0 z)
+
+-- refused: no words, and zeros
 pub open-refused : (s : RefT (List ℤ)) (r : Opened) → shown r ≡ openOf s → (sheetNo (now s) ≡ 0 → ⊥) → shown r ≡ record { number = sheetNo (now s); start = s .ptr; covers = []; n = 0; m = 0 }
 unfolding openOf
 open-refused s r e ne = e ∙ rw (ne-eqb (sheetNo (now s)) 0 ne)
 
+-- the readers: two views of the same words, whatever they claim, get one answer
 pub point-once : (d d′ : Sheet) (i : ℕ) (r r′ : Pointed) → now (d .words) ≡ now (d′ .words) → r ≡ pointed (now (d .words)) i → r′ ≡ pointed (now (d′ .words)) i → r ≡ r′
 point-once d d′ i r r′ w e f = e ∙ ap (λ (x : List ℤ). pointed x i) w ∙ sym f
 
@@ -47,3 +57,7 @@ ring-once p p′ q q′ j i r r′ v w e f = e ∙ ap (λ (x : List ℤ). walked
 pub page-once : (p p′ q q′ : Sheet) (key : Key) (size : ℕ) (r r′ : Paged) → now (p .words) ≡ now (p′ .words) → now (q .words) ≡ now (q′ .words)
     → r ≡ pageAnswer (now (p .words)) (now (q .words)) key size → r′ ≡ pageAnswer (now (p′ .words)) (now (q′ .words)) key size → r ≡ r′
 page-once p p′ q q′ key size r r′ v w e f = e ∙ ap (λ (x : List ℤ). pageAnswer x (now (q .words)) key size) v ∙ ap (λ (y : List ℤ). pageAnswer (now (p′ .words)) y key size) w ∙ sym f
+
+-- the point reader through the view that `open` gives. The other calls on slices have the promises of ring's calls, which ring's own laws settle
+pub point-opened-once : (s : RefT (List ℤ)) (i : ℕ) (r r′ : Pointed) → r ≡ pointed (openOf s .covers) i → r′ ≡ pointed (openOf s .covers) i → r ≡ r′
+point-opened-once s i r r′ e f = e ∙ sym f

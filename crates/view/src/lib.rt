@@ -34,7 +34,8 @@ fn keep<'a>(words: &'a [i32], len: usize) -> &'a [i32]
     &words[..len]
 }
 
-// Opens a sheet: a view of the caller's own words, from the first to the last, with the counts that stand in them.
+// Opens a sheet: a view of the caller's own words, from the first to the last, with the counts that stand in them. Refused by 1 to 8, and then the view
+// covers no words and its counts are 0.
 pub fn open<'a>(words: &'a [i32]) -> Opened<'a>
     ensures { λ r. ⌜ shown r ≡ openOf (words .entry) ⌝ }
 {

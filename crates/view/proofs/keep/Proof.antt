@@ -1,3 +1,5 @@
+-- `view::keep` meets its contract: the part has as many words as it says.
+-- Assumes nothing.
 use mathlib.Core.Path.{sym}
 use borrow.Author.Needs.{needs}
 use lib.Seq.{length-take-le}
