@@ -1,4 +1,4 @@
-// Views in use: each line is an answer of a call of `view`. Besides the listing's two sheets: sheets with one word changed, parts of a sheet, no words at all,
+// Views in use: each line is the answer of a call of `view`. Besides the listing's two sheets: sheets with one word changed, parts of a sheet, no words at all,
 // and views that claim counts which are not their sheet's.
 use list::Key;
 use list::Page;
