@@ -1,0 +1,275 @@
+// Every call over C: slices as pointer and length, answers as structs of numbers by value, each with its number of refusal first.
+// Every input is answered. A refused answer is its number and zeros, and what was lent is as it was. include/ring.h is the same for a C compiler.
+use book::Book;
+use book::Taken;
+use list::Key;
+use list::Page;
+use list::Pair;
+use list::Source;
+use ring::Filtered;
+use ring::Head;
+use ring::Paged;
+ghost use mathlib.Core.Path.{_≡_};
+ghost use lib.ListN.{length};
+ghost use Rattle.sheet.specs.Limits.{form1};
+ghost use Rattle.pack.specs.Pack.{packNo, packOut};
+ghost use Rattle.ring.specs.Answers.{headOf, pointed, filtered, walked};
+ghost use Rattle.ring.specs.Page.{pageAnswer};
+ghost use Rattle.book.specs.Rules.{begunFor, asked, taken, takenSlots};
+ghost use Rattle.ffi.specs.Over.{pointOver, hitOver, walkOver, bookOver, nextOver, keyOver, markOver, markedAt};
+
+// The point reader's answer: the record, or zeros.
+#[repr(C)]
+pub struct PointAnswer {
+    pub number: u32,
+    pub id: u32,
+    pub x: i32,
+    pub y: i32,
+}
+
+// The ring walk's answer. The kind is 0 clear, 1 blocked by a point, 2 blocked by a box side; the set is 0 for P, 1 for Q; `at` is the point's
+// position or the node's number.
+#[repr(C)]
+pub struct WalkAnswer {
+    pub number: u32,
+    pub kind: u32,
+    pub set: u32,
+    pub at: usize,
+    pub opened: u64,
+}
+
+// The answer of begin: an open book that holds nothing, or zeros.
+#[repr(C)]
+pub struct BookAnswer {
+    pub number: u32,
+    pub book: Book,
+}
+
+// The answer of next key: the key to ask for, or (0, 0), and the book as it went in.
+#[repr(C)]
+pub struct KeyAnswer {
+    pub number: u32,
+    pub key: Key,
+    pub book: Book,
+}
+
+// The marker's answer: its two numbers, or zeros.
+#[repr(C)]
+pub struct MarkAnswer {
+    pub number: u32,
+    pub x: f64,
+    pub y: f64,
+}
+
+fn of_pointed(v: ring::Pointed) -> PointAnswer
+    ensures { λ r. ⌜ r ≡ pointOver v ⌝ }
+{
+    match v {
+        ring::Pointed::At(a) => PointAnswer {
+            number: 0,
+            id: a.id,
+            x: a.x,
+            y: a.y,
+        },
+        ring::Pointed::Refused(k) => PointAnswer {
+            number: k,
+            id: 0,
+            x: 0,
+            y: 0,
+        },
+    }
+}
+
+fn of_hit(h: walk::Hit, opened: u64) -> WalkAnswer
+    ensures { λ r. ⌜ r ≡ hitOver h opened ⌝ }
+{
+    match h {
+        walk::Hit::Clear => WalkAnswer {
+            number: 0,
+            kind: 0,
+            set: 0,
+            at: 0,
+            opened: opened,
+        },
+        walk::Hit::Point(b) => WalkAnswer {
+            number: 0,
+            kind: 1,
+            set: b.set,
+            at: b.position,
+            opened: opened,
+        },
+        walk::Hit::Side { set: s, node: v } => WalkAnswer {
+            number: 0,
+            kind: 2,
+            set: s,
+            at: v,
+            opened: opened,
+        },
+    }
+}
+
+fn of_walked(v: ring::Walked) -> WalkAnswer
+    ensures { λ r. ⌜ r ≡ walkOver v ⌝ }
+{
+    match v {
+        ring::Walked::Done(a) => {
+            let h = a.hit;
+            of_hit(h, a.opened)
+        }
+        ring::Walked::Refused(k) => WalkAnswer {
+            number: k,
+            kind: 0,
+            set: 0,
+            at: 0,
+            opened: 0,
+        },
+    }
+}
+
+fn of_begun(v: book::Begun) -> BookAnswer
+    ensures { λ r. ⌜ r ≡ bookOver v ⌝ }
+{
+    match v {
+        book::Begun::Open(b) => BookAnswer { number: 0, book: b },
+        book::Begun::Refused(k) => BookAnswer {
+            number: k,
+            book: Book {
+                held: 0,
+                closed: false,
+                source: Source {
+                    p_edition: 0,
+                    q_edition: 0,
+                },
+            },
+        },
+    }
+}
+
+fn of_next(v: book::Next, b: Book) -> KeyAnswer
+    ensures { λ r. ⌜ r ≡ nextOver v b ⌝ }
+{
+    match v {
+        book::Next::After(k) => KeyAnswer {
+            number: 0,
+            key: k,
+            book: b,
+        },
+        book::Next::Refused(n) => KeyAnswer {
+            number: n,
+            key: Key { q: 0, p: 0 },
+            book: b,
+        },
+    }
+}
+
+fn of_asked(a: book::Asked) -> KeyAnswer
+    ensures { λ r. ⌜ r ≡ keyOver a ⌝ }
+{
+    let v = a.next;
+    let b = a.book;
+    of_next(v, b)
+}
+
+fn of_marked(v: marker::Marked) -> MarkAnswer
+    ensures { λ r. ⌜ r ≡ markOver v ⌝ }
+{
+    match v {
+        marker::Marked::At(m) => MarkAnswer {
+            number: 0,
+            x: m.x,
+            y: m.y,
+        },
+        marker::Marked::Refused(k) => MarkAnswer {
+            number: k,
+            x: 0.0,
+            y: 0.0,
+        },
+    }
+}
+
+// Opens words: 0 with the sheet's length and counts, or 1 to 8.
+#[no_mangle]
+pub extern "C" fn ring_open(words: &[i32]) -> Head
+    ensures { λ r. ⌜ r ≡ headOf (now (words .entry)) ⌝ }
+{
+    ring::open::head_of(words)
+}
+
+// Packs a sheet into the lent words: 0, or 18, 3, 5, 6, 17 with the words as they were.
+#[no_mangle]
+pub extern "C" fn ring_pack(
+    n: usize,
+    points: &[i32],
+    order: &[i32],
+    edition: u32,
+    out: &mut [i32],
+) -> u32
+    ensures { λ r. ⌜ r ≡ packNo form1 n (now (points .entry)) (now (order .entry)) edition (length (now (out .entry))) ⌝ }
+    ensures { λ r. ⌜ now (out .exit) ≡ packOut form1 n (now (points .entry)) (now (order .entry)) edition (now (out .entry)) ⌝ }
+{
+    pack::pack(n, points, order, edition, out)
+}
+
+// The record at a position: 0, or 1 to 8, 9.
+#[no_mangle]
+pub extern "C" fn ring_point(words: &[i32], position: usize) -> PointAnswer
+    ensures { λ r. ⌜ r ≡ pointOver (pointed (now (words .entry)) position) ⌝ }
+{
+    of_pointed(ring::point::point(words, position))
+}
+
+// The filter walk for position j of Q over P: 0, or 1 to 8 of P, of Q, 9.
+#[no_mangle]
+pub extern "C" fn ring_filter_walk(p: &[i32], q: &[i32], j: usize) -> Filtered
+    ensures { λ r. ⌜ r ≡ filtered (now (p .entry)) (now (q .entry)) j ⌝ }
+{
+    ring::filter::filter_walk(p, q, j)
+}
+
+// The ring walk for position j of Q and position i of P: 0, or 1 to 8 of P, of Q, 9.
+#[no_mangle]
+pub extern "C" fn ring_pair_walk(p: &[i32], q: &[i32], j: usize, i: usize) -> WalkAnswer
+    ensures { λ r. ⌜ r ≡ walkOver (walked (now (p .entry)) (now (q .entry)) j i) ⌝ }
+{
+    of_walked(ring::ringwalk::ring_walk(p, q, j, i))
+}
+
+// The page of the first `size` ring pairs after a key: 0, or 1 to 8 of P, of Q, 9, 10.
+#[no_mangle]
+pub extern "C" fn ring_page(p: &[i32], q: &[i32], key: Key, size: usize) -> Paged
+    ensures { λ r. ⌜ r ≡ pageAnswer (now (p .entry)) (now (q .entry)) key size ⌝ }
+{
+    ring::page::page(p, q, key, size)
+}
+
+// A book of two editions with nothing held: 0, or 3.
+#[no_mangle]
+pub extern "C" fn ring_book_begin(source: Source) -> BookAnswer
+    ensures { λ r. ⌜ r ≡ bookOver (begunFor source) ⌝ }
+{
+    of_begun(Book::begin(source))
+}
+
+// The marker of (ax, ay) and (bx, by): 0, or 5.
+#[no_mangle]
+pub extern "C" fn ring_marker(ax: i32, ay: i32, bx: i32, by: i32) -> MarkAnswer
+    ensures { λ r. ⌜ r ≡ markOver (markedAt ax ay bx by) ⌝ }
+{
+    of_marked(marker::mark(ax, ay, bx, by))
+}
+
+// The key to ask for next, the last held pair's: 0, or 11.
+#[no_mangle]
+pub extern "C" fn ring_book_next_key(b: Book, slots: &[Pair]) -> KeyAnswer
+    ensures { λ r. ⌜ r ≡ keyOver (asked b (now (slots .entry))) ⌝ }
+{
+    of_asked(b.next_key(slots))
+}
+
+// A page's pairs are appended in the lent slots and the book goes on: 0, or 11 to 16 with the slots and the book as they were.
+#[no_mangle]
+pub extern "C" fn ring_book_take(b: Book, slots: &mut [Pair], page: Page) -> Taken
+    ensures { λ r. ⌜ (r ≡ taken b (now (slots .entry)) page) × (now (slots .exit) ≡ takenSlots b (now (slots .entry)) page) ⌝ }
+{
+    b.take(slots, page)
+}
