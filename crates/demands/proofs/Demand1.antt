@@ -14,6 +14,7 @@ use lib.IntN.{ℤ}
 use lib.ListN.{length, take, drop, take-append-drop}
 use denote.Ref.{RefT, now}
 use Rattle.sheet.specs.Limits.{form1}
+use Rattle.sheet.specs.Layout.{points, nodes}
 use Rattle.sheet.specs.Open.{openNo}
 use Rattle.list.specs.declared.Key.{Key}
 use Rattle.list.specs.declared.Pair.{Pair}
@@ -72,10 +73,12 @@ pub head-no : (w : List ℤ) (h : Head) → HeadAnswers w h
     → (h .number ≡ openNo form1 w) × (Refuses (openNo form1 w) → h ≡ record { number = openNo form1 w; len = 0; n = 0; m = 0 })
 head-no w h a = (head-number w h (a .promised), λ ne. a .promised ∙ sym (head-shut w (openNo form1 w) refl ne))
 
--- "and a view there covers no words"
+-- through a view: "An opened sheet is read where the caller keeps its words, with no copy made", all of them; refused, "a view there covers no words"
 pub view-no : (w : RefT (List ℤ)) (r : Opened) → ViewOpens w r
-    → Refuses (openNo form1 (now w)) → shown r ≡ record { number = openNo form1 (now w); start = w .ptr; covers = []; n = 0; m = 0 }
-view-no w r a ne = of-view.open-refused w r a ne
+    → (r .number ≡ openNo form1 (now w))
+    × (Refuses (openNo form1 (now w)) → shown r ≡ record { number = openNo form1 (now w); start = w .ptr; covers = []; n = 0; m = 0 })
+    × (openNo form1 (now w) ≡ 0 → shown r ≡ record { number = 0; start = w .ptr; covers = now w; n = points (now w); m = nodes (now w) })
+view-no w r a = (of-view.open-no w r a, λ ne. of-view.open-refused w r a ne, λ z. of-view.open-shows w r a z)
 
 -- ---- pack, "18, 3, 5, 6, 17": refused, the lent words are as they stood
 

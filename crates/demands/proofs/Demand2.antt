@@ -86,7 +86,8 @@ unfolding form1
 fits w e = omega (arith, open-trailer form1 w e .n-le)
 
 module _ (P Q : List ℤ) (p-opens : WellFormed P) (q-opens : WellFormed Q) where
-  sheets : sheetsNo P Q ≡ 0
+  -- no number applies to either
+  pub sheets : sheetsNo P Q ≡ 0
   unfolding sheetsNo
   sheets = first-passes (openNo form1 P) (openNo form1 Q) p-opens ∙ q-opens
 

@@ -24,7 +24,6 @@ use Rattle.words.specs.Range.{lastId}
 use Rattle.plane.specs.Point.{Point}
 use Rattle.sheet.specs.Limits.{form1}
 use Rattle.sheet.specs.Places.{pointsOf}
-use Rattle.sheet.specs.Open.{openNo}
 use Rattle.sheet.proofs.SheetLaws.{open-facts, form1-fair}
 use Rattle.list.specs.declared.Key.{Key}
 use Rattle.list.specs.declared.Pair.{Pair}
@@ -78,16 +77,12 @@ module _ (w : Editions) where
   unfolding sourceOf
   list-is P Q p q = ap (λ (x : List Point). ringList x (pointsOf Q)) (p .same) ∙ ap (ringList (pointsOf (w .pumps (sourceOf P Q .«p_edition»)))) (q .same)
 
-  sheets : (P Q : List ℤ) → PumpSheet w P → ChamberSheet w Q → sheetsNo P Q ≡ 0
-  unfolding sheetsNo
-  sheets P Q p q = first-passes (openNo form1 P) (openNo form1 Q) (p .opens) ∙ q .opens
-
   -- "not altered or invented": a page that was answered is honest
   pub honest : (g : Page) → Answered w g → Honest worldOf g
   unfolding pageNo pageGiven sourceOf
   honest g a =
       let no : pageNo (a .P) (a .Q) (a .key) (a .size) ≡ 0 = sym (demand1.page-no (a .P) (a .Q) (a .key) (a .size) (a .r) (a .answers) .0) ∙ a .given in
-      let sizes = asked-size (a .key) (a .size) (sym (first-passes (sheetsNo (a .P) (a .Q)) (askedNo (a .key) (a .size)) (sheets (a .P) (a .Q) (a .p-sheet) (a .q-sheet))) ∙ no) in
+      let sizes = asked-size (a .key) (a .size) (sym (first-passes (sheetsNo (a .P) (a .Q)) (askedNo (a .key) (a .size)) (demand2.sheets (a .P) (a .Q) (a .p-sheet .opens) (a .q-sheet .opens))) ∙ no) in
       of-story.honest-from worldOf (sourceOf (a .P) (a .Q)) (a .key) (a .size) (pointsOf (a .P)) (pointsOf (a .Q)) g (sizes .0) (sizes .1) (sym (a .p-sheet .same)) (sym (a .q-sheet .same))
       (a .is ∙ ap (λ (x : Paged). x .page) (a .answers .promised ∙ page-answered (a .P) (a .Q) (a .key) (a .size) no))
 

@@ -18,7 +18,7 @@ use Rattle.ring.specs.declared.Walked.{Walked}
 use Rattle.ring.specs.declared.Paged.{Paged}
 use Rattle.view.specs.declared.Sheet.{Sheet}
 use Rattle.view.specs.declared.Opened.{Opened}
-use Rattle.view.specs.Shown.{shown, openOf}
+use Rattle.view.specs.Shown.{shown}
 use Rattle.book.specs.declared.Book.{Book}
 use Rattle.book.specs.declared.Begun.{Begun}
 use Rattle.book.specs.declared.Asked.{Asked}
@@ -103,7 +103,7 @@ pub open-head-once : (w : List ℤ) (r r′ : Head) → OpenHead w r → OpenHea
 open-head-once w r r′ a b = of-ring.head-once w r r′ (a .promised) (b .promised)
 
 pub point-opened-once : (w : RefT (List ℤ)) (i : ℕ) (r r′ : Pointed) → PointOpened w i r → PointOpened w i r′ → r ≡ r′
-point-opened-once w i r r′ a b = of-ring.point-once (openOf w .covers) i r r′ (a .promised) (b .promised)
+point-opened-once w i r r′ a b = of-view.point-opened-once w i r r′ (a .promised) (b .promised)
 
 pub point-through-once : (w : List ℤ) (n m i : ℕ) (r r′ : Pointed) → PointThrough w n m i r → PointThrough w n m i r′ → r ≡ r′
 point-through-once w n m i r r′ a b = of-ring.point-once w i r r′ (a .promised) (b .promised)
