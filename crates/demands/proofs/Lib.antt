@@ -5,6 +5,7 @@
 --     Demand3     the book's story, with the pages that the shipped page request answers
 --     Says        where a promise is stated anew, it is the `ensures` of its call
 --     Alike       calls through views, and on arrays, answer as those on slices do, so the theorems hold of them too
+--     OverC       the calls over C: what crosses is the answer of the call, so the theorems hold of it too
 --     Once        one input, one answer, one final state of what was lent
 pub mod Says
 pub mod Alike
@@ -13,3 +14,4 @@ pub mod Once
 pub mod Demand1
 pub mod Demand2
 pub mod Demand3
+pub mod OverC

@@ -1,2 +1,3 @@
 pub mod Promises
 pub mod World
+pub mod OverC

@@ -1,0 +1,86 @@
+-- What the calls over C promise, under one name for each, as specs/Promises has it for the others. Of an answer that is an enum, ffi/specs/Over makes the struct of numbers
+-- that crosses.
+use mathlib.Core.Path.{_≡_}
+use mathlib.Core.List.{List}
+use Prim.Native.Nat.{ℕ}
+use lib.IntN.{ℤ}
+use contract.Lifetimes.{Lfts}
+use Rattle.list.specs.declared.Key.{Key}
+use Rattle.list.specs.declared.Pair.{Pair}
+use Rattle.list.specs.declared.Source.{Source}
+use Rattle.ring.specs.declared.Head.{Head}
+use Rattle.ring.specs.declared.Filtered.{Filtered}
+use Rattle.ring.specs.declared.Paged.{Paged}
+use Rattle.book.specs.declared.Book.{Book}
+use Rattle.book.specs.Rules.{asked}
+use Rattle.ffi.specs.declared.PointAnswer.{PointAnswer}
+use Rattle.ffi.specs.declared.WalkAnswer.{WalkAnswer}
+use Rattle.ffi.specs.declared.BookAnswer.{BookAnswer}
+use Rattle.ffi.specs.declared.KeyAnswer.{KeyAnswer}
+use Rattle.ffi.specs.declared.MarkAnswer.{MarkAnswer}
+use Rattle.ffi.specs.Over.{keyOver}
+use Rattle.ffi.proofs.ring_open.Reads as open-c
+use Rattle.ffi.proofs.ring_pack.Reads as pack-c
+use Rattle.ffi.proofs.ring_point.Reads as point-c
+use Rattle.ffi.proofs.ring_filter_walk.Reads as filter-c
+use Rattle.ffi.proofs.ring_pair_walk.Reads as walk-c
+use Rattle.ffi.proofs.ring_page.Reads as page-c
+use Rattle.ffi.proofs.ring_book_begin.Reads as begin-c
+use Rattle.ffi.proofs.ring_marker.Reads as mark-c
+use Rattle.demands.specs.Promises.{Place, slice}
+
+-- `ring_open(w)` answers h
+pub record OpenC (w : List ℤ) (h : Head) : Type 0 where
+  pub κs : Lfts 1
+  pub w-at : Place
+  pub promised : open-c.Post κs (slice w-at w, tt) h (slice w-at w, tt)
+
+-- `ring_pack(n, points, order, edition, out)` answers r, and the words of `out` are `out′` at its exit
+pub record PackC (n : ℕ) (points order : List ℤ) (edition : ℕ) (out : List ℤ) (r : ℕ) (out′ : List ℤ) : Type 0 where
+  pub κs : Lfts 3
+  pub p-at : Place
+  pub o-at : Place
+  pub out-at : Place
+  pub promised : pack-c.Post κs
+      (n, (slice p-at points, (slice o-at order, (edition, (slice out-at out, tt)))))
+      r
+      (n, (slice p-at points, (slice o-at order, (edition, (slice out-at out′, tt)))))
+
+-- `ring_point(w, position)` answers r
+pub record PointC (w : List ℤ) (position : ℕ) (r : PointAnswer) : Type 0 where
+  pub κs : Lfts 1
+  pub w-at : Place
+  pub promised : point-c.Post κs (slice w-at w, (position, tt)) r (slice w-at w, (position, tt))
+
+-- `ring_filter_walk(P, Q, j)` answers r
+pub record FilterC (P Q : List ℤ) (j : ℕ) (r : Filtered) : Type 0 where
+  pub κs : Lfts 2
+  pub p-at : Place
+  pub q-at : Place
+  pub promised : filter-c.Post κs (slice p-at P, (slice q-at Q, (j, tt))) r (slice p-at P, (slice q-at Q, (j, tt)))
+
+-- `ring_pair_walk(P, Q, j, i)` answers r
+pub record WalkC (P Q : List ℤ) (j i : ℕ) (r : WalkAnswer) : Type 0 where
+  pub κs : Lfts 2
+  pub p-at : Place
+  pub q-at : Place
+  pub promised : walk-c.Post κs (slice p-at P, (slice q-at Q, (j, (i, tt)))) r (slice p-at P, (slice q-at Q, (j, (i, tt))))
+
+-- `ring_page(P, Q, key, size)` answers r
+pub record PageC (P Q : List ℤ) (key : Key) (size : ℕ) (r : Paged) : Type 0 where
+  pub κs : Lfts 2
+  pub p-at : Place
+  pub q-at : Place
+  pub promised : page-c.Post κs (slice p-at P, (slice q-at Q, (key, (size, tt)))) r (slice p-at P, (slice q-at Q, (key, (size, tt))))
+
+-- `ring_book_begin(source)` answers r
+pub record BeginC (source : Source) (r : BookAnswer) : Type 0 where
+  pub promised : begin-c.Post tt (source, tt) r (source, tt)
+
+-- `ring_marker(ax, ay, bx, by)` answers r
+pub record MarkC (ax ay bx by : ℤ) (r : MarkAnswer) : Type 0 where
+  pub promised : mark-c.Post tt (ax, (ay, (bx, (by, tt)))) r (ax, (ay, (bx, (by, tt))))
+
+-- `ring_book_next_key(b, slots)` answers r. `ring_book_take` promises what `Book::take` does: `TakeAnswers` of specs/Promises
+abbrev pub NextC : Book → List Pair → KeyAnswer → Type 0
+NextC b slots r = r ≡ keyOver (asked b slots)
