@@ -150,4 +150,4 @@ def told(cases, rules):
 
 def untold(cases):
     """The wrong readings that no stored case of a program tells."""
-    return [new for old, new in WRONG[cases.program] if not told(cases, misread(old, new))]
+    return [new for old, new in WRONG.get(cases.program, []) if not told(cases, misread(old, new))]

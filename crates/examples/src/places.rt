@@ -1,0 +1,218 @@
+// The rules on places and boxes.
+use libc::STDOUT_FILENO;
+use plane::Boxed;
+use plane::Spot;
+ghost use Rattle.integers.specs.Order.{Within};
+ghost use Rattle.plane.specs.Rule.{SpotIn, BoxIn};
+
+fn say_ring() {
+    io::write_all(STDOUT_FILENO, b"ring rule");
+}
+
+fn say_filter() {
+    io::write_all(STDOUT_FILENO, b"filter rule");
+}
+
+fn say_circle() {
+    io::write_all(STDOUT_FILENO, b"box rules");
+}
+
+fn say_blocked() {
+    io::write_all(STDOUT_FILENO, b" blocks\n");
+}
+
+fn say_clear() {
+    io::write_all(STDOUT_FILENO, b" does not block\n");
+}
+
+fn say_skipped() {
+    io::write_all(STDOUT_FILENO, b" skipped\n");
+}
+
+fn say_kept() {
+    io::write_all(STDOUT_FILENO, b" kept\n");
+}
+
+fn say_opened() {
+    io::write_all(STDOUT_FILENO, b" opened\n");
+}
+
+fn say_side() {
+    io::write_all(STDOUT_FILENO, b" blocks by side");
+}
+
+fn say_box() {
+    io::write_all(STDOUT_FILENO, b" box");
+}
+
+fn say_against() {
+    io::write_all(STDOUT_FILENO, b" against");
+}
+
+fn say_end() {
+    io::write_all(STDOUT_FILENO, b"\n");
+}
+
+// A space and a number.
+pub fn say_number(z: i64) {
+    let mut t = [0u8; 32];
+    let n = text::put_signed(z, &mut t, 0);
+    io::write_all(STDOUT_FILENO, b" ");
+    io::write_all(STDOUT_FILENO, &t[..n]);
+}
+
+pub fn say_count(n: u64) {
+    io::write_all(STDOUT_FILENO, b" ");
+    io::print_decimal(STDOUT_FILENO, n);
+}
+
+// A space and a place.
+fn say_spot(a: Spot) {
+    let mut t = [0u8; 64];
+    let open = text::put(b" (", &mut t, 0);
+    let x = text::put_signed(a.x, &mut t, open);
+    let comma = text::put_byte(b',', &mut t, x);
+    let y = text::put_signed(a.y, &mut t, comma);
+    let close = text::put_byte(b')', &mut t, y);
+    io::write_all(STDOUT_FILENO, &t[..close]);
+}
+
+// The place (x, y).
+fn spot(x: i16, y: i16) -> Spot
+    ensures { λ r. ⌜ SpotIn r ⌝ }
+{
+    Spot {
+        x: x as i64,
+        y: y as i64,
+    }
+}
+
+// The box with these two corners.
+fn boxed(low: Spot, high: Spot) -> Boxed
+    requires { ⌜ SpotIn low × SpotIn high ⌝ }
+    ensures { λ r. ⌜ BoxIn r ⌝ }
+{
+    Boxed {
+        xmin: low.x,
+        ymin: low.y,
+        xmax: high.x,
+        ymax: high.y,
+    }
+}
+
+// Whether z blocks a, b, and the product.
+fn block(a: Spot, b: Spot, z: Spot)
+    requires { ⌜ SpotIn a × SpotIn b × SpotIn z ⌝ }
+{
+    say_ring();
+    say_spot(a);
+    say_spot(b);
+    say_spot(z);
+    let d = plane::dot_of(a, b, z);
+    say_number(d);
+    if plane::does_block(a, b, z) {
+        say_blocked();
+    } else {
+        say_clear();
+    }
+}
+
+// Whether q skips z, p being kept, and the product.
+fn skip(q: Spot, p: Spot, z: Spot)
+    requires { ⌜ SpotIn q × SpotIn p × SpotIn z ⌝ }
+{
+    say_filter();
+    say_spot(q);
+    say_spot(p);
+    say_spot(z);
+    let d = plane::dot_of(q, z, p);
+    say_number(d);
+    if plane::does_block(q, z, p) {
+        say_skipped();
+    } else {
+        say_kept();
+    }
+}
+
+// Whether q skips a box, p being kept.
+fn skip_box(q: Spot, p: Spot, low: Spot, high: Spot)
+    requires { ⌜ SpotIn q × SpotIn p × SpotIn low × SpotIn high ⌝ }
+{
+    say_filter();
+    say_spot(q);
+    say_spot(p);
+    say_box();
+    say_spot(low);
+    say_spot(high);
+    if plane::drops_box(q, p, boxed(low, high)) {
+        say_skipped();
+    } else {
+        say_opened();
+    }
+}
+
+// The squared distance of a doubled side from the doubled centre, on one axis.
+fn say_axis(lo: i64, hi: i64, a: i64, b: i64)
+    requires { ⌜ Within 1000000000 lo × Within 1000000000 hi × Within 1000000000 a × Within 1000000000 b ⌝ }
+{
+    let d = plane::square_out(2 * lo, 2 * hi, a + b);
+    say_count(d);
+}
+
+// Those of a box on both axes, against the squared diameter.
+fn say_distance(a: Spot, b: Spot, low: Spot, high: Spot)
+    requires { ⌜ SpotIn a × SpotIn b × SpotIn low × SpotIn high ⌝ }
+{
+    say_axis(low.x, high.x, a.x, b.x);
+    say_axis(low.y, high.y, a.y, b.y);
+    say_against();
+    say_count(plane::diameter(a, b));
+}
+
+// What a box is to the circle on a, b.
+fn box_rule(a: Spot, b: Spot, low: Spot, high: Spot)
+    requires { ⌜ SpotIn a × SpotIn b × SpotIn low × SpotIn high ⌝ }
+{
+    say_circle();
+    say_spot(a);
+    say_spot(b);
+    say_box();
+    say_spot(low);
+    say_spot(high);
+    say_distance(a, b, low, high);
+    let o = boxed(low, high);
+    if plane::is_far(a, b, o) {
+        say_skipped();
+        return;
+    }
+    let side = plane::side_inside(a, b, o);
+    if side == 4 {
+        say_opened();
+        return;
+    }
+    say_side();
+    say_count(side as u64);
+    say_end();
+}
+
+pub fn ring_rule() {
+    block(spot(0, 0), spot(4, 0), spot(2, 2));
+    block(spot(0, 0), spot(4, 0), spot(2, 3));
+    block(spot(0, 0), spot(4, 0), spot(2, 1));
+    block(spot(0, 0), spot(4, 0), spot(0, 0));
+    block(spot(7, 7), spot(7, 7), spot(7, 8));
+    block(spot(7, 7), spot(7, 7), spot(7, 7));
+}
+
+pub fn filter_rule() {
+    skip(spot(0, 0), spot(3, 0), spot(3, 5));
+    skip(spot(0, 0), spot(3, 0), spot(2, 5));
+    skip_box(spot(0, 0), spot(3, 0), spot(3, -1), spot(9, 4));
+}
+
+pub fn box_rules() {
+    box_rule(spot(0, 0), spot(4, 0), spot(1, 0), spot(9, 1));
+    box_rule(spot(0, 0), spot(4, 0), spot(0, 0), spot(0, 0));
+    box_rule(spot(0, 0), spot(4, 0), spot(2, 2), spot(5, 5));
+    box_rule(spot(0, 0), spot(4, 0), spot(4, 1), spot(6, 6));
+}
