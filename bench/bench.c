@@ -117,11 +117,11 @@ static unsigned long mine_opened, theirs_opened;
 
 static unsigned long list_proved(const packed *p, const packed *q, unsigned long size)
 {
-    ring_key key = {0, 0};
+    RingKey key = {0, 0};
     unsigned long count = 0;
     mine_opened = 0;
     for (;;) {
-        ring_paged r = ring_page(p->words, p->len, q->words, q->len, key, size);
+        RingPaged r = ring_page(p->words, p->len, q->words, q->len, key, size);
         if (r.number) return ~0ul;
         mine_opened += r.opened;
         for (unsigned long k = 0; k < r.page.count; k++) { mine[count].q = r.page.pairs[k].q; mine[count].p = r.page.pairs[k].p; count++; }
@@ -161,9 +161,9 @@ static void listing(const char *kind, int n, const packed *p, const packed *q)
     tell("list", kind, n, proved, twin, a == b && mine_opened == theirs_opened && same(mine, theirs, a));
     BEST(n >= 1000 ? 3 : runs, brute, c = twin_brute(p->words, p->len, q->words, q->len, brutes, PAIRS));
     tell("list-brute", kind, n, proved, brute, a == c && same(mine, brutes, a));
-    ring_key key = {a ? mine[a / 2].q : 0, a ? mine[a / 2].p : 0};
+    RingKey key = {a ? mine[a / 2].q : 0, a ? mine[a / 2].p : 0};
     twin_pair twin_key = {key.q, key.p};
-    static ring_paged r; static twin_page_answer t;
+    static RingPaged r; static twin_page_answer t;
     BEST(50, proved, r = ring_page(p->words, p->len, q->words, q->len, key, 16));
     BEST(50, twin, t = twin_page(p->words, p->len, q->words, q->len, twin_key, 16));
     int agree = r.number == 0 && t.number == 0 && r.opened == t.opened && r.page.count == t.count && !r.page.end == !t.end;
