@@ -10,12 +10,13 @@
 --     progress        its own page is given, is taken, and adds a pair or closes it
 --     closes          so a book that goes on asking is closed after at most one request more than pairs are missing
 --     next-is-last    its next key is its last pair
+--     can-ask, can-close    where there is a sheet of each of its editions, a book can ask, and so be closed
 -- Assumes nothing.
 use mathlib.Core.Path.{_≡_, refl, sym, ap, subst, _∙_}
 use mathlib.Core.Bool.{true, false}
 use mathlib.Core.Logic.{_⊎_, ⊎-elim}
 use mathlib.Core.List.{List, [], _∷_, List·Memᴰ, List·Memᴰ·head, List·Memᴰ·tail, Memᴰ·append-left}
-use Prim.Native.Nat.{ℕ, _+_, _≤_, _<_}
+use Prim.Native.Nat.{ℕ, zero, suc, _+_, _≤_, _<_}
 use native.Mathlib.Omega.{arith}
 use lib.IntN.{ℤ}
 use lib.ListN.{length, take, drop, take-append-drop}
@@ -36,7 +37,7 @@ use Rattle.list.proofs.PageLaws.{shown-count, length-padded}
 use Rattle.list.proofs.RowLaws.{ring-only}
 use Rattle.join.proofs.Meaning.{points-rise}
 use Rattle.ring.specs.Numbers.{sheetsNo}
-use Rattle.ring.specs.Page.{askedNo, pageNo, sourceOf, pageGiven}
+use Rattle.ring.specs.Page.{askedNo, pageNo, sourceOf, pageGiven, pageAnswer}
 use Rattle.ring.specs.declared.Paged.{Paged}
 use Rattle.ring.proofs.NumberLaws.{first-passes}
 use Rattle.ring.proofs.PageLaws.{asked-size, page-answered}
@@ -44,13 +45,13 @@ use Rattle.book.specs.declared.Book.{Book}
 use Rattle.book.specs.declared.Next.the-variants as next
 use Rattle.book.specs.declared.Asked.{Asked}
 use Rattle.book.specs.declared.Taken.{Taken}
-use Rattle.book.specs.Rules.{lastKey, asked, taken}
+use Rattle.book.specs.Rules.{lastKey, asked, taken, takenSlots}
 use Rattle.book.specs.World as of-world
 use Rattle.book.specs.World.{World, Honest, Reached, listOf, ownPage}
 use Rattle.book.proofs.Story as of-story
 use Rattle.book.proofs.SliceLaws as of-slice
 use Rattle.book.proofs.TakeLaws as of-take
-use Rattle.demands.specs.Promises.{NextAnswers, TakeAnswers}
+use Rattle.demands.specs.Promises.{Place, NextAnswers, TakeAnswers}
 use Rattle.demands.specs.World.{Editions, PumpSheet, ChamberSheet, bookList, Answered, History, began, took, lent, OwnPage, Asking, stops, asks}
 use Rattle.demands.proofs.Demand1 as demand1
 use Rattle.demands.proofs.Demand2 as demand2
@@ -196,3 +197,40 @@ module _ (w : Editions) where
       (λ (x : r .book .closed ≡ true). stays-closed more x)
       (progress h o e room r s′ t .2))
       (decide (b .closed))
+
+  -- None of this is empty talk: where there is a sheet of each of its two editions, a book can ask any number of times, and so it can be closed.
+  pub can-ask : (k : ℕ) {b : Book} {s : List Pair} → History w b s → (P Q : List ℤ) → PumpSheet w P → ChamberSheet w Q → sourceOf P Q ≡ b .source → (size : ℕ) → 1 ≤ size → size ≤ 16
+      → (b′ : Book) × (s′ : List Pair) × Asking w k b s b′ s′
+  can-ask zero {b} {s} h P Q p q e size some most = (b, s, stops b s)
+  can-ask (suc k) {b} {s} h P Q p q e size some most =
+      let key = lastKey (b .held) s in
+      let r = pageAnswer P Q key size in
+      let somewhere : Place = record { address = (0, 0); name = 0 } in
+      let o : OwnPage w b s (r .page) =
+      record {
+        asked = asked b s;
+        key = key;
+        asks = refl;
+        next-is = of-slice.next-after b s (held-prefix h .0);
+        P = P;
+        Q = Q;
+        p-sheet = p;
+        q-sheet = q;
+        of-book = e;
+        size = size;
+        some = some;
+        most = most;
+        r = r;
+        answers = record { κs = ([], ([], tt)); p-at = somewhere; q-at = somewhere; promised = refl };
+        is = refl;
+      } in
+      let t = taken b s (r .page) in
+      let s′ = takenSlots b s (r .page) in
+      let m = can-ask k (took (r .page) t s′ h (own-answered h o) (refl, refl)) P Q p q (e ∙ sym (of-take.same-book-source b s (r .page))) size some most in
+      (m .0, m .1, asks (r .page) t s′ o (refl, refl) (m .2))
+
+  pub can-close : {b : Book} {s : List Pair} → History w b s → length (bookList w b) ≤ length s → (P Q : List ℤ) → PumpSheet w P → ChamberSheet w Q → sourceOf P Q ≡ b .source
+      → (b′ : Book) × (s′ : List Pair) × Asking w (suc (length (bookList w b))) b s b′ s′ × (b′ .closed ≡ true)
+  can-close {b} h room P Q p q e =
+      let m = can-ask (suc (length (bookList w b))) h P Q p q e 16 (omega arith) (omega arith) in
+      (m .0, m .1, m .2, closes h room (omega arith) (m .2))

@@ -3,6 +3,7 @@
 --     Demand1     every input is answered, by the number that is defined
 --     Demand2     the list is that of the ring rule, and the calls answer for it
 --     Demand3     the book's story, with the pages that the shipped page request answers
+--     Worlds      the premises of demand 3 can be had
 --     Says        where a promise is stated anew, it is the `ensures` of its call
 --     Alike       calls through views, and on arrays, answer as those on slices do, so the theorems hold of them too
 --     OverC       the calls over C: what crosses is the answer of the call, so the theorems hold of it too
@@ -15,3 +16,4 @@ pub mod Demand1
 pub mod Demand2
 pub mod Demand3
 pub mod OverC
+pub mod Worlds
