@@ -1,0 +1,79 @@
+/*
+ * An order book over C: opens two sheets, follows the pages of their ring pairs into a book whose slots this program keeps, and prints the orders.
+ * On the way the first page is lost and the second comes twice. Neither does harm: the book asks for its next key again, and refuses what it has.
+ *
+ *     tools/c-example        builds and runs this file, and compares what it prints with expected.txt
+ */
+#include <stdio.h>
+
+#include "ring.h"
+
+#define LEN(array) (sizeof(array) / sizeof((array)[0]))
+
+/* id, x, y of each point | order | rank | nodes | span, root, n, m, edition, form */
+static const int32_t pumps[] = {1, 0, 0, 2, 10, 0, /**/ 0, 1, /**/ 0, 1, /**/ 0, 0, 2, 0, 0, 10, 0, /**/ 17, 7, 2, 1, 7, 1};
+static const int32_t chambers[] = {5, 4, 0, 6, 16, 1, /**/ 0, 1, /**/ 0, 1, /**/ 0, 0, 2, 4, 0, 16, 1, /**/ 17, 7, 2, 1, 9, 1};
+
+static int refused(const char *what, uint32_t number) {
+    if (number != 0) printf("%s: refused %u\n", what, number);
+    return number != 0;
+}
+
+/* The point with an id, read position after position; a refused answer where there is none. */
+static RingPoint by_id(const int32_t *words, size_t len, uint32_t id) {
+    size_t at = 0;
+    RingPoint point = ring_point(words, len, at);
+    while (point.number == 0 && point.id != id) point = ring_point(words, len, ++at);
+    return point;
+}
+
+/* Follows the pages into the slots until the book is closed; the book, which is still open if a call was refused. */
+static RingBook follow(RingBook book, RingPair *slots, size_t room) {
+    for (int request = 1; !book.closed; request++) {
+        RingNext next = ring_book_next_key(book, slots, room);
+        if (refused("next key", next.number)) return book;
+        RingPaged asked = ring_page(pumps, LEN(pumps), chambers, LEN(chambers), next.key, 2);
+        if (refused("page", asked.number)) return book;
+        printf("request %d, after (%u, %u): ", request, next.key.q, next.key.p);
+        if (request == 1) {
+            printf("lost on the way, %zu held\n", book.held);
+            continue;
+        }
+        RingTaken taken = ring_book_take(book, slots, room, asked.page);
+        if (refused("take", taken.number)) return book;
+        book = taken.book;
+        printf("%zu pair%s, %zu held%s\n", asked.page.count, asked.page.count == 1 ? "" : "s", book.held, book.closed ? ", closed" : "");
+        if (request == 2) {
+            taken = ring_book_take(book, slots, room, asked.page);
+            printf("the same page again: refused %u, %zu held\n", taken.number, taken.book.held);
+            book = taken.book;
+        }
+    }
+    return book;
+}
+
+static void print_order(size_t k, RingPair pair) {
+    RingPoint q = by_id(chambers, LEN(chambers), pair.q);
+    RingPoint p = by_id(pumps, LEN(pumps), pair.p);
+    RingMarker marker = ring_marker(q.x, q.y, p.x, p.y);
+    if (refused("point", q.number) || refused("point", p.number) || refused("marker", marker.number)) return;
+    printf("order %zu: chamber %u with pump house %u, marker (%.1f, %.1f)\n", k + 1, pair.q, pair.p, marker.x, marker.y);
+}
+
+int main(void) {
+    RingHead p = ring_open(pumps, LEN(pumps));
+    RingHead q = ring_open(chambers, LEN(chambers));
+    if (refused("pump houses", p.number) || refused("chambers", q.number)) return 1;
+    printf("%zu pump houses, %zu chambers\n", p.n, q.n);
+
+    RingSource source = {(uint32_t)pumps[p.len - 2], (uint32_t)chambers[q.len - 2]};
+    RingBegun begun = ring_book_begin(source);
+    if (refused("begin", begun.number)) return 1;
+    printf("a book of editions %u and %u\n", begun.book.source.p_edition, begun.book.source.q_edition);
+
+    RingPair slots[8];
+    RingBook book = follow(begun.book, slots, LEN(slots));
+    for (size_t k = 0; k < book.held; k++) print_order(k, slots[k]);
+    printf("%zu orders%s\n", book.held, book.closed ? ", and these are all" : "");
+    return book.closed ? 0 : 1;
+}

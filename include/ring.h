@@ -1,0 +1,232 @@
+/*
+ * ring.h: every call of the pairing service, for C (C99 and later) and C++.
+ *
+ * Link with the archive that `rt staticlib ffi` writes, target/staticlib/libffi.a (x86-64 Linux).
+ *
+ * What holds of every call
+ *   - Every input is answered. Where an input breaks the rules, `number` says which rule: the first that applies, in the order given at each call.
+ *     0 means that the call was served. The numbers are listed at the end of this file.
+ *   - Read `number` first. Where it is not 0 every other field of the answer is 0 (a book that was handed in comes back as it was), and all memory that
+ *     was lent is as it was.
+ *   - The same input always gives the same answer. Nothing is kept between calls, nothing is allocated, no pointer is kept after a call returns.
+ *   - An array goes as a pointer and a number of elements. Where the number is 0 the pointer may be null. An array behind a pointer to const is only read.
+ *
+ * What the caller sees to, since no call can test it
+ *   - a pointer and its number describe memory that is there, aligned for its elements, and that nobody else writes during the call;
+ *   - memory that a call may write (`out` of ring_pack, `slots` of ring_book_take) overlaps no other array of the same call;
+ *   - a bool is 0 or 1, as C's own bool always is.
+ * A negative number handed in for an unsigned one arrives as a large one, and is answered as such.
+ *
+ * P is the pump houses, Q the chambers. A sheet is an array of 32-bit words. A position is the number of a point in its sheet, from 0, in the order of the
+ * ids. Where a call takes both, q's position goes first, then p's.
+ */
+#ifndef RING_H
+#define RING_H
+
+#include <stdbool.h>
+#include <stddef.h>
+#include <stdint.h>
+
+#ifdef __cplusplus
+extern "C" {
+#endif
+
+/* A place in the list of pairs: a chamber's id, then a pump house's, each 0 to 2,000,000,000. (0, 0) is before every pair. */
+typedef struct RingKey {
+    uint32_t q;
+    uint32_t p;
+} RingKey;
+
+/* A ring pair: a chamber's id and a pump house's. */
+typedef struct RingPair {
+    uint32_t q;
+    uint32_t p;
+} RingPair;
+
+/* What list a page or a book is of: the editions of both sheets. */
+typedef struct RingSource {
+    uint32_t p_edition;
+    uint32_t q_edition;
+} RingSource;
+
+/* One page of a list. Of `pairs` the first `count` are used, the others are (0, 0). `end` is set exactly when no pair follows the last one shown, or
+ * follows the key if none is shown. */
+typedef struct RingPage {
+    RingSource source;
+    RingKey key;
+    size_t count;
+    bool end;
+    RingPair pairs[16];
+} RingPage;
+
+/* The state of an order book: how many pairs its slots hold, whether they are all, and of what list. Hand in what the last call handed back. */
+typedef struct RingBook {
+    size_t held;
+    bool closed;
+    RingSource source;
+} RingBook;
+
+/* The answer of ring_open: how many words the sheet has, its points and its nodes. */
+typedef struct RingHead {
+    uint32_t number;
+    size_t len;
+    size_t n;
+    size_t m;
+} RingHead;
+
+/* The answer of ring_point. */
+typedef struct RingPoint {
+    uint32_t number;
+    uint32_t id;
+    int32_t x;
+    int32_t y;
+} RingPoint;
+
+/* The answer of ring_filter_walk: position i of P is kept where bit i % 64, counted from the lowest, of bits[i / 64] is set; `count` is how many bits are
+ * set, `opened` how many nodes were opened. */
+typedef struct RingFiltered {
+    uint32_t number;
+    uint64_t bits[16];
+    size_t count;
+    uint64_t opened;
+} RingFiltered;
+
+/* What a ring walk found: `kind` of RingWalked. It means something only where `number` is 0: a refused walk has 0 here too, and is not clear. */
+enum { RING_CLEAR = 0, RING_BY_POINT = 1, RING_BY_SIDE = 2 };
+
+/* The sets: `set` of RingWalked. */
+enum { RING_SET_P = 0, RING_SET_Q = 1 };
+
+/* The answer of ring_pair_walk. RING_CLEAR: no other record blocks the pair; set and at are 0. RING_BY_POINT: the record at position `at` of the set
+ * blocks it. RING_BY_SIDE: a side of the box of node `at` of the set does. `opened` is how many nodes were opened, in both sheets. */
+typedef struct RingWalked {
+    uint32_t number;
+    uint32_t kind;
+    uint32_t set;
+    size_t at;
+    uint64_t opened;
+} RingWalked;
+
+/* The answer of ring_page: the page, and how many nodes were opened to make it. */
+typedef struct RingPaged {
+    uint32_t number;
+    uint64_t opened;
+    RingPage page;
+} RingPaged;
+
+/* The answer of ring_book_begin. */
+typedef struct RingBegun {
+    uint32_t number;
+    RingBook book;
+} RingBegun;
+
+/* The answer of ring_book_next_key: the key to ask for, and the book as it was handed in, also where refused. */
+typedef struct RingNext {
+    uint32_t number;
+    RingKey key;
+    RingBook book;
+} RingNext;
+
+/* The answer of ring_book_take: the book from now on; where refused, as it was handed in. */
+typedef struct RingTaken {
+    uint32_t number;
+    RingBook book;
+} RingTaken;
+
+/* The answer of ring_marker. */
+typedef struct RingMarker {
+    uint32_t number;
+    double x;
+    double y;
+} RingMarker;
+
+/* Opens a sheet.
+ * Input    len words. They are only read.
+ * Answer   the sheet's length in words, which is len, its number of points and its number of nodes.
+ * Refused  1, 2, 3, 4, 5, 6, 7, 8, in this order. */
+RingHead ring_open(const int32_t *words, size_t len);
+
+/* Packs a sheet of n points.
+ * Input    3n words of points (id, x, y; ids ascending), the position that stands at each of n places, an edition, and the words lent for the sheet:
+ *          5n + 7m + 6 of them, where m is how many nodes of 16 it takes (n = 16: 1, n = 17: 3, n = 1,000: 68).
+ * Answer   0, and out is the sheet: ring_open takes it, and it has these points.
+ * Refused  18, 3, 5, 6, 17, in this order, and out is as it was. points and order are only read. */
+uint32_t ring_pack(size_t n, const int32_t *points, size_t points_len, const int32_t *order, size_t order_len, uint32_t edition, int32_t *out, size_t out_len);
+
+/* Reads the point at a position of a sheet.
+ * Input    a sheet's words, and a position below its number of points. The words are only read.
+ * Answer   its id, x and y.
+ * Refused  1 to 8 as ring_open does, then 9 where the position is not below n. */
+RingPoint ring_point(const int32_t *words, size_t len, size_t position);
+
+/* The filter walk: which points of P may be ring partners of the chamber at position j of Q. Every ring partner is among them.
+ * Input    both sheets, and a position of Q. The words are only read.
+ * Answer   the kept positions of P, their number, and the nodes of P opened.
+ * Refused  1 to 8 for P, then 1 to 8 for Q, then 9 where j is not below Q's n. */
+RingFiltered ring_filter_walk(const int32_t *p, size_t p_len, const int32_t *q, size_t q_len, size_t j);
+
+/* The ring walk: whether the chamber at position j of Q and the pump house at position i of P are a ring pair, or what blocks them. Q is walked first,
+ * then P if Q is clear.
+ * Input    both sheets, a position of Q and a position of P. The words are only read.
+ * Answer   clear, or the first that blocks, and the nodes opened.
+ * Refused  1 to 8 for P, then 1 to 8 for Q, then 9 where j is not below Q's n or i is not below P's. */
+RingWalked ring_pair_walk(const int32_t *p, size_t p_len, const int32_t *q, size_t q_len, size_t j, size_t i);
+
+/* The first `size` ring pairs strictly after a key. The key need not be a listed pair.
+ * Input    both sheets, a key, and a size 1 to 16. The words are only read.
+ * Answer   the page: both editions, the key, the pairs in the list's order, their number, the end mark.
+ * Refused  1 to 8 for P, then 1 to 8 for Q, then 9 where an id of the key is over 2,000,000,000, then 10 where the size is not 1 to 16. */
+RingPaged ring_page(const int32_t *p, size_t p_len, const int32_t *q, size_t q_len, RingKey key, size_t size);
+
+/* Begins a book of the list of two editions: nothing held, open.
+ * Input    two editions, each 1 to 1,000,000,000.
+ * Answer   the book. A book begun again starts from nothing.
+ * Refused  3. */
+RingBegun ring_book_begin(RingSource source);
+
+/* The key to ask for next: that of the last held pair, and (0, 0) where nothing is held.
+ * Input    the book and its slots. The slots are only read.
+ * Answer   the key, and the book as it was handed in.
+ * Refused  11 where the book holds more than there are slots. */
+RingNext ring_book_next_key(RingBook book, const RingPair *slots, size_t slots_len);
+
+/* Takes a page into a book: appends its pairs after the held ones, and closes the book if the end mark is set. Pages may be lost, repeated, late or out of
+ * order: one that is not the next is refused and changes nothing.
+ * Input    the book, its slots, and a page.
+ * Answer   0 and the book from now on. Slots that were held before, and slots past those held after, are not written.
+ * Refused  11 the book holds more than there are slots; 12 it is closed; 13 the page is of other editions; 14 its key is not the book's next key;
+ *          15 it has over 16 pairs, an id outside 1 to 2,000,000,000, pairs not ascending strictly after the key, or no pair and no end mark;
+ *          16 it has more pairs than slots are left. In this order, and no slot is written. */
+RingTaken ring_book_take(RingBook book, RingPair *slots, size_t slots_len, RingPage page);
+
+/* The map marker of two places (ax, ay) and (bx, by): doubled, each of its numbers is exactly the sum of the two coordinates. A zero sum gives positive zero.
+ * Refused  5 where a coordinate is not -1,000,000 to 1,000,000. */
+RingMarker ring_marker(int32_t ax, int32_t ay, int32_t bx, int32_t by);
+
+/*
+ * The numbers of refusal
+ *    1  under 6 words
+ *    2  form number not 1
+ *    3  n, m or edition out of range
+ *    4  span, root word or length wrong
+ *    5  an id or coordinate breaks its rule
+ *    6  order (and rank) not as stated
+ *    7  level, first or count wrong, or n and m disagree on zero
+ *    8  a box is not tightest
+ *    9  key out of range; a position not below its sheet's n
+ *   10  size out of range
+ *   11  held exceeds the slots
+ *   12  book closed
+ *   13  page of other editions
+ *   14  page key is not the book's next key
+ *   15  over 16 pairs; an id outside 1 to 2,000,000,000; pairs not ascending strictly after the key; no pair and no end mark
+ *   16  more pairs than slots left
+ *   17  lent output not exactly the sheet's length
+ *   18  point words not 3n, or order list not n long
+ */
+
+#ifdef __cplusplus
+}
+#endif
+
+#endif

@@ -1,0 +1,476 @@
+/*
+ * Every call of ring.h with random and damaged inputs: null with length 0, wrong lengths, extreme numbers, words changed at random.
+ * Answers are held to a plain second reading of the rules: the numbers of open up to 6, of pack, next key and take; the list, by trying every pair against
+ * every record; the marker, doubled. Lent memory is held to a copy made before the call, with guards on both sides.
+ * Prints one line, and ends with 1 where an answer differs or a number of refusal never came up.
+ */
+#include <stdio.h>
+#include <string.h>
+
+#include "ring.h"
+
+#define TIMES 10000
+#define MOST 6000
+#define GUARD 0x5ead5eed
+
+static uint64_t seed = 88172645463325252ull;
+static unsigned long calls, wrong, first_wrong, seen[19];
+
+#define HOLD(test) ((test) ? (void)0 : (void)(wrong++ ? 0 : (first_wrong = __LINE__)))
+
+static uint64_t chance(void) {
+    seed ^= seed << 13;
+    seed ^= seed >> 7;
+    seed ^= seed << 17;
+    return seed;
+}
+
+static size_t below(size_t n) { return (size_t)((chance() >> 11) % n); }
+
+static int32_t between(int32_t low, int32_t high) { return (int32_t)(low + (int64_t)below((size_t)((int64_t)high - low + 1))); }
+
+/* a number that some rule may stumble on */
+static uint32_t wild(void) {
+    static const uint32_t edges[] = {0, 1, 2, 3, 7, 15, 16, 17, 400, 401, 1000, 1001, 1000000, 1000001, 0xfff0bdc0, 0xfff0bdbf, 1000000000, 1000000001, 2000000000, 2000000001, 0x7fffffff, 0x80000000, 0xffffffff};
+    return below(3) ? edges[below(sizeof edges / sizeof edges[0])] : (uint32_t)chance();
+}
+
+static size_t wild_size(void) { return below(4) ? wild() : below(2) ? (size_t)chance() : SIZE_MAX / 3 + below(3); }
+
+static void saw(uint32_t number) {
+    calls++;
+    HOLD(number <= 18);
+    if (number <= 18) seen[number]++;
+}
+
+/* ---- sheets: words between guards, and a copy of all */
+
+typedef struct {
+    int32_t before[4], words[MOST], after[4];
+    size_t len;
+} Sheet;
+
+static Sheet P, Q, P_was, Q_was;
+
+static const int32_t *at(const Sheet *s) { return s->len ? s->words : NULL; }
+
+static void guard(Sheet *s) {
+    for (int k = 0; k < 4; k++) s->before[k] = s->after[k] = GUARD;
+}
+
+static void save(void) { P_was = P, Q_was = Q; }
+
+static void hold_saved(void) { HOLD(memcmp(&P, &P_was, sizeof P) == 0 && memcmp(&Q, &Q_was, sizeof Q) == 0); }
+
+static size_t nodes_for(size_t n) {
+    size_t m = 0, level = n;
+    while (level > 1 || (m == 0 && level == 1)) m += level = (level + 15) / 16;
+    return m;
+}
+
+static size_t length_for(size_t n) { return 5 * n + 7 * nodes_for(n) + 6; }
+
+static void make_points(int32_t *w, size_t n) {
+    int32_t id = (int32_t)below(9), span = below(2) ? 6 : 1000000;
+    for (size_t i = 0; i < n; i++) {
+        id += 1 + (int32_t)below(below(2) ? 3 : 1000000);
+        w[3 * i] = id, w[3 * i + 1] = between(-span, span), w[3 * i + 2] = between(-span, span);
+    }
+}
+
+static void make_order(int32_t *o, size_t n) {
+    for (size_t i = 0; i < n; i++) {
+        size_t k = below(i + 1);
+        o[i] = o[k], o[k] = (int32_t)i;
+    }
+}
+
+/* a sheet that opens */
+static void make_sheet(Sheet *s, size_t n) {
+    static int32_t points[3000], order[1000];
+    make_points(points, n), make_order(order, n);
+    s->len = length_for(n);
+    HOLD(ring_pack(n, points, 3 * n, order, n, 1 + (uint32_t)below(1000000000), s->words, s->len) == 0);
+}
+
+/* a word, the length or all is changed, or nothing */
+static void damage(Sheet *s) {
+    size_t way = below(18);
+    if (s->len < 6) return;
+    if (way == 0) s->len = 0;
+    if (way == 1) s->len = below(7);
+    if (way == 2) s->len = s->len + below(20) - (s->len > 9 ? 9 : 0);
+    if (way == 3 || way == 4) s->words[s->len - 1 - below(6)] = (int32_t)wild();
+    if (way >= 5 && way < 9) s->words[below(s->len)] = (int32_t)wild();
+    if (way >= 9 && way < 12) s->words[below(s->len)] += between(-1, 1);
+    if (way == 12)
+        for (size_t i = 0; i < s->len; i++) s->words[i] = (int32_t)wild();
+}
+
+static size_t some_n(size_t most) { return below(40) ? below(most) : below(8) ? below(60) : 999 + below(2); }
+
+/* ---- the rules, read again */
+
+static bool in(int64_t low, int64_t x, int64_t high) { return low <= x && x <= high; }
+
+static bool points_ok(const int32_t *w, size_t n) {
+    for (size_t i = 0; i < n; i++) {
+        if (!in(i ? (int64_t)w[3 * i - 3] + 1 : 1, w[3 * i], 2000000000)) return false;
+        if (!in(-1000000, w[3 * i + 1], 1000000) || !in(-1000000, w[3 * i + 2], 1000000)) return false;
+    }
+    return true;
+}
+
+static bool ranks_ok(const int32_t *o, const int32_t *r, size_t n) {
+    for (size_t i = 0; i < n; i++)
+        if (!in(0, o[i], (int64_t)n - 1) || !in(0, r[i], (int64_t)n - 1) || o[r[i]] != (int32_t)i) return false;
+    return true;
+}
+
+static bool order_ok(const int32_t *o, size_t n) {
+    static bool there[1000];
+    memset(there, 0, sizeof there);
+    for (size_t i = 0; i < n; i++) {
+        if (!in(0, o[i], (int64_t)n - 1) || there[o[i]]) return false;
+        there[o[i]] = true;
+    }
+    return true;
+}
+
+/* the number of open as far as 6; 0 where it is 0, 7 or 8 */
+static uint32_t open_no(const int32_t *w, size_t len) {
+    if (len < 6) return 1;
+    const int32_t *t = w + len - 6;
+    int64_t n = t[2], m = t[3];
+    if (t[5] != 1) return 2;
+    if (!in(0, n, 1000) || !in(0, m, 400) || !in(1, t[4], 1000000000)) return 3;
+    if (t[0] != 5 * n + 7 * m || t[1] != (m ? 7 : 0) || (int64_t)len != 5 * n + 7 * m + 6) return 4;
+    if (!points_ok(w, (size_t)n)) return 5;
+    return ranks_ok(w + 3 * n, w + 4 * n, (size_t)n) ? 0 : 6;
+}
+
+static uint32_t pack_no(size_t n, const int32_t *points, size_t points_len, const int32_t *order, size_t order_len, uint32_t edition, size_t out_len) {
+    if (n > SIZE_MAX / 3 || points_len != 3 * n || order_len != n) return 18;
+    if (n > 1000 || !in(1, edition, 1000000000)) return 3;
+    if (!points_ok(points, n)) return 5;
+    if (!order_ok(order, n)) return 6;
+    return out_len == length_for(n) ? 0 : 17;
+}
+
+static bool blocks(const int32_t *a, const int32_t *b, const int32_t *x) {
+    return ((int64_t)a[1] - x[1]) * ((int64_t)b[1] - x[1]) + ((int64_t)a[2] - x[2]) * ((int64_t)b[2] - x[2]) <= 0;
+}
+
+static size_t count_of(const Sheet *s) { return (size_t)s->words[s->len - 4]; }
+
+static size_t nodes_of(const Sheet *s) { return (size_t)s->words[s->len - 3]; }
+
+static bool is_pair(size_t j, size_t i) {
+    const int32_t *q = Q.words + 3 * j, *p = P.words + 3 * i;
+    for (size_t k = 0; k < count_of(&Q); k++)
+        if (k != j && blocks(q, p, Q.words + 3 * k)) return false;
+    for (size_t k = 0; k < count_of(&P); k++)
+        if (k != i && blocks(q, p, P.words + 3 * k)) return false;
+    return true;
+}
+
+static bool after(RingKey k, RingPair v) { return k.q < v.q || (k.q == v.q && k.p < v.p); }
+
+static bool id_ok(uint32_t id) { return in(1, id, 2000000000); }
+
+static RingKey key_of(const RingPair *slots, size_t held) {
+    RingKey key = {held ? slots[held - 1].q : 0, held ? slots[held - 1].p : 0};
+    return key;
+}
+
+static bool page_bad(const RingPage *g) {
+    if (g->count > 16) return true;
+    RingKey last = g->key;
+    for (size_t k = 0; k < g->count; k++) {
+        RingPair v = g->pairs[k];
+        if (!id_ok(v.q) || !id_ok(v.p) || !after(last, v)) return true;
+        last.q = v.q, last.p = v.p;
+    }
+    return g->count == 0 && !g->end;
+}
+
+static uint32_t take_no(const RingBook *b, const RingPair *slots, size_t len, const RingPage *g) {
+    if (b->held > len) return 11;
+    if (b->closed) return 12;
+    if (g->source.p_edition != b->source.p_edition || g->source.q_edition != b->source.q_edition) return 13;
+    RingKey next = key_of(slots, b->held);
+    if (g->key.q != next.q || g->key.p != next.p) return 14;
+    if (page_bad(g)) return 15;
+    return g->count > len - b->held ? 16 : 0;
+}
+
+static bool same_book(RingBook a, RingBook b) {
+    return a.held == b.held && a.closed == b.closed && a.source.p_edition == b.source.p_edition && a.source.q_edition == b.source.q_edition;
+}
+
+/* ---- the calls */
+
+static void try_open(void) {
+    make_sheet(&P, some_n(40)), damage(&P);
+    if (below(2)) damage(&P);
+    save();
+    RingHead r = ring_open(at(&P), P.len);
+    saw(r.number), hold_saved();
+    uint32_t number = open_no(P.words, P.len);
+    HOLD(number ? r.number == number : r.number == 0 || r.number == 7 || r.number == 8);
+    if (r.number) HOLD(r.len == 0 && r.n == 0 && r.m == 0);
+    else HOLD(r.len == P.len && r.n == count_of(&P) && r.m == nodes_of(&P));
+}
+
+/* what is handed to the packer */
+static struct {
+    size_t n, points_len, order_len;
+    uint32_t edition;
+    int32_t points[MOST], order[MOST];
+} in_hand, was_in_hand;
+
+/* one thing wrong with it, or nothing; own is how many points there are */
+static void spoil(size_t own) {
+    size_t way = below(16);
+    if (way == 0) in_hand.points_len = below(3 * own + 3);
+    if (way == 1) in_hand.order_len = below(own + 3);
+    if (way == 2) in_hand.edition = wild();
+    if (way == 3 && own) in_hand.points[below(3 * own)] = (int32_t)wild();
+    if (way == 4 && own) in_hand.order[below(own)] = (int32_t)wild();
+    if (way == 5 && own) in_hand.order[below(own)] += between(-1, 1);
+    if (way == 6) P.len = below(P.len + 9);
+    if (way == 7) in_hand.n = wild_size();
+    if (way == 8) in_hand.n = in_hand.points_len = in_hand.order_len = P.len = 0;
+    if (way == 9) in_hand.n = in_hand.order_len = 1001 + below(400), in_hand.points_len = 3 * in_hand.n;
+}
+
+static void try_pack(void) {
+    size_t n = some_n(40);
+    in_hand.n = in_hand.order_len = n, in_hand.points_len = 3 * n, in_hand.edition = 1 + (uint32_t)below(1000000000);
+    make_points(in_hand.points, n), make_order(in_hand.order, n);
+    P.len = length_for(n);
+    for (size_t i = 0; i < P.len; i++) P.words[i] = (int32_t)chance();
+    spoil(n), spoil(n);
+    was_in_hand = in_hand, save();
+    const int32_t *points = in_hand.points_len ? in_hand.points : NULL, *order = in_hand.order_len ? in_hand.order : NULL;
+    uint32_t r = ring_pack(in_hand.n, points, in_hand.points_len, order, in_hand.order_len, in_hand.edition, P.len ? P.words : NULL, P.len);
+    saw(r);
+    HOLD(r == pack_no(in_hand.n, points, in_hand.points_len, order, in_hand.order_len, in_hand.edition, P.len));
+    HOLD(memcmp(&in_hand, &was_in_hand, sizeof in_hand) == 0);
+    n = in_hand.n;
+    if (r == 0) {
+        HOLD(memcmp(P.words, in_hand.points, 3 * n * 4) == 0 && memcmp(P.words + 3 * n, in_hand.order, n * 4) == 0);
+        HOLD(P.words[P.len - 2] == (int32_t)in_hand.edition && ring_open(P.words, P.len).number == 0);
+        memcpy(P.words, P_was.words, P.len * 4);
+    }
+    hold_saved();
+}
+
+static void try_point(void) {
+    make_sheet(&P, some_n(20));
+    if (below(3) == 0) damage(&P);
+    save();
+    uint32_t number = ring_open(at(&P), P.len).number;
+    size_t n = number ? 0 : count_of(&P), i = below(3) ? below(n + 2) : wild_size();
+    RingPoint r = ring_point(at(&P), P.len, i);
+    saw(r.number), hold_saved();
+    HOLD(r.number == (number ? number : i < n ? 0 : 9));
+    if (r.number) HOLD(r.id == 0 && r.x == 0 && r.y == 0);
+    else HOLD(r.id == (uint32_t)P.words[3 * i] && r.x == P.words[3 * i + 1] && r.y == P.words[3 * i + 2]);
+}
+
+/* two sheets, sometimes damaged; the number that both give, and a position of each, which may be over */
+static uint32_t two_sheets(size_t *j, size_t *i) {
+    make_sheet(&P, some_n(14)), make_sheet(&Q, some_n(14));
+    if (below(4) == 0) damage(&P);
+    if (below(4) == 0) damage(&Q);
+    save();
+    uint32_t p = ring_open(at(&P), P.len).number, q = ring_open(at(&Q), Q.len).number;
+    *j = below(8) ? below(q ? 9 : count_of(&Q) + 1) : wild_size();
+    *i = below(8) ? below(p ? 9 : count_of(&P) + 1) : wild_size();
+    return p ? p : q;
+}
+
+static void try_filter(void) {
+    size_t j, i, set = 0;
+    uint32_t number = two_sheets(&j, &i);
+    RingFiltered r = ring_filter_walk(at(&P), P.len, at(&Q), Q.len, j);
+    saw(r.number), hold_saved();
+    HOLD(r.number == (number ? number : j < count_of(&Q) ? 0 : 9));
+    for (i = 0; i < 1024; i++) {
+        bool kept = r.bits[i / 64] >> i % 64 & 1;
+        set += kept;
+        if (r.number || i >= count_of(&P)) HOLD(!kept);
+        else if (!kept && i < 60) HOLD(!is_pair(j, i));
+    }
+    HOLD(r.count == set && (r.number ? r.opened == 0 : r.opened <= nodes_of(&P)));
+}
+
+static void try_pair(void) {
+    size_t j, i;
+    uint32_t number = two_sheets(&j, &i);
+    RingWalked r = ring_pair_walk(at(&P), P.len, at(&Q), Q.len, j, i);
+    saw(r.number), hold_saved();
+    HOLD(r.number == (number ? number : j < count_of(&Q) && i < count_of(&P) ? 0 : 9));
+    if (r.number || r.kind == RING_CLEAR) HOLD(r.kind == 0 && r.set == 0 && r.at == 0);
+    if (r.number) {
+        HOLD(r.opened == 0);
+        return;
+    }
+    const Sheet *s = r.set ? &Q : &P;
+    HOLD(r.kind <= 2 && r.set <= 1 && r.opened <= nodes_of(&P) + nodes_of(&Q));
+    HOLD((r.kind == RING_CLEAR) == is_pair(j, i));
+    if (r.kind == RING_BY_POINT) HOLD(r.at < count_of(s) && r.at != (r.set ? j : i) && blocks(Q.words + 3 * j, P.words + 3 * i, s->words + 3 * r.at));
+    if (r.kind == RING_BY_SIDE) HOLD(r.at < nodes_of(s));
+}
+
+/* the page that the list gives, by trying every pair */
+static RingPage page_of(RingKey key, size_t size) {
+    RingPage g;
+    memset(&g, 0, sizeof g);
+    g.source.p_edition = (uint32_t)P.words[P.len - 2], g.source.q_edition = (uint32_t)Q.words[Q.len - 2];
+    g.key = key, g.end = true;
+    for (size_t j = 0; j < count_of(&Q) && g.end; j++)
+        for (size_t i = 0; i < count_of(&P) && g.end; i++) {
+            RingPair v = {(uint32_t)Q.words[3 * j], (uint32_t)P.words[3 * i]};
+            if (!after(key, v) || !is_pair(j, i)) continue;
+            if (g.count < size) g.pairs[g.count++] = v;
+            else g.end = false;
+        }
+    return g;
+}
+
+static bool same_page(const RingPage *a, const RingPage *b) {
+    return a->source.p_edition == b->source.p_edition && a->source.q_edition == b->source.q_edition && a->key.q == b->key.q && a->key.p == b->key.p
+        && a->count == b->count && a->end == b->end && memcmp(a->pairs, b->pairs, sizeof a->pairs) == 0;
+}
+
+static void try_page(void) {
+    size_t j, i, size = below(6) ? 1 + below(16) : wild_size();
+    RingKey key = {0, 0};
+    RingPage expected;
+    uint32_t number = two_sheets(&j, &i);
+    if (!number && j < count_of(&Q) && i < count_of(&P)) key.q = (uint32_t)Q.words[3 * j] + (uint32_t)below(2), key.p = (uint32_t)P.words[3 * i];
+    if (below(6) == 0) key.q = wild();
+    if (below(6) == 0) key.p = wild();
+    if (!number) number = key.q > 2000000000 || key.p > 2000000000 ? 9 : size < 1 || size > 16 ? 10 : 0;
+    RingPaged r = ring_page(at(&P), P.len, at(&Q), Q.len, key, size);
+    saw(r.number), hold_saved();
+    HOLD(r.number == number);
+    if (r.number) memset(&expected, 0, sizeof expected), HOLD(r.opened == 0);
+    else expected = page_of(key, size);
+    HOLD(same_page(&r.page, &expected));
+}
+
+static uint32_t some_edition(void) { return below(2) ? 1 + (uint32_t)below(1000000000) : wild(); }
+
+static void try_begin(void) {
+    RingSource s = {some_edition(), some_edition()}, none = {0, 0};
+    bool ok = in(1, s.p_edition, 1000000000) && in(1, s.q_edition, 1000000000);
+    RingBook begun = {0, false, ok ? s : none};
+    RingBegun r = ring_book_begin(s);
+    saw(r.number);
+    HOLD(r.number == (ok ? 0u : 3u) && same_book(r.book, begun));
+}
+
+/* ---- a book's slots, between guards, and a copy */
+
+static RingPair room[24], room_was[24];
+static RingPair *const slots = room + 2;
+
+static size_t make_slots(RingBook *b) {
+    size_t len = below(20);
+    for (size_t k = 0; k < 24; k++) room[k].q = 7 + (uint32_t)(k / 3), room[k].p = 1 + (uint32_t)(k % 3) + (uint32_t)below(9) * 3;
+    for (size_t k = 1; k < 24; k++)
+        if (room[k].q == room[k - 1].q && room[k].p <= room[k - 1].p) room[k].p = room[k - 1].p + 1;
+    b->held = below(8) ? below(len + 1) : below(2) ? len + 1 + below(3) : wild_size();
+    b->closed = below(9) == 0;
+    b->source.p_edition = some_edition(), b->source.q_edition = some_edition();
+    return len;
+}
+
+static void try_next(void) {
+    RingBook b;
+    size_t len = make_slots(&b);
+    memcpy(room_was, room, sizeof room);
+    RingNext r = ring_book_next_key(b, len ? slots : NULL, len);
+    saw(r.number);
+    RingKey key = key_of(slots, b.held > len ? 0 : b.held);
+    HOLD(r.number == (b.held > len ? 11u : 0u) && r.key.q == key.q && r.key.p == key.p && same_book(r.book, b));
+    HOLD(memcmp(room, room_was, sizeof room) == 0);
+}
+
+static RingPage make_page(const RingBook *b, size_t len) {
+    RingPage g;
+    memset(&g, 0, sizeof g);
+    g.source = b->source, g.key = key_of(slots, b->held > len ? 0 : b->held), g.count = below(3) ? below(5) : below(17), g.end = below(2);
+    RingPair v = {g.key.q, g.key.p};
+    for (size_t k = 0; k < 16; k++) {
+        if (below(2)) v.p++;
+        else v.q += 1 + (uint32_t)below(3), v.p = 1 + (uint32_t)below(9);
+        if (v.q == 0) v.q = 1;
+        g.pairs[k] = v;
+    }
+    return g;
+}
+
+/* one thing wrong with a page, or nothing */
+static void spoil_page(RingPage *g) {
+    switch (below(20)) {
+    case 0: g->source.p_edition = wild(); break;
+    case 1: g->source.q_edition++; break;
+    case 2: g->key.q = wild(); break;
+    case 3: g->key.p++; break;
+    case 4: g->count = wild_size(); break;
+    case 5: g->pairs[below(16)].q = wild(); break;
+    case 6: g->pairs[below(16)].p = wild(); break;
+    case 7: g->pairs[1] = g->pairs[0]; break;
+    case 8: g->count = 0; break;
+    case 9: g->key.p = wild(); break;
+    }
+}
+
+static void try_take(void) {
+    RingBook b;
+    size_t len = make_slots(&b);
+    RingPage g = make_page(&b, len);
+    spoil_page(&g), spoil_page(&g);
+    uint32_t number = take_no(&b, slots, len, &g);
+    memcpy(room_was, room, sizeof room);
+    RingTaken r = ring_book_take(b, len ? slots : NULL, len, g);
+    saw(r.number);
+    if (!number) {
+        memcpy(room_was + 2 + b.held, g.pairs, g.count * sizeof g.pairs[0]);
+        b.held += g.count, b.closed = g.end;
+    }
+    HOLD(r.number == number && same_book(r.book, b));
+    HOLD(memcmp(room, room_was, sizeof room) == 0);
+}
+
+static int32_t some_coordinate(void) { return below(4) ? between(-1000000, 1000000) : (int32_t)wild(); }
+
+static void try_marker(void) {
+    int32_t ax = some_coordinate(), ay = some_coordinate(), bx = below(4) ? some_coordinate() : -(ax + 1) + 1, by = some_coordinate();
+    bool ok = in(-1000000, ax, 1000000) && in(-1000000, ay, 1000000) && in(-1000000, bx, 1000000) && in(-1000000, by, 1000000);
+    double zero = 0.0;
+    RingMarker r = ring_marker(ax, ay, bx, by);
+    saw(r.number);
+    HOLD(r.number == (ok ? 0u : 5u));
+    HOLD(r.x + r.x == (ok ? (double)(ax + bx) : 0) && r.y + r.y == (ok ? (double)(ay + by) : 0));
+    if (!ok || ax + bx == 0) HOLD(memcmp(&r.x, &zero, sizeof zero) == 0);
+    if (!ok || ay + by == 0) HOLD(memcmp(&r.y, &zero, sizeof zero) == 0);
+}
+
+int main(void) {
+    static void (*const tries[])(void) = {try_open, try_pack, try_point, try_filter, try_pair, try_page, try_begin, try_next, try_take, try_marker};
+    size_t exports = sizeof tries / sizeof tries[0];
+    guard(&P), guard(&Q);
+    for (size_t k = 0; k < exports; k++)
+        for (int i = 0; i < TIMES; i++) tries[k]();
+    unsigned long unseen = 0;
+    for (int k = 0; k < 19; k++) unseen += seen[k] == 0;
+    printf("c calls: %zu exports, %lu calls with %lu served, %lu of the numbers 0 to 18 never seen, %lu answers wrong", exports, calls, seen[0], unseen, wrong);
+    if (wrong) printf(" (the first at line %lu)", first_wrong);
+    printf("\n");
+    return wrong || unseen;
+}

@@ -1,0 +1,12 @@
+/* What the C files of this repository need of <stdint.h>. */
+#ifndef STD_STDINT_H
+#define STD_STDINT_H
+typedef __INT32_TYPE__ int32_t;
+typedef __INT64_TYPE__ int64_t;
+typedef __UINT32_TYPE__ uint32_t;
+typedef __UINT64_TYPE__ uint64_t;
+#define INT32_MIN (-2147483647 - 1)
+#define INT32_MAX 2147483647
+#define UINT32_MAX 4294967295u
+#define SIZE_MAX __SIZE_MAX__
+#endif

@@ -1,0 +1,5 @@
+/* What the C files of this repository need of <stdio.h>. */
+#ifndef STD_STDIO_H
+#define STD_STDIO_H
+int printf(const char *, ...);
+#endif
