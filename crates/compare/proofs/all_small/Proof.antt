@@ -1,3 +1,4 @@
+-- `compare::all_small` is safe and ends. Assumes nothing.
 use Prim.Native.Nat.{_≤_, _-_}
 use borrow.Author.Needs.{needs}
 use Rattle.compare.proofs.all_small.Statement.{statement}

@@ -1,3 +1,4 @@
+-- `compare::drawn` is safe. Assumes nothing.
 use native.Mathlib.Nat.{mod-lt}
 use borrow.Author.Needs.{needs}
 use Rattle.compare.proofs.drawn.Statement.{statement}

@@ -1,3 +1,4 @@
+-- `compare::listed` is safe and ends. Assumes nothing.
 use borrow.Author.Needs.{needs}
 use Rattle.compare.proofs.listed.Statement.{statement}
 use Rattle.compare.proofs.listed.Tie as tie

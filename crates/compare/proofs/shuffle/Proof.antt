@@ -1,3 +1,4 @@
+-- `compare::shuffle` is safe and ends. Assumes nothing.
 use mathlib.Core.Path.{_≡_}
 use lib.ListN.{length}
 use Prim.Native.Nat.{_≤_, _-_}

@@ -1,3 +1,4 @@
+-- `compare::turned` is safe and ends. Assumes nothing.
 use Prim.Native.Nat.{_≤_, _-_}
 use borrow.Author.Needs.{needs}
 use Rattle.compare.proofs.turned.Statement.{statement}
