@@ -1,16 +1,13 @@
--- `walk::filter::seek_spot` meets its contract. The loop's invariant is `Seek`: what is left of the kept positions. Assumes nothing.
-use mathlib.Core.Path.{_≡_, sym, ap, _∙_}
+-- `walk::filter::seek_spot` meets its contract. The loop's invariant is `Seek`: the words before k are asked. Assumes nothing.
 use mathlib.Core.Bool.{Bool}
 use mathlib.Core.List.{List}
-use Prim.Native.Nat.{ℕ, _+_, _-_}
+use Prim.Native.Nat.{ℕ, _+_, _-_, _*_, _<_}
 use native.Mathlib.Omega.{arith}
 use lib.IntN.{ℤ}
 use Rattle.plane.specs.declared.Spot.{Spot}
-use Rattle.plane.specs.Rule.{blocks, drops}
+use Rattle.plane.specs.Rule.{drops}
 use Rattle.sheet.specs.Places.{spotOf}
-use Rattle.bits.proofs.NextLaws.{from-le}
 use Rattle.bits.proofs.SomeLaws.{Seek, seek-start, seek-yes, seek-next, seek-end}
-use Rattle.walk.proofs.NodeLaws.{spot-fits}
 use Rattle.walk.proofs.filter.seek_spot.Statement.{statement}
 use Rattle.walk.proofs.filter.seek_spot.Tie as tie
 
@@ -19,47 +16,36 @@ abbrev test : List ℤ → Spot → Spot → ℕ → Bool
 test w q z i = drops q (spotOf w i) z
 
 abbrev Inv-loop : tie.InvT-loop
-Inv-loop w n m q z bits i₀ i = Seek bits (test w q z) n i
+Inv-loop w n m q z bits k₀ k = Seek bits (test w q z) n k × (64 * k < n + 64)
 
 abbrev μ-loop : tie.MeasureT-loop
-μ-loop w n m q z bits i₀ i = n - i
-
--- what the call says of position i
-said : (c : tie.After-does-block Inv-loop μ-loop) → c .does-block .result ≡ test (c .before .before .before .before .before .before .args .w .now) (c .before .before .before .before .before .before .args .q) (c .before .before .before .before .before .before .args .z) (c .before .before .before .loop .i)
-unfolding drops
-said c = c .does-block .ensures ∙ ap (blocks _ _) (c .before .spot-at .ensures)
-
-next-from-requires : tie.Need-next-from-requires Inv-loop μ-loop
-next-from-requires c κs = c .before .pre .3 .numbered
+μ-loop w n m q z bits k₀ k = n - 64 * k
 
 loop-holds : tie.Need-loop-holds Inv-loop μ-loop
-loop-holds c = seek-start _ _ _ _ (c .next-from .ensures)
+loop-holds c = (seek-start _ _ _, omega arith)
 
-spot-at-requires : tie.Need-spot-at-requires Inv-loop μ-loop
-spot-at-requires c κs = (c .before .before .before .before .pre .0, c .loop-test .taken)
+mul-loop : tie.Need-mul-loop Inv-loop μ-loop
+mul-loop c = omega (arith, c .loop .inv .1, c .before .before .pre .0 .n-le)
 
-does-block-requires : tie.Need-does-block-requires Inv-loop μ-loop
-does-block-requires c κs =
-    let s = c .before .before .before .before .before in
-    (s .pre .1, s .pre .2, spot-fits _ _ _ (s .pre .0) (c .before .before .loop .i) _ (c .before .loop-test .taken) (c .spot-at .ensures))
+spot-in-word-requires : tie.Need-spot-in-word-requires Inv-loop μ-loop
+spot-in-word-requires c κs = let p = c .before .before .before .pre in (p .0, p .1, p .2, p .3, c .loop-test .taken)
 
 returns : tie.Need-returns Inv-loop μ-loop
-returns c = seek-yes _ _ _ (c .before .before .before .before .loop .i) (c .before .before .before .before .before .before .before .pre .3 .enough) (c .before .before .before .loop-test .taken) (c .before .before .before .before .loop .inv) (sym (said (c .before)) ∙ c .if1 .taken)
+returns c = seek-yes _ _ _ (c .before .before .before .loop .k) _ (c .if1 .taken) (c .before .spot-in-word .ensures)
 
-add-next-from : tie.Need-add-next-from Inv-loop μ-loop
-add-next-from c = omega (arith, c .before .before .before .loop-test .taken, c .before .before .before .before .before .before .before .pre .0 .n-le)
-
-next-from-requires-2 : tie.Need-next-from-requires-2 Inv-loop μ-loop
-next-from-requires-2 c κs = c .before .before .before .before .before .before .before .pre .3 .numbered
+add-k : tie.Need-add-k Inv-loop μ-loop
+add-k c = let l = c .before .before .before in omega (arith, l .loop .inv .1, l .before .before .pre .0 .n-le)
 
 loop-less : tie.Need-loop-less Inv-loop μ-loop
-loop-less c = omega (arith, from-le _ (c .before .before .before .before .before .loop .i + 1) _ (c .next-from2 .ensures), c .before .before .before .before .loop-test .taken)
+loop-less c = omega (arith, c .before .before .loop-test .taken)
 
 loop-again : tie.Need-loop-again Inv-loop μ-loop
-loop-again c = seek-next _ _ _ (c .before .before .before .before .before .loop .i) _ (c .before .before .before .before .before .before .before .before .pre .3 .enough) (c .before .before .before .before .loop-test .taken) (c .before .before .before .before .before .loop .inv) (sym (said (c .before .before)) ∙ c .before .if1 .left) (c .next-from2 .ensures)
+loop-again c =
+    let l = c .before .before .before in
+    (seek-next _ _ _ (l .loop .k) _ (c .if1 .left) (l .loop .inv .0) (c .before .spot-in-word .ensures), omega (arith, c .before .before .loop-test .taken))
 
 returns-2 : tie.Need-returns-2 Inv-loop μ-loop
-returns-2 c = seek-end _ _ _ (c .before .loop .i) (c .loop-test .left) (c .before .loop .inv)
+returns-2 c = seek-end _ _ _ (c .before .loop .k) (c .loop-test .left) (c .before .loop .inv .0)
 
 pub seek-spot-spec : {M : Type 1} → statement M
 seek-spot-spec =
@@ -67,13 +53,11 @@ seek-spot-spec =
     (tie.spec
     Inv-loop
     μ-loop
-    next-from-requires
     loop-holds
-    spot-at-requires
-    does-block-requires
+    mul-loop
+    spot-in-word-requires
     returns
-    add-next-from
-    next-from-requires-2
+    add-k
     loop-less
     loop-again
     returns-2)
