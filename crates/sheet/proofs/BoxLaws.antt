@@ -3,24 +3,65 @@
 use mathlib.Core.Path.{_≡_, refl, sym, ap, subst, _∙_}
 use mathlib.Core.Bool.{Bool, true, false, cond}
 use mathlib.Core.List.{List}
-use Prim.Native.Nat.{ℕ, zero, suc, _+_, _-_, _<_, _≤_}
+use Prim.Native.Nat.{ℕ, zero, suc, _+_, _*_, _-_, _%_, _<_, _≤_}
+use native.Mathlib.Nat.{le-antisymm}
 use native.Mathlib.Numerals.{add-one}
 use native.Mathlib.Omega.{arith}
-use lib.Dec.{eqb}
+use lib.Dec.{eqb, ltb}
 use lib.IntN.{ℤ, pos}
 use borrow.Author.Tests.{eq-eqb, ne-eqb}
-use Rattle.words.specs.Word.{eqZ}
+use Rattle.words.specs.Word.{at, eqZ, minZ, maxZ}
 use Rattle.words.specs.All.{allB}
 use Rattle.integers.specs.Bools.{test-iff}
 use Rattle.words.proofs.Signs.{eqZ-eq, eq-eqZ}
 use Rattle.words.proofs.AllLaws.{all-at, all-make}
+use Rattle.sheet.specs.Order.{orderOf}
 use Rattle.sheet.specs.Nodes.{levelWord, levelOf, firstOf, countOf, dueOf, tableOk}
-use Rattle.sheet.specs.Boxes.{sideOf, coordOf, better, best, partOf, tightSide, tightOk, sideOk, boxOk, boxesOk}
+use Rattle.sheet.specs.Boxes.{sideOf, coordOf, better, best, partOf, tightSide, tightOk, sideOk, sidesAre, boxIs, boxOk, boxesOk}
 use Rattle.sheet.proofs.TreeLaws.{run-at, child}
 
 pub best-more : (q : ℕ) (v : ℕ → ℤ) (a i : ℕ) → better q (best q v a i) (v (a + (i + 1))) ≡ best q v a (i + 1)
 unfolding best
 best-more q v a i = rw add-one
+
+-- one part more, of a side that bounds from below, and of one that bounds from above
+pub least-more : (q : ℕ) (v : ℕ → ℤ) (a i : ℕ) {x y z : ℤ} → ltb q 2 ≡ true → z ≡ minZ x y → x ≡ best q v a i → y ≡ v (a + (i + 1)) → z ≡ best q v a (i + 1)
+unfolding better
+least-more q v a i {x} {y} {z} t e f g =
+    e ∙ rw (f, g) (sym (ap (λ (b : Bool). cond b (minZ (best q v a i) (v (a + (i + 1)))) (maxZ (best q v a i) (v (a + (i + 1))))) t) ∙ best-more q v a i)
+
+pub greatest-more : (q : ℕ) (v : ℕ → ℤ) (a i : ℕ) {x y z : ℤ} → ltb q 2 ≡ false → z ≡ maxZ x y → x ≡ best q v a i → y ≡ v (a + (i + 1)) → z ≡ best q v a (i + 1)
+unfolding better
+greatest-more q v a i {x} {y} {z} t e f g =
+    e ∙ rw (f, g) (sym (ap (λ (b : Bool). cond b (minZ (best q v a i) (v (a + (i + 1)))) (maxZ (best q v a i) (v (a + (i + 1))))) t) ∙ best-more q v a i)
+
+-- the words that are a leaf's parts, and those of a higher node
+pub leaf-part : (w : List ℤ) (n q k h : ℕ) → h ≡ 3 * orderOf w n k + 1 + q % 2 → at w h ≡ partOf w n true q k
+unfolding partOf coordOf
+leaf-part w n q k h e = ap (λ (i : ℕ). at w i) e
+
+pub inner-part : (w : List ℤ) (n q k h : ℕ) → h ≡ 5 * n + 7 * k + 3 + q → at w h ≡ partOf w n false q k
+unfolding partOf sideOf
+inner-part w n q k h e = ap (λ (i : ℕ). at w i) e
+
+-- the first of them, alone
+pub leaf-first : (w : List ℤ) (n q k h : ℕ) {z : ℤ} → z ≡ at w h → h ≡ 3 * orderOf w n k + 1 + q % 2 → z ≡ best q (partOf w n true q) k 0
+unfolding best
+leaf-first w n q k h f e = f ∙ leaf-part w n q k h e
+
+pub inner-first : (w : List ℤ) (n q k h : ℕ) {z : ℤ} → z ≡ at w h → h ≡ 5 * n + 7 * k + 3 + q → z ≡ best q (partOf w n false q) k 0
+unfolding best
+inner-first w n q k h f e = f ∙ inner-part w n q k h e
+
+-- the test of the four sides that a pass over all parts has found
+pub box-found : (w : List ℤ) (n : ℕ) (leaf : Bool) (j a i c : ℕ) {r : Bool} {x y u v : ℤ} → r ≡ sidesAre w n j x y u v → i ≤ c → c ≤ i → x ≡ best 0 (partOf w n leaf 0) a i → y ≡ best 1 (partOf w n leaf 1) a i → u ≡ best 2 (partOf w n leaf 2) a i → v ≡ best 3 (partOf w n leaf 3) a i → r ≡ boxIs w n leaf j a c
+unfolding boxIs
+box-found w n leaf j a i c f g h e₀ e₁ e₂ e₃ = f ∙ rw (e₀, e₁, e₂, e₃, le-antisymm g h)
+
+-- the four sides found in one pass are the four tests
+pub box-is : (w : List ℤ) (n j : ℕ) (leaf : Bool) (a c : ℕ) → leaf ≡ eqZ (levelWord w n j) (pos 0) → a ≡ firstOf w n j → c ≡ countOf w n j - 1 → boxIs w n leaf j a c ≡ boxOk w n j
+unfolding boxIs sidesAre boxOk sideOk allB
+box-is w n j leaf a c e f g = rw (e, f, g)
 
 -- equal parts have an equal best
 pub best-cong : (q : ℕ) (u v : ℕ → ℤ) (a c : ℕ) → ((k : ℕ) → a ≤ k → k ≤ a + c → u k ≡ v k) → best q u a c ≡ best q v a c
