@@ -1,19 +1,18 @@
 -- Laws of clipped words and of distances. Assumes nothing.
 use mathlib.Core.Path.{_≡_, refl, sym, ap, subst, _∙_}
-use mathlib.Core.Bool.{Bool, true, false, cond, not}
-use mathlib.Core.List.{List, [], _∷_}
+use mathlib.Core.Bool.{Bool, true, false, cond}
 use Prim.Native.Nat.{ℕ, _+_, _*_, _-_, _≤_, _<_, _^_}
 use native.Mathlib.Nat.{mul-le-mul}
 use native.Mathlib.Omega.{arith}
 use lib.Dec.{T, leb}
-use lib.IntN.{ℤ, pos, negsuc, negℤ, natAbs, _-ℤ_}
+use lib.IntN.{ℤ, pos, negsuc, natAbs, _-ℤ_}
 use lib.Signed.{leZ, ltZ, nonNeg, mag, _≤ℤ_, yes-nonNeg}
 use mir.Syntax.{w32, w64}
 use mir.Val.{Fits, toZ, ofZ}
 use mir.Facts.{toZ-ofZ}
 use borrow.Author.Tests.{le-leb, lt-leb, leb-true}
-use Rattle.integers.specs.Bools.{test-iff, decide}
-use Rattle.integers.specs.Order.{Within, in--, in-up, in-lit, sfits-in, abs-of, zl, diff, absN, leZ-not, le-true, sum, pp, nn}
+use Rattle.integers.specs.Bools.{test-iff}
+use Rattle.integers.specs.Order.{Within, in-lit, sfits-in, abs-of, zl, diff, leZ-not, le-true, pp, nn}
 use Rattle.integers.specs.Cast.{result-is}
 use Rattle.brute.specs.declared.Place.{Place}
 use Rattle.brute.specs.Brute.{clip, across, apart, covers}

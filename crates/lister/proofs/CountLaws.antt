@@ -1,19 +1,18 @@
 -- The pairs that are left after a key, and that the pages come to an end. Assumes nothing.
 use mathlib.Core.Path.{_≡_, refl, sym, ap, subst, _∙_}
-use mathlib.Core.Bool.{Bool, true, false, cond, not}
-use mathlib.Core.List.{List, [], _∷_, _++_}
+use mathlib.Core.Bool.{Bool, true, false, cond}
+use mathlib.Core.List.{List, [], _∷_}
 use Prim.Native.Nat.{ℕ, zero, suc, _+_, _*_, _≤_, _<_}
 use native.Mathlib.Nat.{mul-le-mul}
 use native.Mathlib.Omega.{arith}
-use borrow.Author.Tests.{ltb-true, not-true, not-false}
-use lib.Dec.{ltb}
+use borrow.Author.Tests.{ltb-true, not-false}
 use lib.IntN.{ℤ}
 use lib.ListN.{length, take, drop, length-append, length-take, length-drop}
 use Rattle.sheet.specs.Places.{pointsOf}
 use Rattle.sheet.proofs.PointsLaws.{length-points}
 use Rattle.list.specs.declared.Key.{Key}
 use Rattle.list.specs.declared.Pair.{Pair}
-use Rattle.list.specs.Pairs.{start, ascends, after, lastOr, isNone}
+use Rattle.list.specs.Pairs.{start, after, isNone}
 use Rattle.list.specs.Pages.{shown}
 use Rattle.list.specs.Rows.{row, rows, listBy}
 use Rattle.list.specs.RingList.{ringList, ringPair, pairAt}

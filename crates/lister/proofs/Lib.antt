@@ -4,8 +4,10 @@
 --     ShowLaws      what a page of the list shows: its ends are there, and the next key is in range
 --     CountLaws     the pairs that are left after a key, and that the pages come to an end
 --     OutcomeLaws   which outcome an input has
+--     Whole         the pages' lines, one after the other, and the last line are the listing
 pub mod SplitLaws
 pub mod LineLaws
 pub mod ShowLaws
 pub mod CountLaws
 pub mod OutcomeLaws
+pub mod Whole

@@ -1,10 +1,9 @@
 -- Laws of the lines: finding a record by its id, and lines one after the other. Assumes nothing.
 use mathlib.Core.Path.{_≡_, refl, sym, ap, subst, _∙_}
-use mathlib.Core.Bool.{Bool, true, false}
+use mathlib.Core.Bool.{Bool}
 use mathlib.Core.List.{List, [], _∷_, _++_, append-assoc, append-nil, map}
 use Prim.Native.Nat.{ℕ, _+_, _≤_, _<_}
 use native.Mathlib.Nat.{le-antisymm}
-use native.Mathlib.Omega.{arith}
 use native.Mathlib.Nat.{add-zero}
 use native.Mathlib.Numerals.{add-one}
 use borrow.Author.Tests.{eq-eqb, ne-eqb}
@@ -15,7 +14,7 @@ use lib.Seq.{take-suc}
 use Rattle.words.specs.All.{firstB}
 use Rattle.words.proofs.AllLaws.{first-more, first-stop}
 use Rattle.plane.specs.Rule.{SpotIn}
-use Rattle.plane.specs.Point.{Point, idAt, spotAt}
+use Rattle.plane.specs.Point.{Point, idAt}
 use Rattle.sheet.specs.Places.{spotOf, pointsOf}
 use Rattle.sheet.specs.Open.{Opens}
 use Rattle.sheet.proofs.PointsLaws.{length-points, spot-of}

@@ -1,15 +1,15 @@
 -- Laws of the place where the input is split. Assumes nothing.
-use mathlib.Core.Path.{_≡_, refl, sym, ap, _∙_}
-use mathlib.Core.Bool.{Bool, true, false, cond, _&&_, true≢false}
+use mathlib.Core.Path.{_≡_, refl, sym, _∙_}
+use mathlib.Core.Bool.{true, false, cond, _&&_, true≢false}
 use mathlib.Core.List.{List}
-use Prim.Native.Nat.{ℕ, suc, _+_, _-_, _≤_, _<_}
+use Prim.Native.Nat.{ℕ, _+_, _-_, _≤_, _<_}
 use native.Mathlib.Omega.{arith}
-use borrow.Author.Tests.{ltb-true, le-leb, lt-leb}
-use lib.Dec.{leb, ltb}
+use borrow.Author.Tests.{le-leb, lt-leb}
+use lib.Dec.{leb}
 use lib.IntN.{ℤ, pos, negsuc, _+ℤ_}
 use lib.ListN.{length}
 use lib.Signed.{leZ, ltZ}
-use Rattle.integers.specs.Order.{sum, zl, false-le}
+use Rattle.integers.specs.Order.{sum, zl}
 use Rattle.words.specs.Word.{within, num}
 use Rattle.sheet.specs.Layout.{span}
 use Rattle.lister.specs.Split.{splitAt}

@@ -1,15 +1,18 @@
 -- What the listing of two sets of points is, line by line.
-use mathlib.Core.Bool.{Bool}
+use mathlib.Core.Bool.{cond}
 use mathlib.Core.List.{List, [], _∷_, _++_}
-use Prim.Native.Nat.{ℕ, _<_}
+use Prim.Native.Nat.{ℕ, zero, suc, _<_}
 use lib.Dec.{eqb}
-use lib.IntN.{ℤ, natAbs, _+ℤ_}
+use lib.IntN.{natAbs, _+ℤ_}
 use lib.ListN.{length}
 use Rattle.words.specs.All.{firstB}
 use Rattle.plane.specs.declared.Spot.{Spot}
 use Rattle.plane.specs.Rule.{size}
 use Rattle.plane.specs.Point.{Point, idAt, spotAt}
+use Rattle.list.specs.declared.Key.{Key}
 use Rattle.list.specs.declared.Pair.{Pair}
+use Rattle.list.specs.Pairs.{after, lastOr, isNone}
+use Rattle.list.specs.Pages.{shown}
 use Rattle.list.specs.RingList.{ringList}
 use Rattle.text.specs.Text.{lineText, endText}
 
@@ -39,6 +42,13 @@ HasBoth P Q v = Has Q (v .q) × Has P (v .p)
 unfoldable pub linesOf : List Point → List Point → List Pair → List ℕ
 linesOf P Q [] = []
 linesOf P Q (v ∷ l) = lineOf P Q v ++ linesOf P Q l
+
+-- the lines of pages of sixteen from a key on, each next key the last pair shown, until the end mark (at most f pages): what the program writes, page
+-- after page
+unfoldable pub pagesText : ℕ → List Point → List Point → List Pair → Key → List ℕ
+pagesText zero P Q l key = []
+pagesText (suc f) P Q l key =
+    linesOf P Q (shown l key 16) ++ cond (isNone (after (lastOr key (shown l key 16)) l)) [] (pagesText f P Q l (lastOr key (shown l key 16)))
 
 -- a line for each ring pair, "last `end` and the number of pairs"
 unfoldable pub listingOf : List Point → List Point → List ℕ

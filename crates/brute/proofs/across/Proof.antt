@@ -1,8 +1,8 @@
 -- `brute::across` meets its contract. Assumes nothing.
-use mathlib.Core.Path.{_≡_, ap, subst, sym, _∙_}
-use Prim.Native.Nat.{ℕ, _*_, _≤_}
+use mathlib.Core.Path.{_≡_, subst, sym, _∙_}
+use Prim.Native.Nat.{_*_}
 use native.Mathlib.Omega.{arith}
-use lib.IntN.{ℤ, natAbs, _-ℤ_}
+use lib.IntN.{natAbs, _-ℤ_}
 use Rattle.integers.specs.Order.{Within, in-up, in--}
 use Rattle.brute.proofs.Distances.{square-le, back}
 use Rattle.brute.proofs.across.Statement.{statement}

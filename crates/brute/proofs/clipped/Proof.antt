@@ -1,8 +1,5 @@
 -- `brute::clipped` meets its contract. Assumes nothing.
-use mathlib.Core.Path.{_≡_, subst, sym, ap, _∙_}
-use mathlib.Core.Bool.{true, false}
-use lib.IntN.{ℤ, pos, negsuc}
-use lib.Signed.{ltZ}
+use mathlib.Core.Path.{_∙_}
 use mir.Facts.{toZ-ofZ}
 use Rattle.integers.specs.Cast.{cast-wide, wide-is}
 use Rattle.brute.proofs.Distances.{clip-low, clip-high, clip-is, clip-in}

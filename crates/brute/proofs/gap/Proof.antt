@@ -1,8 +1,7 @@
 -- `brute::gap` meets its contract. Assumes nothing.
-use mathlib.Core.Path.{_≡_, ap, _∙_}
+use mathlib.Core.Path.{ap, _∙_}
 use mathlib.Core.List.{List, [], _∷_}
 use Prim.Native.Nat.{ℕ, _≤_}
-use native.Mathlib.Omega.{arith}
 use lib.IntN.{ℤ, natAbs, _-ℤ_}
 use mir.Syntax.{w64}
 use Rattle.integers.specs.Solver.{_:-_, v0, v1}

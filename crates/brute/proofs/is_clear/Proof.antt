@@ -1,9 +1,9 @@
 -- `brute::is_clear` meets its contract. Assumes nothing.
-use mathlib.Core.Path.{_≡_, sym, ap, _∙_}
-use mathlib.Core.Bool.{Bool, true, false, not, _||_}
+use mathlib.Core.Path.{ap, _∙_}
+use mathlib.Core.Bool.{not}
 use borrow.Author.Needs.{needs}
 use borrow.Author.Tests.{eq-eqb, ne-eqb}
-use Rattle.brute.specs.Brute.{clear, covers, placeAt}
+use Rattle.brute.specs.Brute.{clear, covers}
 use Rattle.brute.proofs.is_clear.Statement.{statement}
 use Rattle.brute.proofs.is_clear.Tie as tie
 

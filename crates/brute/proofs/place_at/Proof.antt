@@ -1,5 +1,5 @@
 -- `brute::place_at` meets its contract. Assumes nothing.
-use mathlib.Core.Path.{_≡_, subst, sym}
+use mathlib.Core.Path.{subst, sym}
 use Rattle.integers.specs.Order.{Within}
 use Rattle.brute.specs.Brute.{placeAt}
 use Rattle.brute.proofs.Distances.{clipped-is, clip-in}

@@ -3,7 +3,6 @@ use mathlib.Core.Path.{_≡_, sym, ap, _∙_}
 use native.Mathlib.Omega.{arith}
 use borrow.Author.Needs.{needs}
 use mathlib.Core.Bool.{false}
-use Prim.Native.Nat.{_/_}
 use lib.ListN.{length}
 use lib.Seq.{length-take-le}
 use Rattle.lister.specs.Split.{badInput}

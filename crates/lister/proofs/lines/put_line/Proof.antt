@@ -1,13 +1,12 @@
 -- `lister::lines::put_line` meets its contract. Assumes nothing.
-use mathlib.Core.Path.{_≡_, sym, ap, subst, _∙_}
+use mathlib.Core.Path.{ap, subst}
 use mathlib.Core.List.{List, [], _∷_}
 use Prim.Native.Nat.{ℕ}
 use borrow.Author.Needs.{needs}
-use lib.IntN.{ℤ, natAbs, _+ℤ_}
+use lib.IntN.{ℤ, natAbs}
 use mir.Syntax.{w64}
 use Rattle.integers.specs.Solver.{_:+_, v0, v1, v2, v3}
 use Rattle.integers.specs.Mach.{Each, fits, runs}
-use Rattle.plane.specs.Rule.{size}
 use Rattle.text.specs.Text.{Grown, lineText}
 use Rattle.lister.specs.Listing.{lineAt}
 use Rattle.lister.proofs.lines.put_line.Statement.{statement}
