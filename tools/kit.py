@@ -1,4 +1,4 @@
-"""Runs the repository's proved programs: builds one that is not built yet, saying so, and uses the kit's emulator where the machine is no x86-64."""
+"""Runs the repository's proved programs: builds one that is not built yet or older than a crate, saying so, and uses the kit's emulator where the machine is no x86-64."""
 import os
 import platform
 import shutil
@@ -16,21 +16,31 @@ def toolchain():
     return os.path.join(kit, "on", platform.machine(), "toolchain")
 
 
+def changed_since(program):
+    """Whether a file of a crate is newer than the program."""
+    made = os.path.getmtime(program)
+    return any(os.path.getmtime(os.path.join(folder, name)) > made for folder, _, names in os.walk(os.path.join(TOP, "crates")) for name in names)
+
+
 def built(name):
+    toolchain()
     program = os.path.join(TOP, "target", "bin", name)
-    if not os.path.exists(program):
-        print("proving and building %s: this takes some minutes the first time" % name, file=sys.stderr, flush=True)
+    missing = not os.path.exists(program)
+    if missing or changed_since(program):
+        told = "proving and building %s: this takes some minutes the first time" if missing else "proving again what has changed below %s"
+        print(told % name, file=sys.stderr, flush=True)
         stamp = os.path.join(TOP, "target", "stamp", name)
-        if os.path.exists(stamp):
+        if missing and os.path.exists(stamp):
             os.remove(stamp)
         with subprocess.Popen(["rt", "check", name], cwd=TOP, stdout=subprocess.PIPE, stderr=subprocess.STDOUT, text=True) as work:
             lines = []
             for line in work.stdout:
                 lines.append(line)
-                if line.startswith("rt:"):
+                if line.startswith("rt:") and "(unchanged" not in line:
                     print(line, end="", file=sys.stderr, flush=True)
         if work.returncode or not os.path.exists(program):
             sys.exit("".join(lines[-20:]) + "%s is not built" % name)
+        os.utime(program)
     return program
 
 
