@@ -2,7 +2,7 @@ use native.Mathlib.Omega.{arith}
 use Rattle.integers.specs.Bools.{passed, failed}
 use Rattle.pack.specs.Pack.{packNo}
 use Rattle.pack.proofs.TableLaws.{plan-few}
-use Rattle.pack.proofs.PackLaws.{range-few, size-fits, size-differs}
+use Rattle.pack.proofs.PackLaws.{shape-points, range-few, size-fits, size-differs}
 use borrow.Author.Needs.{needs}
 use Rattle.pack.proofs.pack_no.Statement.{statement}
 use Rattle.pack.proofs.pack_no.Tie as tie
@@ -22,7 +22,7 @@ unfolding packNo
 returns-2 c = rw (passed (c .before .before .before .shape-ok .ensures) (c .before .before .if1 .left), failed (c .before .range-ok .ensures) (c .if2 .taken))
 
 points-ok-requires : tie.Need-points-ok-requires
-points-ok-requires c κs = omega (arith, c .before .before .before .before .before .pre .0 .points-le, range-few (c .before .before .before .before .before .args .lim) (c .before .before .before .before .before .args .n) (c .before .before .before .before .before .args .edition) (passed (c .before .range-ok .ensures) (c .if2 .left)))
+points-ok-requires c κs = omega (arith, c .before .before .before .before .before .pre .0 .points-le, range-few (c .before .before .before .before .before .args .lim) (c .before .before .before .before .before .args .n) (c .before .before .before .before .before .args .edition) (passed (c .before .range-ok .ensures) (c .if2 .left)), shape-points _ _ _ (passed (c .before .before .before .shape-ok .ensures) (c .before .before .if1 .left)))
 
 returns-3 : tie.Need-returns-3
 unfolding packNo

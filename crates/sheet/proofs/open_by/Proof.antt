@@ -42,8 +42,11 @@ body-no-requires : tie.Need-body-no-requires
 body-no-requires c κs =
     let a = c .before .before in
     let f = trailer-facts _ _ (sym (a .before .trailer-no .ensures) ∙ a .if1 .left) in
-    let p = a .before .before .pre in
-    (omega (arith, c .before .num-at .ensures .0, p .points-le), omega (arith, c .num-at2 .ensures .0, p .nodes-le))
+    let p = a .before .before .pre in (
+      omega (arith, c .before .num-at .ensures .0, p .points-le),
+      omega (arith, c .num-at2 .ensures .0, p .nodes-le),
+      omega (arith, c .before .num-at .ensures .0, c .num-at2 .ensures .0, f .size),
+    )
 
 -- src/lib.rt:41:1
 returns-2 : tie.Need-returns-2
