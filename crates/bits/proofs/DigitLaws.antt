@@ -8,7 +8,7 @@ use native.Mathlib.Numerals.{one-add, add-one}
 use native.Mathlib.Decide.{decLt}
 use lib.Count.{ones, ones-step, trailingZeros, under}
 use lib.Pow.{shr-shr, shr-lt, shl-shr, pow-pos, pow-lt, pow-mono, pow-add, shl-exact}
-use lib.Bits.{bitOr, bitAnd, and-high, or-add-and, or-shr, or-mod}
+use lib.Bits.{bitOr, bitAnd, and-step, and-self, and-high, or-add-and, or-shr, or-mod}
 use lib.Dec.{lit<}
 use Rattle.bits.specs.Set.{digit}
 
@@ -55,6 +55,43 @@ tz-one (suc k) n p h = go (n % 2) refl (λ q l. tz-one k (n / 2) q l)
 -- a set digit of what is left above k stands within the word
 pub within-word : (n k z : ℕ) → n < 2 ^ 64 → digit (n / 2 ^ k) z ≡ 1 → k + z < 64
 within-word n k z f e = lt-of-not-le (λ (g : 64 ≤ k + z). omega (arith, digit-shr n k z, digit-high n 64 (k + z) f g))
+
+-- ---- the lowest set digit is cleared: `x & (x - 1)`
+clear-bit : (x : ℕ) → 0 < x → bitAnd x (x - 1) % 2 ≡ 0
+clear-bit x p = omega (arith, and-step x (x - 1))
+
+clear-even : (x : ℕ) → 0 < x → x % 2 ≡ 0 → bitAnd x (x - 1) / 2 ≡ bitAnd (x / 2) (x / 2 - 1)
+clear-even x p e =
+    let h : (x - 1) / 2 ≡ x / 2 - 1 = omega arith in
+    omega (arith, and-step x (x - 1), ap (bitAnd (x / 2)) h)
+
+clear-odd : (x d : ℕ) → x % 2 ≡ suc d → bitAnd x (x - 1) / 2 ≡ x / 2
+clear-odd x d e =
+    let h : (x - 1) / 2 ≡ x / 2 = omega arith in
+    omega (arith, and-step x (x - 1), ap (bitAnd (x / 2)) h ∙ and-self (x / 2))
+
+-- up to it no digit is left
+pub clear-low : (k x j : ℕ) → 0 < x → x < 2 ^ k → j ≤ trailingZeros k x → digit (bitAnd x (x - 1)) j ≡ 0
+unfolding trailingZeros
+clear-low zero x j p h l = absurd (omega arith)
+clear-low (suc k) x j p h l = go (x % 2) refl j l (λ i q g m. clear-low k (x / 2) i q g m)
+  where
+    go : (d : ℕ) → x % 2 ≡ d → (j : ℕ) → j ≤ under d (trailingZeros k (x / 2)) → ((i : ℕ) → 0 < x / 2 → x / 2 < 2 ^ k → i ≤ trailingZeros k (x / 2) → digit (bitAnd (x / 2) (x / 2 - 1)) i ≡ 0) → digit (bitAnd x (x - 1)) j ≡ 0
+    go d e zero l ih = digit-zero (bitAnd x (x - 1)) ∙ clear-bit x p
+    go zero e (suc i) l ih = digit-suc (bitAnd x (x - 1)) i ∙ ap (λ (y : ℕ). digit y i) (clear-even x p e) ∙ ih i (omega arith) (shr-lt k 1 (rw add-one h)) (omega arith)
+    go (suc d) e (suc i) l ih = absurd (omega arith)
+
+-- and above it each is as it was
+pub clear-high : (k x j : ℕ) → 0 < x → x < 2 ^ k → trailingZeros k x < j → digit (bitAnd x (x - 1)) j ≡ digit x j
+unfolding trailingZeros
+clear-high zero x j p h l = absurd (omega arith)
+clear-high (suc k) x j p h l = go (x % 2) refl j l (λ i q g m. clear-high k (x / 2) i q g m)
+  where
+    go : (d : ℕ) → x % 2 ≡ d → (j : ℕ) → under d (trailingZeros k (x / 2)) < j → ((i : ℕ) → 0 < x / 2 → x / 2 < 2 ^ k → trailingZeros k (x / 2) < i → digit (bitAnd (x / 2) (x / 2 - 1)) i ≡ digit (x / 2) i) → digit (bitAnd x (x - 1)) j ≡ digit x j
+    go d e zero l ih = absurd (omega arith)
+    go zero e (suc i) l ih =
+        digit-suc (bitAnd x (x - 1)) i ∙ ap (λ (y : ℕ). digit y i) (clear-even x p e) ∙ ih i (omega arith) (shr-lt k 1 (rw add-one h)) (omega arith) ∙ sym (digit-suc x i)
+    go (suc d) e (suc i) l ih = digit-suc (bitAnd x (x - 1)) i ∙ ap (λ (y : ℕ). digit y i) (clear-odd x d e) ∙ sym (digit-suc x i)
 
 -- ---- ones
 pub ones-digit : (n j : ℕ) → ones (n / 2 ^ j) ≡ digit n j + ones (n / 2 ^ (j + 1))
