@@ -1,10 +1,11 @@
 -- The words of a packed sheet, part by part; a list that is written word by word; and a node's side from the boxes already written.
 -- Assumes nothing.
 use mathlib.Core.Path.{_≡_, refl, sym, ap, subst, _∙_}
-use mathlib.Core.Bool.{true, false}
+use mathlib.Core.Bool.{Bool, true, false}
 use mathlib.Core.Logic.{⊎-elim}
 use mathlib.Core.List.{List}
 use Prim.Native.Nat.{ℕ, zero, suc, _+_, _*_, _-_, _/_, _%_, _<_, _≤_}
+use native.Mathlib.Nat.{le-antisymm}
 use native.Mathlib.Omega.{arith}
 use lib.Dec.{ltb, eqb}
 use lib.IntN.{ℤ, pos}
@@ -25,7 +26,7 @@ use Rattle.sheet.proofs.BoxLaws.{best-cong}
 use Rattle.pack.specs.Tree.{nodesFor, planOf, planCount}
 use Rattle.pack.specs.Order.{placeIn, orderListOk}
 use Rattle.pack.specs.Packed.{flatWord, coordIn, boxSide, nodeWord, bodyWord, trailerWord, packWord, sheetSize, packed}
-use Rattle.pack.specs.Work.{Holds, nodeRead}
+use Rattle.pack.specs.Work.{Holds, nodeRead, headWord, sidesPut, boxPut}
 use Rattle.pack.proofs.OrderLaws.{place-hit, list-below, list-back, list-place}
 use Rattle.pack.proofs.TableLaws.{Planned, node-stood, count-range, plan-child, plan-leaf}
 
@@ -287,3 +288,40 @@ node-more p o w n j ok d s le b f v g l e h =
     holds-fewer _ _ (5 * n + 7 * j + f + 1) _ (omega arith)
     (holds-more w (bodyWord p o n) (5 * n + 7 * j + f) v l
     (e ∙ ap (λ (x : Due). nodeRead w n x f) s ∙ read-is p o w n j ok (holds-fewer w (bodyWord p o n) _ (5 * n + 7 * j) (omega arith) h) (omega arith) b f g) h)
+
+-- its first words are told by the plan
+pub head-is : (w : List ℤ) (n : ℕ) (d : Due) (f : ℕ) → f < 3 → headWord d f ≡ nodeRead w n d f
+unfolding headWord nodeRead
+head-is w n d zero l = refl
+head-is w n d (suc zero) l = refl
+head-is w n d (suc (suc zero)) l = refl
+head-is w n d (suc (suc (suc f))) l = absurd (omega arith)
+
+-- the four sides that a pass over all parts has found are the box
+pub put-found : (w : List ℤ) (n : ℕ) (leaf : Bool) (j a i c : ℕ) {r : List ℤ} {x y u v : ℤ} → r ≡ sidesPut w (5 * n + 7 * j + 3) x y u v → i ≤ c → c ≤ i → x ≡ best 0 (partOf w n leaf 0) a i → y ≡ best 1 (partOf w n leaf 1) a i → u ≡ best 2 (partOf w n leaf 2) a i → v ≡ best 3 (partOf w n leaf 3) a i → r ≡ boxPut w n leaf j a c
+unfolding boxPut
+put-found w n leaf j a i c f g h e₀ e₁ e₂ e₃ = f ∙ rw (e₀, e₁, e₂, e₃, le-antisymm g h)
+
+-- the box of node j more
+module _ (p o w : List ℤ) (n j : ℕ) (ok : orderListOk o n ≡ true) (d : Due) (s : d ≡ planOf n j) (le : n ≤ 60000) (b : j < nodesFor n) (l : 5 * n + 7 * (j + 1) ≤ length w) (h : Holds w (bodyWord p o n) (5 * n + 7 * j + 3)) where
+  side-is : (f : ℕ) → f < 7 → nodeRead w n d f ≡ bodyWord p o n (5 * n + 7 * j + f)
+  side-is f g =
+      ap (λ (x : Due). nodeRead w n x f) s ∙ read-is p o w n j ok (holds-fewer w (bodyWord p o n) _ (5 * n + 7 * j) (omega arith) h) (omega arith) b f g
+
+  pub box-more : (leaf : Bool) (a c : ℕ) → leaf ≡ eqb (d .level) 0 → a ≡ d .next → c ≡ planCount d - 1 → Holds (boxPut w n leaf j a c) (bodyWord p o n) (5 * n + 7 * (j + 1))
+  unfolding boxPut sidesPut nodeRead
+  box-more leaf a c e₁ e₂ e₃ =
+      let k = 5 * n + 7 * j + 3 in
+      let v : ℕ → ℤ = λ q. best q (partOf w n leaf q) a c in
+      let same : (q : ℕ) → v q ≡ best q (partOf w n (eqb (d .level) 0) q) (d .next) (planCount d - 1) = λ q. rw (e₁, e₂, e₃) refl in
+      let w₀ = set w k (v 0) in
+      let w₁ = set w₀ (k + 1) (v 1) in
+      let w₂ = set w₁ (k + 2) (v 2) in
+      let l₀ : length w₀ ≡ length w = simp length-set in
+      let l₁ : length w₁ ≡ length w = simp length-set in
+      let l₂ : length w₂ ≡ length w = simp length-set in
+      let h₀ = holds-more w (bodyWord p o n) k (v 0) (omega arith) (same 0 ∙ side-is 3 (omega arith)) h in
+      let h₁ = holds-more w₀ (bodyWord p o n) (k + 1) (v 1) (omega arith) (same 1 ∙ side-is 4 (omega arith) ∙ ap (bodyWord p o n) (omega arith)) h₀ in
+      let h₂ = holds-more w₁ (bodyWord p o n) (k + 2) (v 2) (omega arith) (same 2 ∙ side-is 5 (omega arith) ∙ ap (bodyWord p o n) (omega arith)) (holds-fewer w₁ (bodyWord p o n) (k + 1 + 1) (k + 2) (omega arith) h₁) in
+      let h₃ = holds-more w₂ (bodyWord p o n) (k + 3) (v 3) (omega arith) (same 3 ∙ side-is 6 (omega arith) ∙ ap (bodyWord p o n) (omega arith)) (holds-fewer w₂ (bodyWord p o n) (k + 2 + 1) (k + 3) (omega arith) h₂) in
+      holds-fewer _ (bodyWord p o n) (k + 3 + 1) (5 * n + 7 * (j + 1)) (omega arith) h₃

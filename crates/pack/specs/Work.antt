@@ -1,11 +1,12 @@
 -- What the functions that write a sheet say of their work: how far they have come, and how the next node and its words are made from what is there.
 -- No promise of `pack` cites these.
 use mathlib.Core.Path.{_≡_}
-use mathlib.Core.Bool.{cond}
+use mathlib.Core.Bool.{Bool, cond}
 use mathlib.Core.List.{List}
-use Prim.Native.Nat.{ℕ, _+_, _-_, _<_}
+use Prim.Native.Nat.{ℕ, _+_, _*_, _-_, _<_}
 use lib.Dec.{eqb, ltb}
 use lib.IntN.{ℤ, pos}
+use lib.ListN.{set}
 use Rattle.words.specs.Word.{at}
 use Rattle.sheet.specs.declared.Due.{Due}
 use Rattle.sheet.specs.Boxes.{best, partOf}
@@ -29,3 +30,16 @@ nodeRead w n d f =
     cond (eqb f 0) (pos (d .level))
     (cond (eqb f 1) (pos (d .next))
     (cond (eqb f 2) (pos (planCount d)) (best (f - 3) (partOf w n (eqb (d .level) 0) (f - 3)) (d .next) (planCount d - 1))))
+
+-- its first three words, which no word written before it tells
+unfoldable pub headWord : Due → ℕ → ℤ
+headWord d f = cond (eqb f 0) (pos (d .level)) (cond (eqb f 1) (pos (d .next)) (pos (planCount d)))
+
+-- w with four sides written from k on
+unfoldable pub sidesPut : List ℤ → ℕ → ℤ → ℤ → ℤ → ℤ → List ℤ
+sidesPut w k xmin ymin xmax ymax = set (set (set (set w k xmin) (k + 1) ymin) (k + 2) xmax) (k + 3) ymax
+
+-- w with the box of node j written: of a leaf or not, the best of its parts a to a + c
+unfoldable pub boxPut : List ℤ → ℕ → Bool → ℕ → ℕ → ℕ → List ℤ
+boxPut w n leaf j a c =
+    sidesPut w (5 * n + 7 * j + 3) (best 0 (partOf w n leaf 0) a c) (best 1 (partOf w n leaf 1) a c) (best 2 (partOf w n leaf 2) a c) (best 3 (partOf w n leaf 3) a c)

@@ -3,7 +3,7 @@
 use crate::tree;
 use sheet::Due;
 ghost use mathlib.Core.Path.{_≡_};
-ghost use mathlib.Core.Bool.{true};
+ghost use mathlib.Core.Bool.{true, false};
 ghost use mathlib.Core.List.{List};
 ghost use Prim.Native.Nat.{_≤_, _<_, _+_, _*_};
 ghost use lib.IntN.{ℤ, pos};
@@ -12,7 +12,7 @@ ghost use Rattle.sheet.specs.Layout.{rootWord};
 ghost use Rattle.pack.specs.Tree.{nodesFor, planOf};
 ghost use Rattle.pack.specs.Order.{orderListOk};
 ghost use Rattle.pack.specs.Packed.{bodyWord, trailerWord, sheetSize, packed};
-ghost use Rattle.pack.specs.Work.{Holds, nodeRead};
+ghost use Rattle.pack.specs.Work.{Holds, headWord, sidesPut, boxPut};
 
 // A count as a word.
 fn word(x: usize) -> i32
@@ -67,10 +67,10 @@ fn put_ranks(o: &[i32], n: usize, out: &mut [i32])
     }
 }
 
-// Word f of the node of which d is planned. Its box is made from the points or boxes that it covers, as they stand in w.
-fn node_word(w: &[i32], n: usize, d: Due, f: usize) -> i32
-    requires { ⌜ (n ≤ 60000) × (d .level < 8) × (d .next < d .top) × (d .top ≤ 60000) × (f < 7) ⌝ }
-    ensures { λ r. ⌜ r ≡ nodeRead (now (w .entry)) n d f ⌝ }
+// Word f of the node of which d is planned, before its box: the level, and the first and the number of what it covers.
+fn head_word(d: Due, f: usize) -> i32
+    requires { ⌜ (d .level < 8) × (d .next < d .top) × (d .top ≤ 60000) × (f < 3) ⌝ }
+    ensures { λ r. ⌜ r ≡ headWord d f ⌝ }
 {
     if f == 0 {
         return word(d.level);
@@ -78,22 +78,89 @@ fn node_word(w: &[i32], n: usize, d: Due, f: usize) -> i32
     if f == 1 {
         return word(d.next);
     }
-    let c = tree::plan_count(d);
-    if f == 2 {
-        return word(c);
-    }
-    sheet::boxes::best_of(w, n, d.level == 0, f - 3, d.next, c - 1)
+    word(tree::plan_count(d))
 }
 
-// Writes node j, of which d is planned.
+// Writes the first three words of node j, of which d is planned.
+fn put_head(n: usize, j: usize, d: Due, out: &mut [i32])
+    requires { ⌜ (n ≤ 60000) × (j < nodesFor n) × (d ≡ planOf n j) × (5 * n + 7 * nodesFor n ≤ length (now out)) ⌝ }
+    ensures { λ _. ⌜ ((p o : List ℤ) → orderListOk o n ≡ true → Holds (now (out .entry)) (bodyWord p o n) (5 * n + 7 * j) → Holds (now (out .exit)) (bodyWord p o n) (5 * n + 7 * j + 3)) ⌝ }
+{
+    let mut f = 0;
+    while f < 3 {
+        out[5 * n + 7 * j + f] = head_word(d, f);
+        f += 1;
+    }
+}
+
+// Writes four sides from k on.
+fn put_sides(k: usize, xmin: i32, ymin: i32, xmax: i32, ymax: i32, out: &mut [i32])
+    requires { ⌜ (k ≤ 1000000) × (k + 4 ≤ length (now out)) ⌝ }
+    ensures { λ _. ⌜ now (out .exit) ≡ sidesPut (now (out .entry)) k xmin ymin xmax ymax ⌝ }
+{
+    out[k] = xmin;
+    out[k + 1] = ymin;
+    out[k + 2] = xmax;
+    out[k + 3] = ymax;
+}
+
+// Writes the box of a leaf j: the best of the points at the places a to a + c, in one pass over them.
+fn put_leaf(n: usize, j: usize, a: usize, c: usize, out: &mut [i32])
+    requires { ⌜ (n ≤ 60000) × (j < 24000) × (a ≤ 60000) × (c ≤ 16) × (5 * n + 7 * (j + 1) ≤ length (now out)) ⌝ }
+    ensures { λ _. ⌜ now (out .exit) ≡ boxPut (now (out .entry)) n true j a c ⌝ }
+{
+    let f = 3 * words::num_at(out, 3 * n + a) + 1;
+    let mut xmin = words::at(out, f);
+    let mut ymin = words::at(out, f + 1);
+    let mut xmax = xmin;
+    let mut ymax = ymin;
+    let mut i = 0;
+    while i < c {
+        i += 1;
+        let p = 3 * words::num_at(out, 3 * n + (a + i)) + 1;
+        let x = words::at(out, p);
+        let y = words::at(out, p + 1);
+        xmin = words::least(xmin, x);
+        ymin = words::least(ymin, y);
+        xmax = words::greatest(xmax, x);
+        ymax = words::greatest(ymax, y);
+    }
+    put_sides(5 * n + 7 * j + 3, xmin, ymin, xmax, ymax, out);
+}
+
+// Writes the box of a higher node j: the best of the boxes of the nodes a to a + c, in one pass over them.
+fn put_inner(n: usize, j: usize, a: usize, c: usize, out: &mut [i32])
+    requires { ⌜ (n ≤ 60000) × (j < 24000) × (a ≤ 60000) × (c ≤ 16) × (5 * n + 7 * (j + 1) ≤ length (now out)) ⌝ }
+    ensures { λ _. ⌜ now (out .exit) ≡ boxPut (now (out .entry)) n false j a c ⌝ }
+{
+    let f = 5 * n + 7 * a + 3;
+    let mut xmin = words::at(out, f + 0);
+    let mut ymin = words::at(out, f + 1);
+    let mut xmax = words::at(out, f + 2);
+    let mut ymax = words::at(out, f + 3);
+    let mut i = 0;
+    while i < c {
+        i += 1;
+        let p = 5 * n + 7 * (a + i) + 3;
+        xmin = words::least(xmin, words::at(out, p + 0));
+        ymin = words::least(ymin, words::at(out, p + 1));
+        xmax = words::greatest(xmax, words::at(out, p + 2));
+        ymax = words::greatest(ymax, words::at(out, p + 3));
+    }
+    put_sides(5 * n + 7 * j + 3, xmin, ymin, xmax, ymax, out);
+}
+
+// Writes node j, of which d is planned. Its box is made from the points or boxes that it covers, as they stand in the words written.
 fn put_node(n: usize, j: usize, d: Due, out: &mut [i32])
     requires { ⌜ (n ≤ 60000) × (j < nodesFor n) × (d ≡ planOf n j) × (5 * n + 7 * nodesFor n ≤ length (now out)) ⌝ }
     ensures { λ _. ⌜ ((p o : List ℤ) → orderListOk o n ≡ true → Holds (now (out .entry)) (bodyWord p o n) (5 * n + 7 * j) → Holds (now (out .exit)) (bodyWord p o n) (5 * n + 7 * (j + 1))) ⌝ }
 {
-    let mut f = 0;
-    while f < 7 {
-        out[5 * n + 7 * j + f] = node_word(out, n, d, f);
-        f += 1;
+    put_head(n, j, d, out);
+    let c = tree::plan_count(d);
+    if d.level == 0 {
+        put_leaf(n, j, d.next, c - 1, out);
+    } else {
+        put_inner(n, j, d.next, c - 1, out);
     }
 }
 

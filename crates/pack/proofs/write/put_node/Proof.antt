@@ -1,92 +1,74 @@
-use mathlib.Core.Path.{_≡_, refl}
-use mathlib.Core.Bool.{true}
+use mathlib.Core.Path.{refl, sym, subst}
+use mathlib.Core.Bool.{true, false}
 use mathlib.Core.List.{List}
-use Prim.Native.Nat.{_≤_, _-_, _*_, _+_}
+use Prim.Native.Nat.{_+_, _*_}
 use native.Mathlib.Omega.{arith}
 use lib.IntN.{ℤ}
-use lib.ListN.{length, length-set}
-use Rattle.words.proofs.Signs.{handed}
-use Rattle.pack.specs.Order.{orderListOk}
+use borrow.Author.Tests.{eq-eqb, ne-eqb}
 use Rattle.pack.specs.Packed.{bodyWord}
 use Rattle.pack.specs.Work.{Holds}
-use Rattle.pack.proofs.TableLaws.{plan-fits, plan-few}
-use Rattle.pack.proofs.PackedLaws.{node-more, holds-fewer}
+use Rattle.pack.proofs.TableLaws.{plan-fits, plan-few, count-range}
+use Rattle.pack.proofs.PackedLaws.{box-more}
+use borrow.Author.Needs.{needs}
 use Rattle.pack.proofs.write.put_node.Statement.{statement}
 use Rattle.pack.proofs.write.put_node.Tie as tie
 
-abbrev Inv-loop : tie.InvT-loop
-Inv-loop n j d out₀ f₀ out f = (f ≤ 7) × (length out ≡ length out₀) × ((p o : List ℤ) → orderListOk o n ≡ true → Holds out₀ (bodyWord p o n) (5 * n + 7 * j) → Holds out (bodyWord p o n) (5 * n + 7 * j + f))
+put-head-requires : tie.Need-put-head-requires
+put-head-requires c κs = search needs
 
-abbrev μ-loop : tie.MeasureT-loop
-μ-loop n j d out₀ f₀ out f = 7 - f
+plan-count-requires : tie.Need-plan-count-requires
+plan-count-requires c κs =
+    let s = c .before .before .before in
+    let q = plan-fits (s .args .n) (s .args .j) (s .args .d) (s .pre .0) (s .pre .1) (s .pre .2) in
+    (q .1, omega arith)
 
-loop-holds : tie.Need-loop-holds Inv-loop μ-loop
-loop-holds c = (omega arith, refl, λ p o e h. holds-fewer _ _ _ _ (omega arith) h)
+sub-put-leaf : tie.Need-sub-put-leaf
+sub-put-leaf c =
+    let s = c .before .before .before .before .before .before in
+    let q = plan-fits (s .args .n) (s .args .j) (s .args .d) (s .pre .0) (s .pre .1) (s .pre .2) in
+    let g = count-range (s .args .d) (q .1) in
+    omega (arith, c .before .before .plan-count .ensures)
 
-node-word-requires : tie.Need-node-word-requires Inv-loop μ-loop
-node-word-requires c κs =
-    let a = c .before .before .before in
-    let q = plan-fits (a .args .n) (a .args .j) (a .args .d) (a .pre .0) (a .pre .1) (a .pre .2) in
-    (a .pre .0, q .0, q .1, q .2, c .before .loop-test .taken)
+put-leaf-requires : tie.Need-put-leaf-requires
+put-leaf-requires c κs =
+    let s = c .before .before .before .before .before .before .before in
+    let q = plan-fits (s .args .n) (s .args .j) (s .args .d) (s .pre .0) (s .pre .1) (s .pre .2) in
+    let g = count-range (s .args .d) (q .1) in
+    let m = plan-few (s .args .n) in
+    (s .pre .0, omega arith, omega arith, omega (arith, c .before .before .before .plan-count .ensures), omega arith)
 
-mul-t10 : tie.Need-mul-t10 Inv-loop μ-loop
-mul-t10 c = omega (arith, plan-few (c .before .before .before .before .args .n))
+sub-put-inner : tie.Need-sub-put-inner
+sub-put-inner c =
+    let s = c .before .before .before .before .before .before in
+    let q = plan-fits (s .args .n) (s .args .j) (s .args .d) (s .pre .0) (s .pre .1) (s .pre .2) in
+    let g = count-range (s .args .d) (q .1) in
+    omega (arith, c .before .before .plan-count .ensures)
 
-mul-t11 : tie.Need-mul-t11 Inv-loop μ-loop
-mul-t11 c = omega (arith, plan-few (c .before .before .before .before .args .n))
+put-inner-requires : tie.Need-put-inner-requires
+put-inner-requires c κs =
+    let s = c .before .before .before .before .before .before .before in
+    let q = plan-fits (s .args .n) (s .args .j) (s .args .d) (s .pre .0) (s .pre .1) (s .pre .2) in
+    let g = count-range (s .args .d) (q .1) in
+    let m = plan-few (s .args .n) in
+    (s .pre .0, omega arith, omega arith, omega (arith, c .before .before .before .plan-count .ensures), omega arith)
 
-add-t12 : tie.Need-add-t12 Inv-loop μ-loop
-add-t12 c = omega (arith, plan-few (c .before .before .before .before .args .n))
+same-length : tie.Need-same-length
+same-length c = search needs
 
-add-t13 : tie.Need-add-t13 Inv-loop μ-loop
-add-t13 c = omega (arith, plan-few (c .before .before .before .before .args .n))
+returns : tie.Need-returns
+returns c = λ p o e h.
+    let s = c .before .before .before .before .before .before .before .before .before in
+    subst (λ (x : List ℤ). Holds x (bodyWord p o (s .args .n)) (5 * s .args .n + 7 * (s .args .j + 1))) (sym (c .before .put-leaf .ensures))
+    (box-more p o _ (s .args .n) (s .args .j) e (s .args .d) (s .pre .2) (s .pre .0) (s .pre .1) (omega arith) (c .before .before .before .before .before .before .before .put-head .ensures p o e h) true _ _ (sym (eq-eqb _ 0 (c .before .before .before .if1 .taken))) refl (omega (arith, c .before .before .before .before .before .plan-count .ensures)))
 
-mul-t14 : tie.Need-mul-t14 Inv-loop μ-loop
-mul-t14 c = omega (arith, plan-few (c .before .before .before .before .args .n))
+same-length-2 : tie.Need-same-length-2
+same-length-2 c = search needs
 
-slice-set-from-out : tie.Need-slice-set-from-out Inv-loop μ-loop
-slice-set-from-out c = omega (arith, plan-few (c .before .before .before .before .args .n))
-
-add-f : tie.Need-add-f Inv-loop μ-loop
-add-f c = omega arith
-
-loop-less : tie.Need-loop-less Inv-loop μ-loop
-loop-less c = omega arith
-
-loop-again : tie.Need-loop-again Inv-loop μ-loop
-loop-again c =
-    let t = c .before .before in
-    let a = t .before in
-    let b = a .before in (
-      omega arith,
-      simp length-set (a .loop .inv .1),
-      λ p o e h.
-          node-more p o (a .loop .out) (b .args .n) (b .args .j) e (b .args .d) (b .pre .2) (b .pre .0) (b .pre .1) (a .loop .f) _ (t .loop-test .taken) (omega arith)
-          (handed (c .node-word .ok) (c .node-word .ensures)) (a .loop .inv .2 p o e h),
-    )
-
-same-length : tie.Need-same-length Inv-loop μ-loop
-same-length c = c .before .loop .inv .1
-
-returns : tie.Need-returns Inv-loop μ-loop
-returns c = λ p o e h. holds-fewer _ _ _ _ (omega arith) (c .before .loop .inv .2 p o e h)
+returns-2 : tie.Need-returns-2
+returns-2 c = λ p o e h.
+    let s = c .before .before .before .before .before .before .before .before .before in
+    subst (λ (x : List ℤ). Holds x (bodyWord p o (s .args .n)) (5 * s .args .n + 7 * (s .args .j + 1))) (sym (c .before .put-inner .ensures))
+    (box-more p o _ (s .args .n) (s .args .j) e (s .args .d) (s .pre .2) (s .pre .0) (s .pre .1) (omega arith) (c .before .before .before .before .before .before .before .put-head .ensures p o e h) false _ _ (sym (ne-eqb _ 0 (c .before .before .before .if1 .left))) refl (omega (arith, c .before .before .before .before .before .plan-count .ensures)))
 
 pub put-node-spec : {M : Type 1} → statement M
-put-node-spec =
-    tie.close
-    (tie.spec
-    Inv-loop
-    μ-loop
-    loop-holds
-    node-word-requires
-    mul-t10
-    mul-t11
-    add-t12
-    add-t13
-    mul-t14
-    slice-set-from-out
-    add-f
-    loop-less
-    loop-again
-    same-length
-    returns)
+put-node-spec = tie.close (tie.spec put-head-requires plan-count-requires sub-put-leaf put-leaf-requires sub-put-inner put-inner-requires same-length returns same-length-2 returns-2)
