@@ -28,10 +28,14 @@ thirds k n =
     whole : k % 3 ≡ 0 → k / 3 ≡ n → k ≡ 3 * n
     whole a b = omega arith
 
--- what the shape says of the point words
+-- what the shape says of the point words and of the order list
 pub shape-points : (n : ℕ) (p o : List ℤ) → shapeOk n p o ≡ true → length p ≡ 3 * n
 unfolding shapeOk
 shape-points n p o e = eqb-true (length p) (3 * n) (and-left (eqb (length p) (3 * n)) (eqb (length o) n) e)
+
+pub shape-order : (n : ℕ) (p o : List ℤ) → shapeOk n p o ≡ true → length o ≡ n
+unfolding shapeOk
+shape-order n p o e = eqb-true (length o) n (and-right (eqb (length p) (3 * n)) (eqb (length o) n) e)
 
 -- what a range says of n
 pub range-few : (lim : Limits) (n ed : ℕ) → rangeOk lim n ed ≡ true → n ≤ lim .points

@@ -32,26 +32,27 @@ fn root_word(m: usize) -> usize
     7
 }
 
-// Word i of the points and the order.
-fn front_word(p: &[i32], o: &[i32], n: usize, i: usize) -> i32
-    requires { ⌜ (n ≤ 60000) × (i < 4 * n) ⌝ }
-    ensures { λ r. ⌜ r ≡ bodyWord (now (p .entry)) (now (o .entry)) n i ⌝ }
-{
-    if i < 3 * n {
-        return words::at(p, i);
-    }
-    words::at(o, i - 3 * n)
-}
-
-// Writes the points and the order.
-fn put_front(p: &[i32], o: &[i32], n: usize, out: &mut [i32])
-    requires { ⌜ (n ≤ 60000) × (4 * n ≤ length (now out)) ⌝ }
-    ensures { λ _. ⌜ Holds (now (out .exit)) (bodyWord (now (p .entry)) (now (o .entry)) n) (4 * n) ⌝ }
+// Writes the points.
+fn put_points(p: &[i32], n: usize, out: &mut [i32])
+    requires { ⌜ (n ≤ 60000) × (3 * n ≤ length (now p)) × (3 * n ≤ length (now out)) ⌝ }
+    ensures { λ _. ⌜ ((o : List ℤ) → Holds (now (out .exit)) (bodyWord (now (p .entry)) o n) (3 * n)) ⌝ }
 {
     let mut i = 0;
-    while i < 4 * n {
-        out[i] = front_word(p, o, n, i);
+    while i < 3 * n {
+        out[i] = p[i];
         i += 1;
+    }
+}
+
+// Writes the order, behind the points, whatever points these are.
+fn put_order(o: &[i32], n: usize, out: &mut [i32])
+    requires { ⌜ (n ≤ 60000) × (n ≤ length (now o)) × (4 * n ≤ length (now out)) ⌝ }
+    ensures { λ _. ⌜ ((p : List ℤ) → Holds (now (out .entry)) (bodyWord p (now (o .entry)) n) (3 * n) → Holds (now (out .exit)) (bodyWord p (now (o .entry)) n) (4 * n)) ⌝ }
+{
+    let mut k = 0;
+    while k < n {
+        out[3 * n + k] = o[k];
+        k += 1;
     }
 }
 
@@ -220,10 +221,11 @@ fn put_trailer(n: usize, m: usize, edition: u32, out: &mut [i32])
 
 // Writes the sheet.
 pub(crate) fn put_sheet(n: usize, p: &[i32], o: &[i32], edition: u32, out: &mut [i32])
-    requires { ⌜ (n ≤ 60000) × (orderListOk (now o) n ≡ true) × (edition < 2147483648) × (length (now out) ≡ sheetSize n) ⌝ }
+    requires { ⌜ (n ≤ 60000) × (3 * n ≤ length (now p)) × (n ≤ length (now o)) × (orderListOk (now o) n ≡ true) × (edition < 2147483648) × (length (now out) ≡ sheetSize n) ⌝ }
     ensures { λ _. ⌜ now (out .exit) ≡ packed (now (p .entry)) (now (o .entry)) n edition ⌝ }
 {
-    put_front(p, o, n, out);
+    put_points(p, n, out);
+    put_order(o, n, out);
     put_ranks(o, n, out);
     let m = tree::nodes_for(n);
     put_nodes(n, m, out);

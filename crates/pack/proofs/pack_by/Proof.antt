@@ -1,7 +1,7 @@
 use mathlib.Core.Path.{_≡_, sym, _∙_}
 use native.Mathlib.Omega.{arith}
 use Rattle.words.proofs.RangeLaws.{edition-bounds}
-use Rattle.pack.proofs.PackLaws.{pack-facts, range-few, range-edition, out-refused, out-packed}
+use Rattle.pack.proofs.PackLaws.{pack-facts, shape-points, shape-order, range-few, range-edition, out-refused, out-packed}
 use borrow.Author.Needs.{needs}
 use Rattle.pack.proofs.pack_by.Statement.{statement}
 use Rattle.pack.proofs.pack_by.Tie as tie
@@ -14,6 +14,8 @@ put-sheet-requires c κs =
     let s = c .before .before .before .before .before .before .before in
     let f = pack-facts (s .args .lim) (s .args .n) _ _ (s .args .edition) _ (sym (c .before .before .before .before .pack-no .ensures) ∙ c .before .if1 .taken) in (
       omega (arith, s .pre .0 .points-le, range-few (s .args .lim) (s .args .n) (s .args .edition) (f .ranged)),
+      omega (arith, shape-points _ _ _ (f .shaped)),
+      omega (arith, shape-order _ _ _ (f .shaped)),
       f .ordered,
       omega (arith, edition-bounds (s .args .edition) (range-edition (s .args .lim) (s .args .n) (s .args .edition) (f .ranged)) .1),
       f .sized,

@@ -4,17 +4,20 @@ use borrow.Author.Needs.{needs}
 use Rattle.pack.proofs.write.put_sheet.Statement.{statement}
 use Rattle.pack.proofs.write.put_sheet.Tie as tie
 
-put-front-requires : tie.Need-put-front-requires
-put-front-requires c κs = (omega arith, omega (arith, sheet-size (c .before .args .n)))
+put-points-requires : tie.Need-put-points-requires
+put-points-requires c κs = (omega arith, omega arith, omega (arith, sheet-size (c .before .args .n)))
+
+put-order-requires : tie.Need-put-order-requires
+put-order-requires c κs = (omega arith, omega arith, omega (arith, sheet-size (c .before .before .before .before .args .n)))
 
 put-ranks-requires : tie.Need-put-ranks-requires
-put-ranks-requires c κs = (omega arith, omega (arith, sheet-size (c .before .before .before .before .args .n)), c .before .before .before .before .pre .1)
+put-ranks-requires c κs = let s = c .before .before .before .before .before .before .before in (omega arith, omega (arith, sheet-size (s .args .n)), s .pre .3)
 
 nodes-for-requires : tie.Need-nodes-for-requires
 nodes-for-requires c κs = search needs
 
 put-nodes-requires : tie.Need-put-nodes-requires
-put-nodes-requires c κs = (omega arith, c .before .nodes-for .ensures, omega (arith, sheet-size (c .before .before .before .before .before .before .before .before .args .n)))
+put-nodes-requires c κs = (omega arith, c .before .nodes-for .ensures, omega (arith, sheet-size (c .before .before .before .before .before .before .before .before .before .before .before .args .n)))
 
 put-trailer-requires : tie.Need-put-trailer-requires
 put-trailer-requires c κs = search needs
@@ -27,15 +30,17 @@ returns c =
     let g = c .before .put-trailer in
     let x = c .before .before .before .before .put-nodes in
     let r = c .before .before .before .before .before .before .before .before .put-ranks in
-    let f = c .before .before .before .before .before .before .before .before .before .before .before .put-front in
-    let s = c .before .before .before .before .before .before .before .before .before .before .before .before .before in
-    g .ensures _ _ (x .ensures _ _ (s .pre .1) (r .ensures _ (f .ensures)))
+    let o = c .before .before .before .before .before .before .before .before .before .before .before .put-order in
+    let p = c .before .before .before .before .before .before .before .before .before .before .before .before .before .before .put-points in
+    let s = c .before .before .before .before .before .before .before .before .before .before .before .before .before .before .before .before in
+    g .ensures _ _ (x .ensures _ _ (s .pre .3) (r .ensures _ (o .ensures _ (p .ensures _))))
 
 pub put-sheet-spec : {M : Type 1} → statement M
 put-sheet-spec =
     tie.close
     (tie.spec
-    put-front-requires
+    put-points-requires
+    put-order-requires
     put-ranks-requires
     nodes-for-requires
     put-nodes-requires
