@@ -9,7 +9,7 @@ use native.Mathlib.Numerals.{add-one}
 use native.Mathlib.Omega.{arith}
 use lib.Dec.{eqb, ltb}
 use lib.IntN.{ℤ, pos}
-use borrow.Author.Tests.{eq-eqb, ne-eqb}
+use borrow.Author.Tests.{eq-eqb, ne-eqb, eqb-true, eqb-false}
 use Rattle.words.specs.Word.{at, eqZ, minZ, maxZ}
 use Rattle.words.specs.All.{allB}
 use Rattle.integers.specs.Bools.{test-iff}
@@ -18,9 +18,9 @@ use Rattle.words.proofs.AllLaws.{all-at, all-make}
 use Rattle.sheet.specs.Order.{orderOf}
 use Rattle.sheet.specs.Nodes.{levelWord, levelOf, firstOf, countOf, dueOf, tableOk}
 use Rattle.sheet.specs.Boxes.{sideOf, coordOf, better, best, partOf, tightSide, tightOk, sideOk, sidesAre, boxIs, boxOk, boxesOk}
-use Rattle.sheet.proofs.TreeLaws.{run-at, child}
+use Rattle.sheet.proofs.TreeLaws.{run-at, child, leaf}
 
-pub best-more : (q : ℕ) (v : ℕ → ℤ) (a i : ℕ) → better q (best q v a i) (v (a + (i + 1))) ≡ best q v a (i + 1)
+best-more : (q : ℕ) (v : ℕ → ℤ) (a i : ℕ) → better q (best q v a i) (v (a + (i + 1))) ≡ best q v a (i + 1)
 unfolding best
 best-more q v a i = rw add-one
 
@@ -84,6 +84,21 @@ module _ (w : List ℤ) (n m : ℕ) (ok : tableOk w n m ≡ true) where
   leaf-test : (j : ℕ) → j < m → eqZ (levelWord w n j) (pos 0) ≡ eqb (levelOf w n j) 0
   unfolding eqZ
   leaf-test j h = let r = run-at w n m ok j h in rw (r .word, r .level)
+
+  -- the last place that a leaf covers is below n, and the last node that another covers stands before it
+  pub leaf-run : (j a c : ℕ) → j < m → eqZ (levelWord w n j) (pos 0) ≡ true → a ≡ firstOf w n j → c ≡ countOf w n j - 1 → a + c < n
+  leaf-run j a c h e f g =
+      let r = run-at w n m ok j h in
+      leaf w n m ok j h (eqb-true (levelOf w n j) 0 (sym (leaf-test j h) ∙ e)) (a + c) (omega (arith, r .some))
+
+  pub inner-run : (j a c : ℕ) → j < m → eqZ (levelWord w n j) (pos 0) ≡ false → a ≡ firstOf w n j → c ≡ countOf w n j - 1 → a + c < j
+  inner-run j a c h e f g =
+      let r = run-at w n m ok j h in
+      child w n m ok j (levelOf w n j - 1) h (up (levelOf w n j) (eqb-false (levelOf w n j) 0 (sym (leaf-test j h) ∙ e))) (a + c) (omega arith) (omega (arith, r .some)) .1
+    where
+      up : (l : ℕ) → (l ≡ 0 → ⊥) → l ≡ suc (l - 1)
+      up zero z = absurd (z refl)
+      up (suc l) z = omega arith
 
   -- the best of a leaf's parts is that of its points, and of another node's that of the boxes that it covers
   best-leaf : (j q : ℕ) → j < m → levelOf w n j ≡ 0 → (a c : ℕ) → best q (partOf w n (eqZ (levelWord w n j) (pos 0)) q) a c ≡ best q (coordOf w n q) a c

@@ -1,4 +1,4 @@
--- The words of a sheet that opens, where a reader takes one for a count: none of them is negative.
+-- The words that a reader takes for a count, where the test that they passed is in hand: none of them is negative.
 -- Assumes nothing.
 use mathlib.Core.Path.{_≡_, refl, sym, ap, subst, _∙_}
 use mathlib.Core.Bool.{Bool, true, false, _&&_, true≢false}
@@ -44,20 +44,22 @@ module _ {w : List ℤ} {n m : ℕ} (o : Opens w n m) where
   pub id-nat : (i : ℕ) → i < n → pos 0 ≤ℤ idAt w i
   id-nat i h = nat-of (idAt w i) (num (idAt w i)) (id-is (idAt w i) (id-word-at o i h))
 
+module _ (w : List ℤ) (n : ℕ) (ok : orderOk w n ≡ true) where
   pub order-nat : (k : ℕ) → k < n → pos 0 ≤ℤ orderWord w n k
   unfolding orderOk placeOk
   order-nat k h =
       let a = isBelow n (orderWord w n k) in
       let b = isBelow n (rankWord w n k) in
-      nat-below n (orderWord w n k) (and-left a b (and-left (a && b) (eqZ (orderWord w n (rankOf w n k)) (pos k)) (all-at (placeOk w n) n (o .ordered) k h)))
+      nat-below n (orderWord w n k) (and-left a b (and-left (a && b) (eqZ (orderWord w n (rankOf w n k)) (pos k)) (all-at (placeOk w n) n ok k h)))
 
   pub rank-nat : (k : ℕ) → k < n → pos 0 ≤ℤ rankWord w n k
   unfolding orderOk placeOk
   rank-nat k h =
       let a = isBelow n (orderWord w n k) in
       let b = isBelow n (rankWord w n k) in
-      nat-below n (rankWord w n k) (and-right a b (and-left (a && b) (eqZ (orderWord w n (rankOf w n k)) (pos k)) (all-at (placeOk w n) n (o .ordered) k h)))
+      nat-below n (rankWord w n k) (and-right a b (and-left (a && b) (eqZ (orderWord w n (rankOf w n k)) (pos k)) (all-at (placeOk w n) n ok k h)))
 
+module _ (w : List ℤ) (n m : ℕ) (ok : tableOk w n m ≡ true) where
   node-nat : (j : ℕ) → j < m → (pos 0 ≤ℤ levelWord w n j) × (pos 0 ≤ℤ firstWord w n j) × (pos 0 ≤ℤ countWord w n j)
   unfolding tableOk nodeOk nodeRule runOk
   node-nat j h =
@@ -66,7 +68,7 @@ module _ {w : List ℤ} {n m : ℕ} (o : Opens w n m) where
       let a = eqZ (levelWord w n j) (pos (d .level)) in
       let b = eqZ (firstWord w n j) (pos (d .next)) in
       let k = within (pos 1) (pos 16) (countWord w n j) in
-      let e = and-left (t && a && b && k) (endOk w n m d j) (all-at (nodeOk w n m) m (o .table) j h) in
+      let e = and-left (t && a && b && k) (endOk w n m d j) (all-at (nodeOk w n m) m ok j h) in
       let e₁ = and-left (t && a && b) k e in (
         nat-of _ _ (is-word (levelWord w n j) (d .level) (and-right t a (and-left (t && a) b e₁))),
         nat-of _ _ (is-word (firstWord w n j) (d .next) (and-right (t && a) b e₁)),

@@ -22,7 +22,7 @@ fn word(s: &[i32], k: usize) -> i64
 }
 
 // The count at an index.
-fn count(s: &[i32], k: usize) -> usize
+pub(crate) fn count(s: &[i32], k: usize) -> usize
     requires { ⌜ (k < length (now s)) × (pos 0 ≤ℤ at (now s) k) ⌝ }
     ensures { λ r. ⌜ r ≡ num (at (now (s .entry)) k) ⌝ }
     ensures { λ r. ⌜ r < 2147483648 ⌝ }

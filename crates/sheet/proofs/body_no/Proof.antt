@@ -13,48 +13,42 @@ use Rattle.sheet.proofs.nodes.nodes_ok.Reads as nodes-ok-reads
 use Rattle.sheet.proofs.order.order_ok.Reads as order-ok-reads
 use Rattle.sheet.proofs.points.points_ok.Reads as points-ok-reads
 
--- src/lib.rt:25:9
 points-ok-requires : tie.Need-points-ok-requires
 points-ok-requires c κs = search needs
 
--- src/lib.rt:26:9
 returns : tie.Need-returns
 unfolding bodyNo
 returns c =
     rw (failed (c .before .points-ok .ensures) (c .if1 .taken))
 
--- src/lib.rt:28:9
 order-ok-requires : tie.Need-order-ok-requires
 order-ok-requires c κs = search needs
 
--- src/lib.rt:29:9
 returns-2 : tie.Need-returns-2
 unfolding bodyNo
 returns-2 c =
     rw (passed (c .before .before .before .points-ok .ensures) (c .before .before .if1 .left), failed (c .before .order-ok .ensures) (c .if2 .taken))
 
--- src/lib.rt:31:9
 nodes-ok-requires : tie.Need-nodes-ok-requires
 nodes-ok-requires c κs = search needs
 
--- src/lib.rt:32:9
 returns-3 : tie.Need-returns-3
 unfolding bodyNo
 returns-3 c =
     rw (passed (c .before .before .before .before .before .points-ok .ensures) (c .before .before .before .before .if1 .left), passed (c .before .before .before .order-ok .ensures) (c .before .before .if2 .left), failed (c .before .nodes-ok .ensures) (c .if3 .taken))
 
--- src/lib.rt:34:9
 boxes-ok-requires : tie.Need-boxes-ok-requires
-boxes-ok-requires c κs = search needs
+boxes-ok-requires c κs =
+    let od = passed (c .before .before .before .order-ok .ensures) (c .before .before .if2 .left) in
+    let nd = passed (c .before .nodes-ok .ensures) (c .if3 .left) in
+    (search needs, search needs, search needs, od, nodes-table _ _ _ nd)
 
--- src/lib.rt:35:9
 returns-4 : tie.Need-returns-4
 unfolding bodyNo
 returns-4 c =
     let nd = passed (c .before .before .before .nodes-ok .ensures) (c .before .before .if3 .left) in
     rw (passed (c .before .before .before .before .before .before .before .points-ok .ensures) (c .before .before .before .before .before .before .if1 .left), passed (c .before .before .before .before .before .order-ok .ensures) (c .before .before .before .before .if2 .left), nd, failed (c .before .boxes-ok .ensures ∙ boxes-tight _ _ _ (nodes-table _ _ _ nd)) (c .if4 .taken))
 
--- src/lib.rt:21:1
 returns-5 : tie.Need-returns-5
 unfolding bodyNo
 returns-5 c =

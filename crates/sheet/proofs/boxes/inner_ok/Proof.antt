@@ -13,7 +13,7 @@ use Rattle.sheet.proofs.boxes.inner_ok.Tie as tie
 use Rattle.sheet.proofs.boxes.inner_ok.Reads as reads
 use Rattle.sheet.proofs.boxes.inner_ok.Lts as lts
 use Rattle.sheet.proofs.boxes.sides_are.Reads as sides-are-reads
-use Rattle.words.proofs.at.Reads as at-reads
+use Rattle.sheet.proofs.points.word.Reads as word-reads
 use Rattle.words.proofs.greatest.Reads as greatest-reads
 use Rattle.words.proofs.least.Reads as least-reads
 
@@ -23,61 +23,48 @@ Inv-loop s n j a c f xmin₀ ymin₀ xmax₀ ymax₀ i₀ xmin ymin xmax ymax i 
 abbrev μ-loop : tie.MeasureT-loop
 μ-loop s n j a c f xmin₀ ymin₀ xmax₀ ymax₀ i₀ xmin ymin xmax ymax i = c - i
 
--- src/boxes.rt:116:13
 mul-f : tie.Need-mul-f Inv-loop μ-loop
 mul-f c = omega arith
 
--- src/boxes.rt:116:21
 mul-f-2 : tie.Need-mul-f-2 Inv-loop μ-loop
 mul-f-2 c = omega arith
 
--- src/boxes.rt:116:13
 add-f : tie.Need-add-f Inv-loop μ-loop
 add-f c = omega arith
 
--- src/boxes.rt:116:13
 add-f-2 : tie.Need-add-f-2 Inv-loop μ-loop
 add-f-2 c = omega arith
 
--- src/boxes.rt:117:33
-add-at : tie.Need-add-at Inv-loop μ-loop
-add-at c = omega arith
+add-word : tie.Need-add-word Inv-loop μ-loop
+add-word c = omega arith
 
--- src/boxes.rt:117:9
-at-requires : tie.Need-at-requires Inv-loop μ-loop
-at-requires c κs = search needs
+word-requires : tie.Need-word-requires Inv-loop μ-loop
+word-requires c κs = search needs
 
--- src/boxes.rt:118:33
-add-at-2 : tie.Need-add-at-2 Inv-loop μ-loop
-add-at-2 c = omega arith
+add-word-2 : tie.Need-add-word-2 Inv-loop μ-loop
+add-word-2 c = omega arith
 
--- src/boxes.rt:118:9
-at-requires-2 : tie.Need-at-requires-2 Inv-loop μ-loop
-at-requires-2 c κs = search needs
+word-requires-2 : tie.Need-word-requires-2 Inv-loop μ-loop
+word-requires-2 c κs = search needs
 
--- src/boxes.rt:119:33
-add-at-3 : tie.Need-add-at-3 Inv-loop μ-loop
-add-at-3 c = omega arith
+add-word-3 : tie.Need-add-word-3 Inv-loop μ-loop
+add-word-3 c = omega arith
 
--- src/boxes.rt:119:9
-at-requires-3 : tie.Need-at-requires-3 Inv-loop μ-loop
-at-requires-3 c κs = search needs
+word-requires-3 : tie.Need-word-requires-3 Inv-loop μ-loop
+word-requires-3 c κs = search needs
 
--- src/boxes.rt:120:33
-add-at-4 : tie.Need-add-at-4 Inv-loop μ-loop
-add-at-4 c = omega arith
+add-word-4 : tie.Need-add-word-4 Inv-loop μ-loop
+add-word-4 c = omega arith
 
--- src/boxes.rt:120:9
-at-requires-4 : tie.Need-at-requires-4 Inv-loop μ-loop
-at-requires-4 c κs = search needs
+word-requires-4 : tie.Need-word-requires-4 Inv-loop μ-loop
+word-requires-4 c κs = search needs
 
--- src/boxes.rt:122:5
 loop-holds : tie.Need-loop-holds Inv-loop μ-loop
 loop-holds c =
-    let x = c .before .before .before .at in
-    let y = c .before .before .at2 in
-    let u = c .before .at3 in
-    let v = c .at4 in (
+    let x = c .before .before .before .word in
+    let y = c .before .before .word2 in
+    let u = c .before .word3 in
+    let v = c .word4 in (
       omega arith,
       handed (x .ok) (inner-first _ _ 0 _ _ (x .ensures) (omega arith)),
       handed (y .ok) (inner-first _ _ 1 _ _ (y .ensures) (omega arith)),
@@ -85,89 +72,69 @@ loop-holds c =
       handed (v .ok) (inner-first _ _ 3 _ _ (v .ensures) (omega arith)),
     )
 
--- src/boxes.rt:123:9
 add-i : tie.Need-add-i Inv-loop μ-loop
 add-i c = omega arith
 
--- src/boxes.rt:124:17
 mul-p : tie.Need-mul-p Inv-loop μ-loop
 mul-p c = omega arith
 
--- src/boxes.rt:124:30
 add-p : tie.Need-add-p Inv-loop μ-loop
 add-p c = omega arith
 
--- src/boxes.rt:124:25
 mul-p-2 : tie.Need-mul-p-2 Inv-loop μ-loop
 mul-p-2 c = omega arith
 
--- src/boxes.rt:124:17
 add-p-2 : tie.Need-add-p-2 Inv-loop μ-loop
 add-p-2 c = omega arith
 
--- src/boxes.rt:124:17
 add-p-3 : tie.Need-add-p-3 Inv-loop μ-loop
 add-p-3 c = omega arith
 
--- src/boxes.rt:125:48
-add-at-5 : tie.Need-add-at-5 Inv-loop μ-loop
-add-at-5 c = omega arith
+add-word-5 : tie.Need-add-word-5 Inv-loop μ-loop
+add-word-5 c = omega arith
 
--- src/boxes.rt:125:35
-at-requires-5 : tie.Need-at-requires-5 Inv-loop μ-loop
-at-requires-5 c κs = search needs
+word-requires-5 : tie.Need-word-requires-5 Inv-loop μ-loop
+word-requires-5 c κs = search needs
 
--- src/boxes.rt:125:9
 least-requires : tie.Need-least-requires Inv-loop μ-loop
 least-requires c κs = search needs
 
--- src/boxes.rt:126:48
-add-at-6 : tie.Need-add-at-6 Inv-loop μ-loop
-add-at-6 c = omega arith
+add-word-6 : tie.Need-add-word-6 Inv-loop μ-loop
+add-word-6 c = omega arith
 
--- src/boxes.rt:126:35
-at-requires-6 : tie.Need-at-requires-6 Inv-loop μ-loop
-at-requires-6 c κs = search needs
+word-requires-6 : tie.Need-word-requires-6 Inv-loop μ-loop
+word-requires-6 c κs = search needs
 
--- src/boxes.rt:126:9
 least-requires-2 : tie.Need-least-requires-2 Inv-loop μ-loop
 least-requires-2 c κs = search needs
 
--- src/boxes.rt:127:51
-add-at-7 : tie.Need-add-at-7 Inv-loop μ-loop
-add-at-7 c = omega arith
+add-word-7 : tie.Need-add-word-7 Inv-loop μ-loop
+add-word-7 c = omega arith
 
--- src/boxes.rt:127:38
-at-requires-7 : tie.Need-at-requires-7 Inv-loop μ-loop
-at-requires-7 c κs = search needs
+word-requires-7 : tie.Need-word-requires-7 Inv-loop μ-loop
+word-requires-7 c κs = search needs
 
--- src/boxes.rt:127:9
 greatest-requires : tie.Need-greatest-requires Inv-loop μ-loop
 greatest-requires c κs = search needs
 
--- src/boxes.rt:128:51
-add-at-8 : tie.Need-add-at-8 Inv-loop μ-loop
-add-at-8 c = omega arith
+add-word-8 : tie.Need-add-word-8 Inv-loop μ-loop
+add-word-8 c = omega arith
 
--- src/boxes.rt:128:38
-at-requires-8 : tie.Need-at-requires-8 Inv-loop μ-loop
-at-requires-8 c κs = search needs
+word-requires-8 : tie.Need-word-requires-8 Inv-loop μ-loop
+word-requires-8 c κs = search needs
 
--- src/boxes.rt:128:9
 greatest-requires-2 : tie.Need-greatest-requires-2 Inv-loop μ-loop
 greatest-requires-2 c κs = search needs
 
--- src/boxes.rt:122:5
 loop-less : tie.Need-loop-less Inv-loop μ-loop
 loop-less c = omega arith
 
--- src/boxes.rt:122:5
 loop-again : tie.Need-loop-again Inv-loop μ-loop
 loop-again c =
-    let x = c .before .before .before .before .before .before .before .at5 in
-    let y = c .before .before .before .before .before .at6 in
-    let u = c .before .before .before .at7 in
-    let w = c .before .at8 in
+    let x = c .before .before .before .before .before .before .before .word5 in
+    let y = c .before .before .before .before .before .word6 in
+    let u = c .before .before .before .word7 in
+    let w = c .before .word8 in
     let v = c .before .before .before .before .before .before .before .before .before .loop .inv in
     let l = c .before .before .before .before .before .before .least in
     let k = c .before .before .before .before .least2 in
@@ -180,11 +147,9 @@ loop-again c =
       handed (h .ok) (greatest-more 3 _ _ _ refl (h .ensures) (v .4) (handed (w .ok) (w .ensures ∙ inner-part _ _ 3 _ _ (omega arith)))),
     )
 
--- src/boxes.rt:130:5
 sides-are-requires : tie.Need-sides-are-requires Inv-loop μ-loop
 sides-are-requires c κs = search needs
 
--- src/boxes.rt:112:1
 returns : tie.Need-returns Inv-loop μ-loop
 returns c =
     let v = c .before .before .loop .inv in
@@ -200,14 +165,14 @@ inner-ok-spec =
     mul-f-2
     add-f
     add-f-2
-    add-at
-    at-requires
-    add-at-2
-    at-requires-2
-    add-at-3
-    at-requires-3
-    add-at-4
-    at-requires-4
+    add-word
+    word-requires
+    add-word-2
+    word-requires-2
+    add-word-3
+    word-requires-3
+    add-word-4
+    word-requires-4
     loop-holds
     add-i
     mul-p
@@ -215,17 +180,17 @@ inner-ok-spec =
     mul-p-2
     add-p-2
     add-p-3
-    add-at-5
-    at-requires-5
+    add-word-5
+    word-requires-5
     least-requires
-    add-at-6
-    at-requires-6
+    add-word-6
+    word-requires-6
     least-requires-2
-    add-at-7
-    at-requires-7
+    add-word-7
+    word-requires-7
     greatest-requires
-    add-at-8
-    at-requires-8
+    add-word-8
+    word-requires-8
     greatest-requires-2
     loop-less
     loop-again

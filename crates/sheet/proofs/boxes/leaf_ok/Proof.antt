@@ -14,7 +14,7 @@ use Rattle.sheet.proofs.boxes.leaf_ok.Reads as reads
 use Rattle.sheet.proofs.boxes.leaf_ok.Lts as lts
 use Rattle.sheet.proofs.boxes.sides_are.Reads as sides-are-reads
 use Rattle.sheet.proofs.boxes.spot_of.Reads as spot-of-reads
-use Rattle.words.proofs.at.Reads as at-reads
+use Rattle.sheet.proofs.points.word.Reads as word-reads
 use Rattle.words.proofs.greatest.Reads as greatest-reads
 use Rattle.words.proofs.least.Reads as least-reads
 
@@ -24,28 +24,23 @@ Inv-loop s n j a c f xmin₀ ymin₀ xmax₀ ymax₀ i₀ xmin ymin xmax ymax i 
 abbrev μ-loop : tie.MeasureT-loop
 μ-loop s n j a c f xmin₀ ymin₀ xmax₀ ymax₀ i₀ xmin ymin xmax ymax i = c - i
 
--- src/boxes.rt:92:9
 spot-of-requires : tie.Need-spot-of-requires Inv-loop μ-loop
 spot-of-requires c κs = search needs
 
--- src/boxes.rt:93:9
-at-requires : tie.Need-at-requires Inv-loop μ-loop
-at-requires c κs = search needs
+word-requires : tie.Need-word-requires Inv-loop μ-loop
+word-requires c κs = search needs
 
--- src/boxes.rt:94:33
-add-at : tie.Need-add-at Inv-loop μ-loop
-add-at c = omega arith
+add-word : tie.Need-add-word Inv-loop μ-loop
+add-word c = omega arith
 
--- src/boxes.rt:94:9
-at-requires-2 : tie.Need-at-requires-2 Inv-loop μ-loop
-at-requires-2 c κs = search needs
+word-requires-2 : tie.Need-word-requires-2 Inv-loop μ-loop
+word-requires-2 c κs = search needs
 
--- src/boxes.rt:98:5
 loop-holds : tie.Need-loop-holds Inv-loop μ-loop
 loop-holds c =
     let e = c .before .before .spot-of .ensures .0 in
-    let x = c .before .at in
-    let y = c .at2 in (
+    let x = c .before .word in
+    let y = c .word2 in (
       omega arith,
       handed (x .ok) (leaf-first _ _ 0 _ _ (x .ensures) (omega (arith, e))),
       handed (y .ok) (leaf-first _ _ 1 _ _ (y .ensures) (omega (arith, e))),
@@ -53,56 +48,44 @@ loop-holds c =
       handed (y .ok) (leaf-first _ _ 3 _ _ (y .ensures) (omega (arith, e))),
     )
 
--- src/boxes.rt:99:9
 add-i : tie.Need-add-i Inv-loop μ-loop
 add-i c = omega arith
 
--- src/boxes.rt:100:31
 add-spot-of : tie.Need-add-spot-of Inv-loop μ-loop
 add-spot-of c = omega arith
 
--- src/boxes.rt:100:13
 spot-of-requires-2 : tie.Need-spot-of-requires-2 Inv-loop μ-loop
 spot-of-requires-2 c κs = search needs
 
--- src/boxes.rt:101:13
-at-requires-3 : tie.Need-at-requires-3 Inv-loop μ-loop
-at-requires-3 c κs = search needs
+word-requires-3 : tie.Need-word-requires-3 Inv-loop μ-loop
+word-requires-3 c κs = search needs
 
--- src/boxes.rt:102:30
-add-at-2 : tie.Need-add-at-2 Inv-loop μ-loop
-add-at-2 c = omega arith
+add-word-2 : tie.Need-add-word-2 Inv-loop μ-loop
+add-word-2 c = omega arith
 
--- src/boxes.rt:102:13
-at-requires-4 : tie.Need-at-requires-4 Inv-loop μ-loop
-at-requires-4 c κs = search needs
+word-requires-4 : tie.Need-word-requires-4 Inv-loop μ-loop
+word-requires-4 c κs = search needs
 
--- src/boxes.rt:103:9
 least-requires : tie.Need-least-requires Inv-loop μ-loop
 least-requires c κs = search needs
 
--- src/boxes.rt:104:9
 least-requires-2 : tie.Need-least-requires-2 Inv-loop μ-loop
 least-requires-2 c κs = search needs
 
--- src/boxes.rt:105:9
 greatest-requires : tie.Need-greatest-requires Inv-loop μ-loop
 greatest-requires c κs = search needs
 
--- src/boxes.rt:106:9
 greatest-requires-2 : tie.Need-greatest-requires-2 Inv-loop μ-loop
 greatest-requires-2 c κs = search needs
 
--- src/boxes.rt:98:5
 loop-less : tie.Need-loop-less Inv-loop μ-loop
 loop-less c = omega arith
 
--- src/boxes.rt:98:5
 loop-again : tie.Need-loop-again Inv-loop μ-loop
 loop-again c =
     let e = c .before .before .before .before .before .before .spot-of2 .ensures .0 in
-    let x = c .before .before .before .before .before .at3 in
-    let y = c .before .before .before .before .at4 in
+    let x = c .before .before .before .before .before .word3 in
+    let y = c .before .before .before .before .word4 in
     let v = c .before .before .before .before .before .before .before .before .loop .inv in
     let l = c .before .before .before .least in
     let k = c .before .before .least2 in
@@ -115,11 +98,9 @@ loop-again c =
       handed (h .ok) (greatest-more 3 _ _ _ refl (h .ensures) (v .4) (handed (y .ok) (y .ensures ∙ leaf-part _ _ 3 _ _ (omega (arith, e))))),
     )
 
--- src/boxes.rt:108:5
 sides-are-requires : tie.Need-sides-are-requires Inv-loop μ-loop
 sides-are-requires c κs = search needs
 
--- src/boxes.rt:88:1
 returns : tie.Need-returns Inv-loop μ-loop
 returns c =
     let v = c .before .before .loop .inv in
@@ -132,16 +113,16 @@ leaf-ok-spec =
     Inv-loop
     μ-loop
     spot-of-requires
-    at-requires
-    add-at
-    at-requires-2
+    word-requires
+    add-word
+    word-requires-2
     loop-holds
     add-i
     add-spot-of
     spot-of-requires-2
-    at-requires-3
-    add-at-2
-    at-requires-4
+    word-requires-3
+    add-word-2
+    word-requires-4
     least-requires
     least-requires-2
     greatest-requires

@@ -1,36 +1,33 @@
+use native.Mathlib.Omega.{arith}
 use Rattle.sheet.specs.Order.{orderOf}
+use Rattle.sheet.proofs.OrderLaws.{order-below}
+use Rattle.sheet.proofs.ReadLaws.{order-nat}
 use borrow.Author.Needs.{needs}
 use Rattle.sheet.proofs.boxes.spot_of.Statement.{statement}
 use Rattle.sheet.proofs.boxes.spot_of.Tie as tie
 use Rattle.sheet.proofs.boxes.spot_of.Reads as reads
 use Rattle.sheet.proofs.boxes.spot_of.Lts as lts
-use Rattle.words.proofs.num_at.Reads as num-at-reads
+use Rattle.sheet.proofs.reads.count.Reads as count-reads
 
--- src/boxes.rt:84:26
-mul-num-at : tie.Need-mul-num-at
-mul-num-at c = search needs
+mul-count : tie.Need-mul-count
+mul-count c = search needs
 
--- src/boxes.rt:84:26
-add-num-at : tie.Need-add-num-at
-add-num-at c = search needs
+add-count : tie.Need-add-count
+add-count c = search needs
 
--- src/boxes.rt:84:9
-num-at-requires : tie.Need-num-at-requires
-num-at-requires c κs = search needs
+count-requires : tie.Need-count-requires
+count-requires c κs = (omega arith, order-nat _ _ (c .pre .2) _ (c .pre .3))
 
--- src/boxes.rt:84:5
 mul-result : tie.Need-mul-result
 mul-result c = search needs
 
--- src/boxes.rt:84:5
 add-result : tie.Need-add-result
 add-result c = search needs
 
--- src/boxes.rt:79:1
 returns : tie.Need-returns
 unfolding orderOf
-returns c = search needs
+returns c = (omega (arith, c .count .ensures .0), omega (arith, c .count .ensures .0, order-below _ _ (c .before .pre .2) _ (c .before .pre .3)))
 
 pub spot-of-spec : {M : Type 1} → statement M
 spot-of-spec =
-    tie.close (tie.spec mul-num-at add-num-at num-at-requires mul-result add-result returns)
+    tie.close (tie.spec mul-count add-count count-requires mul-result add-result returns)

@@ -26,7 +26,7 @@ add-count-2 c = search needs
 
 -- src/reads.rt:87:5
 count-requires : tie.Need-count-requires
-count-requires c κs = (omega (arith, c .pre .0 .long), count-nat (c .pre .0) _ (c .pre .1))
+count-requires c κs = (omega (arith, c .pre .0 .long), count-nat _ _ _ (c .pre .0 .table) _ (c .pre .1))
 
 -- src/reads.rt:83:1
 returns : tie.Need-returns

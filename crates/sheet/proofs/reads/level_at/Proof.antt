@@ -22,7 +22,7 @@ add-count c = search needs
 
 -- src/reads.rt:73:5
 count-requires : tie.Need-count-requires
-count-requires c κs = (omega (arith, c .pre .0 .long), level-nat (c .pre .0) _ (c .pre .1))
+count-requires c κs = (omega (arith, c .pre .0 .long), level-nat _ _ _ (c .pre .0 .table) _ (c .pre .1))
 
 -- src/reads.rt:69:1
 returns : tie.Need-returns

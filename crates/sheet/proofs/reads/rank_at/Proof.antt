@@ -18,7 +18,7 @@ add-count c = search needs
 
 -- src/reads.rt:65:5
 count-requires : tie.Need-count-requires
-count-requires c κs = (omega (arith, c .pre .0 .long), rank-nat (c .pre .0) _ (c .pre .1))
+count-requires c κs = (omega (arith, c .pre .0 .long), rank-nat _ _ (c .pre .0 .ordered) _ (c .pre .1))
 
 -- src/reads.rt:61:1
 returns : tie.Need-returns
