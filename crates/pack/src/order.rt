@@ -5,18 +5,19 @@ ghost use Prim.Native.Nat.{ℕ, _≤_, _<_};
 ghost use lib.ListN.{length, getD};
 ghost use Rattle.pack.specs.Order.{orderListOk};
 
-// Whether the order list is a permutation of 0 to n - 1: each word is one of these, and none is there twice. `seen` has a mark for each position, none
-// set.
+// Whether the order list is a permutation of 0 to n - 1: each word is one of these, and none is there twice. Each word is read once. `seen` has a mark
+// for each position, none set.
 pub(crate) fn each_once(o: &[i32], n: usize, seen: &mut [bool]) -> bool
-    requires { ⌜ (n ≤ length (now seen)) × ((i : ℕ) → i < n → getD (now seen) i false ≡ false) ⌝ }
+    requires { ⌜ (n ≤ length (now o)) × (n ≤ length (now seen)) × ((i : ℕ) → i < n → getD (now seen) i false ≡ false) ⌝ }
     ensures { λ r. ⌜ r ≡ orderListOk (now (o .entry)) n ⌝ }
 {
     let mut k = 0;
     while k < n {
-        if !words::below_at(o, k, n) {
+        let w = o[k];
+        if !words::below(w, n) {
             return false;
         }
-        let i = words::num_at(o, k);
+        let i = words::num(w);
         if seen[i] {
             return false;
         }

@@ -2,7 +2,7 @@ use native.Mathlib.Omega.{arith}
 use Rattle.integers.specs.Bools.{passed, failed}
 use Rattle.pack.specs.Pack.{packNo}
 use Rattle.pack.proofs.TableLaws.{plan-few}
-use Rattle.pack.proofs.PackLaws.{shape-points, range-few, size-fits, size-differs}
+use Rattle.pack.proofs.PackLaws.{shape-points, shape-order, range-few, size-fits, size-differs}
 use borrow.Author.Needs.{needs}
 use Rattle.pack.proofs.pack_no.Statement.{statement}
 use Rattle.pack.proofs.pack_no.Tie as tie
@@ -29,7 +29,11 @@ unfolding packNo
 returns-3 c = rw (passed (c .before .before .before .before .before .shape-ok .ensures) (c .before .before .before .before .if1 .left), passed (c .before .before .before .range-ok .ensures) (c .before .before .if2 .left), failed (c .before .points-ok .ensures) (c .if3 .taken))
 
 each-once-requires : tie.Need-each-once-requires
-each-once-requires c κs = let h = range-few (c .before .before .before .before .before .before .before .before .args .lim) (c .before .before .before .before .before .before .before .before .args .n) (c .before .before .before .before .before .before .before .before .args .edition) (passed (c .before .before .before .before .range-ok .ensures) (c .before .before .before .if2 .left)) in (omega (arith, c .before .before .before .before .before .before .before .before .pre .1), λ i g. c .before .before .before .before .before .before .before .before .pre .2 i (omega arith))
+each-once-requires c κs =
+    let s = c .before .before .before .before .before .before .before .before in
+    let g = passed (c .before .before .before .before .before .before .shape-ok .ensures) (c .before .before .before .before .before .if1 .left) in
+    let h = range-few (s .args .lim) (s .args .n) (s .args .edition) (passed (c .before .before .before .before .range-ok .ensures) (c .before .before .before .if2 .left)) in
+    (omega (arith, shape-order _ _ _ g), omega (arith, s .pre .1), λ i l. s .pre .2 i (omega arith))
 
 same-length : tie.Need-same-length
 same-length c = search needs
