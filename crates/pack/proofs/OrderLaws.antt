@@ -9,8 +9,9 @@ use Prim.Native.Nat.{ℕ, zero, suc, _+_, _<_, _≤_}
 use native.Mathlib.Nat.{le-antisymm, eq-or-lt-of-le}
 use native.Mathlib.Numerals.{add-one}
 use native.Mathlib.Omega.{arith}
-use lib.Dec.{ltb, eqb}
+use lib.Dec.{ltb, eqb, le→leb}
 use lib.IntN.{ℤ, pos, negsuc}
+use lib.Signed.{_≤ℤ_}
 use borrow.Author.Tests.{lt-ltb, le-ltb, ltb-true, ltb-false, eq-eqb, ne-eqb}
 use Rattle.integers.specs.Bools.{and-left, and-right, and-both, decide, clash, test-iff}
 use Rattle.words.specs.Word.{at, num, eqZ, isBelow}
@@ -50,6 +51,12 @@ below-is : (n i : ℕ) (z : ℤ) → isBelow n z ≡ true → eqZ z (pos i) ≡ 
 unfolding isBelow eqZ num
 below-is n i (pos k) e = refl
 below-is n i (negsuc k) e = absurd (true≢false (sym e))
+
+-- and is not negative
+below-nat : (n : ℕ) (z : ℤ) → isBelow n z ≡ true → pos 0 ≤ℤ z
+unfolding isBelow
+below-nat n (pos k) e = record { le = le→leb 0 k (omega arith) }
+below-nat n (negsuc k) e = absurd (true≢false (sym e))
 
 -- position i is not among the first k, and stands at place k
 pub place-new : (o : List ℤ) (i k n : ℕ) → ltb (placeIn o i k) k ≡ false → isBelow n (at o k) ≡ true → num (at o k) ≡ i → k < n → placeIn o i n ≡ k
@@ -98,6 +105,9 @@ module _ (o : List ℤ) (n : ℕ) (ok : orderListOk o n ≡ true) where
   pub list-word : (k : ℕ) → k < n → isBelow n (at o k) ≡ true
   unfolding orderListOk listOk
   list-word k h = and-left (isBelow n (at o k)) (ltb (placeIn o k n) n) (all-at (listOk o n) n ok k h)
+
+  pub list-nat : (k : ℕ) → k < n → pos 0 ≤ℤ at o k
+  list-nat k h = below-nat n (at o k) (list-word k h)
 
   pub list-below : (k : ℕ) → k < n → num (at o k) < n
   list-below k h = below-num n (at o k) (list-word k h)

@@ -1,5 +1,6 @@
 // Writing a sheet into the words that the caller lends, from the first to the last. Each function is told how far the sheet is written, and says how far
 // it has come.
+use crate::order;
 use crate::tree;
 use sheet::Due;
 ghost use mathlib.Core.Path.{_≡_};
@@ -58,12 +59,12 @@ fn put_order(o: &[i32], n: usize, out: &mut [i32])
 
 // Writes the rank of each position, which the order list gives: behind points and order, whatever points these are.
 fn put_ranks(o: &[i32], n: usize, out: &mut [i32])
-    requires { ⌜ (n ≤ 60000) × (5 * n ≤ length (now out)) × (orderListOk (now o) n ≡ true) ⌝ }
+    requires { ⌜ (n ≤ 60000) × (5 * n ≤ length (now out)) × (n ≤ length (now o)) × (orderListOk (now o) n ≡ true) ⌝ }
     ensures { λ _. ⌜ ((p : List ℤ) → Holds (now (out .entry)) (bodyWord p (now (o .entry)) n) (4 * n) → Holds (now (out .exit)) (bodyWord p (now (o .entry)) n) (5 * n)) ⌝ }
 {
     let mut k = 0;
     while k < n {
-        out[4 * n + words::num_at(o, k)] = word(k);
+        out[4 * n + order::position(o, n, k)] = word(k);
         k += 1;
     }
 }

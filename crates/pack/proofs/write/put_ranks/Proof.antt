@@ -2,13 +2,11 @@ use mathlib.Core.Path.{_≡_, refl}
 use mathlib.Core.List.{List}
 use Prim.Native.Nat.{_≤_, _-_, _*_}
 use native.Mathlib.Omega.{arith}
-use borrow.Author.Needs.{needs}
 use lib.IntN.{ℤ}
 use lib.ListN.{length, length-set}
 use Rattle.words.proofs.Signs.{handed}
 use Rattle.pack.specs.Packed.{bodyWord}
 use Rattle.pack.specs.Work.{Holds}
-use Rattle.pack.proofs.OrderLaws.{list-below}
 use Rattle.pack.proofs.PackedLaws.{Ranked, ranked-start, ranked-more, ranked-done}
 use Rattle.pack.proofs.write.put_ranks.Statement.{statement}
 use Rattle.pack.proofs.write.put_ranks.Tie as tie
@@ -28,17 +26,17 @@ word-requires c κs = omega arith
 mul-t7 : tie.Need-mul-t7 Inv-loop μ-loop
 mul-t7 c = omega arith
 
-num-at-requires : tie.Need-num-at-requires Inv-loop μ-loop
-num-at-requires c κs = search needs
+position-requires : tie.Need-position-requires Inv-loop μ-loop
+position-requires c κs = let s = c .before .before .before in (s .pre .2, s .pre .3, c .before .loop-test .taken)
 
 add-t9 : tie.Need-add-t9 Inv-loop μ-loop
-add-t9 c = omega (arith, c .num-at .ensures .0, list-below _ _ (c .before .before .before .before .pre .2) _ (c .before .before .loop-test .taken))
+add-t9 c = omega (arith, c .position .ensures .1)
 
 mul-t10 : tie.Need-mul-t10 Inv-loop μ-loop
-mul-t10 c = omega (arith, c .num-at .ensures .0, list-below _ _ (c .before .before .before .before .pre .2) _ (c .before .before .loop-test .taken))
+mul-t10 c = omega (arith, c .position .ensures .1)
 
 slice-set-from-out : tie.Need-slice-set-from-out Inv-loop μ-loop
-slice-set-from-out c = omega (arith, c .num-at .ensures .0, list-below _ _ (c .before .before .before .before .pre .2) _ (c .before .before .loop-test .taken))
+slice-set-from-out c = omega (arith, c .position .ensures .1)
 
 add-k : tie.Need-add-k Inv-loop μ-loop
 add-k c = omega arith
@@ -52,14 +50,14 @@ loop-again c =
     let a = t .before in (
       omega arith,
       simp length-set (a .loop .inv .1),
-      λ p h. rw (c .num-at .ensures .0) (ranked-more _ _ _ _ _ _ (a .before .pre .2) (a .loop .inv .2 p h) _ (t .loop-test .taken) (handed (c .before .word .ok) (c .before .word .ensures))),
+      λ p h. rw (c .position .ensures .0) (ranked-more _ _ _ _ _ _ (a .before .pre .3) (a .loop .inv .2 p h) _ (t .loop-test .taken) (handed (c .before .word .ok) (c .before .word .ensures))),
     )
 
 same-length : tie.Need-same-length Inv-loop μ-loop
 same-length c = c .before .loop .inv .1
 
 returns : tie.Need-returns Inv-loop μ-loop
-returns c = λ p h. ranked-done _ _ _ _ _ _ (c .before .before .pre .2) (c .before .loop .inv .2 p h) (c .loop-test .left)
+returns c = λ p h. ranked-done _ _ _ _ _ _ (c .before .before .pre .3) (c .before .loop .inv .2 p h) (c .loop-test .left)
 
 pub put-ranks-spec : {M : Type 1} → statement M
 put-ranks-spec =
@@ -70,7 +68,7 @@ put-ranks-spec =
     loop-holds
     word-requires
     mul-t7
-    num-at-requires
+    position-requires
     add-t9
     mul-t10
     slice-set-from-out

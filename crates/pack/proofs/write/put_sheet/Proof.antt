@@ -11,7 +11,7 @@ put-order-requires : tie.Need-put-order-requires
 put-order-requires c κs = (omega arith, omega arith, omega (arith, sheet-size (c .before .before .before .before .args .n)))
 
 put-ranks-requires : tie.Need-put-ranks-requires
-put-ranks-requires c κs = let s = c .before .before .before .before .before .before .before in (omega arith, omega (arith, sheet-size (s .args .n)), s .pre .3)
+put-ranks-requires c κs = let s = c .before .before .before .before .before .before .before in (omega arith, omega (arith, sheet-size (s .args .n)), s .pre .2, s .pre .3)
 
 nodes-for-requires : tie.Need-nodes-for-requires
 nodes-for-requires c κs = search needs
