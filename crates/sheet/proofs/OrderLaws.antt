@@ -1,16 +1,33 @@
 -- What a right order and rank say: each is the other's inverse on the numbers below n. So every position stands at exactly one place.
 -- Assumes nothing.
 use mathlib.Core.Path.{_≡_, sym, ap, _∙_}
-use mathlib.Core.Bool.{true, _&&_}
+use mathlib.Core.Bool.{Bool, true, false, not, _&&_}
 use mathlib.Core.List.{List}
 use Prim.Native.Nat.{ℕ, _<_}
 use lib.IntN.{ℤ, pos}
 use Rattle.words.specs.Word.{isBelow, eqZ}
-use Rattle.integers.specs.Bools.{and-left, and-right}
+use Rattle.integers.specs.Bools.{and-left, and-right, passed, failed}
 use Rattle.words.proofs.Signs.{below-num, is-num}
 use Rattle.words.proofs.AllLaws.{all-at}
 use Rattle.sheet.specs.Order.{orderWord, rankWord, orderOf, rankOf, placeOk, orderOk}
 use Rattle.sheet.proofs.Permute.{inverse}
+
+-- the test at i, where both words have been found below n, or not
+module _ (w : List ℤ) (n i : ℕ) {a b : Bool} (e : a ≡ isBelow n (orderWord w n i)) (f : b ≡ isBelow n (rankWord w n i)) where
+  both : (a && b) ≡ (isBelow n (orderWord w n i) && isBelow n (rankWord w n i))
+  both = λ j. e j && f j
+
+  pub place-not : not (a && b) ≡ true → false ≡ placeOk w n i
+  unfolding placeOk
+  place-not t = sym (ap (λ (x : Bool). x && eqZ (orderWord w n (rankOf w n i)) (pos i)) (failed both t))
+
+  pub place-rank : not (a && b) ≡ false → rankOf w n i < n
+  unfolding rankOf
+  place-rank t = below-num n (rankWord w n i) (and-right (isBelow n (orderWord w n i)) (isBelow n (rankWord w n i)) (passed both t))
+
+  pub place-is : not (a && b) ≡ false → eqZ (orderWord w n (rankOf w n i)) (pos i) ≡ placeOk w n i
+  unfolding placeOk
+  place-is t = sym (ap (λ (x : Bool). x && eqZ (orderWord w n (rankOf w n i)) (pos i)) (passed both t))
 
 module _ (w : List ℤ) (n : ℕ) (ok : orderOk w n ≡ true) where
   pub order-below : (k : ℕ) → k < n → orderOf w n k < n
