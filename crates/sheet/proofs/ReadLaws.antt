@@ -17,8 +17,9 @@ use Rattle.words.proofs.RangeLaws.{id-is}
 use Rattle.sheet.specs.declared.Due.{Due}
 use Rattle.sheet.specs.Points.{idAt}
 use Rattle.sheet.specs.Order.{orderWord, rankWord, rankOf, placeOk, orderOk}
-use Rattle.sheet.specs.Nodes.{levelWord, firstWord, countWord, dueOf, runOk, endOk, nodeRule, nodeOk, tableOk}
+use Rattle.sheet.specs.Nodes.{levelWord, firstWord, countWord, dueOf, runOk, nodeOk, tableOk}
 use Rattle.sheet.specs.Open.{Opens}
+use Rattle.sheet.proofs.NodeLaws.{rule-run}
 use Rattle.sheet.proofs.PointsLaws.{id-word-at}
 
 -- the count that a word gives, once the word is cast
@@ -59,21 +60,24 @@ module _ (w : List ℤ) (n : ℕ) (ok : orderOk w n ≡ true) where
       let b = isBelow n (rankWord w n k) in
       nat-below n (rankWord w n k) (and-right a b (and-left (a && b) (eqZ (orderWord w n (rankOf w n k)) (pos k)) (all-at (placeOk w n) n ok k h)))
 
+-- of a node whose run is right
+pub run-nat : (w : List ℤ) (n : ℕ) (d : Due) (j : ℕ) → runOk w n d j ≡ true → (pos 0 ≤ℤ levelWord w n j) × (pos 0 ≤ℤ firstWord w n j) × (pos 0 ≤ℤ countWord w n j)
+unfolding runOk
+run-nat w n d j e =
+    let t = ltb (d .level) 8 in
+    let a = eqZ (levelWord w n j) (pos (d .level)) in
+    let b = eqZ (firstWord w n j) (pos (d .next)) in
+    let k = within (pos 1) (pos 16) (countWord w n j) in
+    let e₁ = and-left (t && a && b) k e in (
+      nat-of _ _ (is-word (levelWord w n j) (d .level) (and-right t a (and-left (t && a) b e₁))),
+      nat-of _ _ (is-word (firstWord w n j) (d .next) (and-right (t && a) b e₁)),
+      nat-within (countWord w n j) (and-right (t && a && b) k e),
+    )
+
 module _ (w : List ℤ) (n m : ℕ) (ok : tableOk w n m ≡ true) where
   node-nat : (j : ℕ) → j < m → (pos 0 ≤ℤ levelWord w n j) × (pos 0 ≤ℤ firstWord w n j) × (pos 0 ≤ℤ countWord w n j)
-  unfolding tableOk nodeOk nodeRule runOk
-  node-nat j h =
-      let d = dueOf w n j in
-      let t = ltb (d .level) 8 in
-      let a = eqZ (levelWord w n j) (pos (d .level)) in
-      let b = eqZ (firstWord w n j) (pos (d .next)) in
-      let k = within (pos 1) (pos 16) (countWord w n j) in
-      let e = and-left (t && a && b && k) (endOk w n m d j) (all-at (nodeOk w n m) m ok j h) in
-      let e₁ = and-left (t && a && b) k e in (
-        nat-of _ _ (is-word (levelWord w n j) (d .level) (and-right t a (and-left (t && a) b e₁))),
-        nat-of _ _ (is-word (firstWord w n j) (d .next) (and-right (t && a) b e₁)),
-        nat-within (countWord w n j) (and-right (t && a && b) k e),
-      )
+  unfolding tableOk nodeOk
+  node-nat j h = run-nat w n (dueOf w n j) j (rule-run w n m (dueOf w n j) j (all-at (nodeOk w n m) m ok j h))
 
   pub level-nat : (j : ℕ) → j < m → pos 0 ≤ℤ levelWord w n j
   level-nat j h = node-nat j h .0
