@@ -1,17 +1,33 @@
 -- The test of a point with the id of the one before in hand is the document's.
 -- Assumes nothing.
-use mathlib.Core.Path.{_≡_, refl, ap, _∙_}
-use mathlib.Core.Bool.{Bool, true, false, cond, _&&_}
+use mathlib.Core.Path.{_≡_, refl, sym, ap, subst, _∙_}
+use mathlib.Core.Bool.{Bool, true, false, cond, _&&_, true≢false}
 use mathlib.Core.List.{List}
 use Prim.Native.Nat.{ℕ, zero, suc, _+_, _-_}
 use native.Mathlib.Numerals.{add-one}
 use native.Mathlib.Omega.{arith}
-use lib.IntN.{ℤ, pos, negsuc}
+use lib.IntN.{ℤ, pos, negsuc, negℤ, _-ℤ_}
+use lib.Signed.{ltZ}
+use mir.Syntax.{w32}
+use mir.Val.{SFits}
 use borrow.Author.Tests.{lt-ltb, ne-eqb}
+use Rattle.integers.specs.Order.{diff, Neq, pp-neg, nn-neg}
 use Rattle.words.specs.Word.{within, before}
 use Rattle.words.specs.Range.{idWord, coordWord}
 use Rattle.sheet.specs.declared.Limits.{Limits}
 use Rattle.sheet.specs.Points.{idAt, xAt, yAt, fieldsOk, risesOk, pointOk, idBefore, pointIs}
+
+-- the lower end of a range from -c to c
+pub low-end : (c : ℤ) → pos 0 -ℤ c ≡ negℤ c
+low-end c = Neq (pos 0 -ℤ c) (negℤ c) (omega (arith, diff (pos 0) c, pp-neg c, nn-neg c))
+
+pub low-fits : (c : ℤ) → SFits w32 c → ltZ c (pos 0) ≡ false → SFits w32 (pos 0 -ℤ c)
+low-fits c f g = subst (SFits w32) (sym (low-end c)) (go c f g)
+  where
+    go : (c : ℤ) → SFits w32 c → ltZ c (pos 0) ≡ false → SFits w32 (negℤ c)
+    go (pos zero) f g = f
+    go (pos (suc k)) f g = record { sfits = omega (arith, f .sfits) }
+    go (negsuc k) f g = absurd (true≢false g)
 
 -- an id is above 0
 above-none : (z : ℤ) (b c : Bool) → (idWord z && b && c && before (pos 0) z) ≡ (idWord z && b && c && true)
