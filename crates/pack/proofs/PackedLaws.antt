@@ -3,7 +3,7 @@
 use mathlib.Core.Path.{_≡_, refl, sym, ap, subst, _∙_}
 use mathlib.Core.Bool.{Bool, true, false}
 use mathlib.Core.Logic.{⊎-elim}
-use mathlib.Core.List.{List}
+use mathlib.Core.List.{List, []}
 use Prim.Native.Nat.{ℕ, zero, suc, _+_, _*_, _-_, _/_, _%_, _<_, _≤_}
 use native.Mathlib.Nat.{le-antisymm}
 use native.Mathlib.Omega.{arith}
@@ -244,6 +244,15 @@ module _ (p o w : List ℤ) (n j : ℕ) (ok : orderListOk o n ≡ true) (h : Hol
       let b = list-below o n ok k g in
       rw (order-read k g) (h .word (3 * num (at o k) + 1 + q % 2) (omega arith) ∙ point-word p o n (3 * num (at o k) + 1 + q % 2) (omega arith))
 
+  -- a leaf's parts, read from the point words and the order list
+  pub point-part : (q k i : ℕ) → k < n → i ≡ 3 * num (at o k) + 1 + q % 2 → at p i ≡ partOf w n true q k
+  unfolding partOf coordIn
+  point-part q k i g e = ap (λ (x : ℕ). at p x) e ∙ sym (coord-read q k g)
+
+  pub point-first : (q k i : ℕ) → k < n → i ≡ 3 * num (at o k) + 1 + q % 2 → at p i ≡ best q (partOf w n true q) k 0
+  unfolding best
+  point-first = point-part
+
   pub side-read : (q k : ℕ) → q < 4 → k < j → sideOf w n q k ≡ boxSide p o n q (planOf n k .level) k
   unfolding sideOf
   side-read q k g b = h .word (5 * n + 7 * k + 3 + q) (omega arith) ∙ side-word p o n k q g
@@ -288,6 +297,22 @@ node-more p o w n j ok d s le b f v g l e h =
     holds-fewer _ _ (5 * n + 7 * j + f + 1) _ (omega arith)
     (holds-more w (bodyWord p o n) (5 * n + 7 * j + f) v l
     (e ∙ ap (λ (x : Due). nodeRead w n x f) s ∙ read-is p o w n j ok (holds-fewer w (bodyWord p o n) _ (5 * n + 7 * j) (omega arith) h) (omega arith) b f g) h)
+
+-- what a planned leaf covers are places, and what any other node covers stands before it
+pub leaf-reach : (n j : ℕ) (d : Due) → n ≤ 60000 → j < nodesFor n → d ≡ planOf n j → d .level ≡ 0 → d .next + (planCount d - 1) < n
+leaf-reach n j d g h e =
+    subst (λ (x : Due). x .level ≡ 0 → x .next + (planCount x - 1) < n) (sym e)
+    (λ l. plan-leaf (packed [] [] n 0) n (packed-plan [] [] n 0) (omega arith) j h l _ (omega (arith, count-range (planOf n j) (node-stood n j h .some))))
+
+pub child-reach : (n j : ℕ) (d : Due) → n ≤ 60000 → j < nodesFor n → d ≡ planOf n j → (d .level ≡ 0 → ⊥) → d .next + (planCount d - 1) < j
+child-reach n j d g h e =
+    subst (λ (x : Due). (x .level ≡ 0 → ⊥) → x .next + (planCount x - 1) < j) (sym e) (reach (planOf n j .level) refl)
+  where
+    reach : (l : ℕ) → planOf n j .level ≡ l → (planOf n j .level ≡ 0 → ⊥) → planOf n j .next + (planCount (planOf n j) - 1) < j
+    reach zero q u = absurd (u q)
+    reach (suc l) q u =
+        let c = count-range (planOf n j) (node-stood n j h .some) in
+        plan-child (packed [] [] n 0) n (packed-plan [] [] n 0) (omega arith) j l h q (planOf n j .next + (planCount (planOf n j) - 1)) (omega arith) (omega arith) .1
 
 -- its first words are told by the plan
 pub head-is : (w : List ℤ) (n : ℕ) (d : Due) (f : ℕ) → f < 3 → headWord d f ≡ nodeRead w n d f

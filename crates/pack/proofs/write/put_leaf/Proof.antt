@@ -7,175 +7,126 @@ use mir.Syntax.{w32}
 use mir.Val.{toZ}
 use Rattle.words.proofs.Signs.{handed}
 use Rattle.sheet.specs.Boxes.{best, partOf}
-use Rattle.sheet.specs.Order.{orderOf}
-use Rattle.sheet.proofs.BoxLaws.{least-more, greatest-more, leaf-part, leaf-first}
-use Rattle.pack.proofs.PackedLaws.{put-found}
+use Rattle.sheet.proofs.BoxLaws.{least-more, greatest-more}
+use Rattle.pack.proofs.PackedLaws.{put-found, point-part, point-first}
 use Rattle.pack.proofs.write.put_leaf.Statement.{statement}
 use Rattle.pack.proofs.write.put_leaf.Tie as tie
-use Rattle.pack.proofs.write.put_leaf.Reads as reads
-use Rattle.pack.proofs.write.put_leaf.Lts as lts
-use Rattle.pack.proofs.write.put_sides.Reads as put-sides-reads
-use Rattle.words.proofs.at.Reads as at-reads
-use Rattle.words.proofs.greatest.Reads as greatest-reads
-use Rattle.words.proofs.least.Reads as least-reads
-use Rattle.words.proofs.num_at.Reads as num-at-reads
 
 abbrev Inv-loop : tie.InvT-loop
-Inv-loop n j a c out f xmin₀ ymin₀ xmax₀ ymax₀ i₀ xmin ymin xmax ymax i = (i ≤ c) × (toZ w32 xmin ≡ best 0 (partOf out n true 0) a i) × (toZ w32 ymin ≡ best 1 (partOf out n true 1) a i) × (toZ w32 xmax ≡ best 2 (partOf out n true 2) a i) × (toZ w32 ymax ≡ best 3 (partOf out n true 3) a i)
+Inv-loop p o n j a c out f xmin₀ ymin₀ xmax₀ ymax₀ i₀ xmin ymin xmax ymax i = (i ≤ c) × (toZ w32 xmin ≡ best 0 (partOf out n true 0) a i) × (toZ w32 ymin ≡ best 1 (partOf out n true 1) a i) × (toZ w32 xmax ≡ best 2 (partOf out n true 2) a i) × (toZ w32 ymax ≡ best 3 (partOf out n true 3) a i)
 
 abbrev μ-loop : tie.MeasureT-loop
-μ-loop n j a c out f xmin₀ ymin₀ xmax₀ ymax₀ i₀ xmin ymin xmax ymax i = c - i
+μ-loop p o n j a c out f xmin₀ ymin₀ xmax₀ ymax₀ i₀ xmin ymin xmax ymax i = c - i
 
--- src/write.rt:112:36
-mul-num-at : tie.Need-mul-num-at Inv-loop μ-loop
-mul-num-at c = omega arith
+position-requires : tie.Need-position-requires Inv-loop μ-loop
+position-requires c κs = (c .pre .2, c .pre .3, omega arith)
 
--- src/write.rt:112:36
-add-num-at : tie.Need-add-num-at Inv-loop μ-loop
-add-num-at c = omega arith
-
--- src/write.rt:112:17
-num-at-requires : tie.Need-num-at-requires Inv-loop μ-loop
-num-at-requires c κs = search needs
-
--- src/write.rt:112:13
 mul-f : tie.Need-mul-f Inv-loop μ-loop
 mul-f c = omega arith
 
--- src/write.rt:112:13
 add-f : tie.Need-add-f Inv-loop μ-loop
 add-f c = omega arith
 
--- src/write.rt:113:9
-at-requires : tie.Need-at-requires Inv-loop μ-loop
-at-requires c κs = search needs
+read-requires : tie.Need-read-requires Inv-loop μ-loop
+read-requires c κs = omega (arith, c .position .ensures .1)
 
--- src/write.rt:114:35
-add-at : tie.Need-add-at Inv-loop μ-loop
-add-at c = omega arith
+add-read : tie.Need-add-read Inv-loop μ-loop
+add-read c = omega arith
 
--- src/write.rt:114:9
-at-requires-2 : tie.Need-at-requires-2 Inv-loop μ-loop
-at-requires-2 c κs = search needs
+read-requires-2 : tie.Need-read-requires-2 Inv-loop μ-loop
+read-requires-2 c κs = omega (arith, c .before .position .ensures .1)
 
--- src/write.rt:118:5
 loop-holds : tie.Need-loop-holds Inv-loop μ-loop
-unfolding orderOf
 loop-holds c =
-    let e = c .before .before .before .before .num-at .ensures .0 in
-    let x = c .before .before .at in
-    let y = c .at2 in (
+    let x = c .before .read in
+    let y = c .read2 in
+    let e = c .before .before .position .ensures .0 in
+    let s = c .before .before .before in
+    let first = point-first _ _ _ (s .args .n) (s .args .j) (s .pre .3) (s .pre .7) in (
       omega arith,
-      handed (x .ok) (leaf-first _ _ 0 _ _ (x .ensures) (omega (arith, e))),
-      handed (y .ok) (leaf-first _ _ 1 _ _ (y .ensures) (omega (arith, e))),
-      handed (x .ok) (leaf-first _ _ 2 _ _ (x .ensures) (omega (arith, e))),
-      handed (y .ok) (leaf-first _ _ 3 _ _ (y .ensures) (omega (arith, e))),
+      handed (x .ok) (x .ensures ∙ first 0 _ _ (omega arith) (omega (arith, e))),
+      handed (y .ok) (y .ensures ∙ first 1 _ _ (omega arith) (omega (arith, e))),
+      handed (x .ok) (x .ensures ∙ first 2 _ _ (omega arith) (omega (arith, e))),
+      handed (y .ok) (y .ensures ∙ first 3 _ _ (omega arith) (omega (arith, e))),
     )
 
--- src/write.rt:119:9
 add-i : tie.Need-add-i Inv-loop μ-loop
 add-i c = omega arith
 
--- src/write.rt:120:40
-mul-num-at-2 : tie.Need-mul-num-at-2 Inv-loop μ-loop
-mul-num-at-2 c = omega arith
+add-position : tie.Need-add-position Inv-loop μ-loop
+add-position c = omega arith
 
--- src/write.rt:120:49
-add-num-at-2 : tie.Need-add-num-at-2 Inv-loop μ-loop
-add-num-at-2 c = omega arith
+position-requires-2 : tie.Need-position-requires-2 Inv-loop μ-loop
+position-requires-2 c κs = let s = c .before .before .before .before .before in (s .pre .2, s .pre .3, omega arith)
 
--- src/write.rt:120:40
-add-num-at-3 : tie.Need-add-num-at-3 Inv-loop μ-loop
-add-num-at-3 c = omega arith
+mul-k : tie.Need-mul-k Inv-loop μ-loop
+mul-k c = omega arith
 
--- src/write.rt:120:21
-num-at-requires-2 : tie.Need-num-at-requires-2 Inv-loop μ-loop
-num-at-requires-2 c κs = search needs
+add-k : tie.Need-add-k Inv-loop μ-loop
+add-k c = omega arith
 
--- src/write.rt:120:17
-mul-p : tie.Need-mul-p Inv-loop μ-loop
-mul-p c = omega arith
+read-requires-3 : tie.Need-read-requires-3 Inv-loop μ-loop
+read-requires-3 c κs = omega (arith, c .position2 .ensures .1)
 
--- src/write.rt:120:17
-add-p : tie.Need-add-p Inv-loop μ-loop
-add-p c = omega arith
+add-read-2 : tie.Need-add-read-2 Inv-loop μ-loop
+add-read-2 c = omega arith
 
--- src/write.rt:121:13
-at-requires-3 : tie.Need-at-requires-3 Inv-loop μ-loop
-at-requires-3 c κs = search needs
+read-requires-4 : tie.Need-read-requires-4 Inv-loop μ-loop
+read-requires-4 c κs = omega (arith, c .before .position2 .ensures .1)
 
--- src/write.rt:122:32
-add-at-2 : tie.Need-add-at-2 Inv-loop μ-loop
-add-at-2 c = omega arith
-
--- src/write.rt:122:13
-at-requires-4 : tie.Need-at-requires-4 Inv-loop μ-loop
-at-requires-4 c κs = search needs
-
--- src/write.rt:123:9
 least-requires : tie.Need-least-requires Inv-loop μ-loop
 least-requires c κs = search needs
 
--- src/write.rt:124:9
 least-requires-2 : tie.Need-least-requires-2 Inv-loop μ-loop
 least-requires-2 c κs = search needs
 
--- src/write.rt:125:9
 greatest-requires : tie.Need-greatest-requires Inv-loop μ-loop
 greatest-requires c κs = search needs
 
--- src/write.rt:126:9
 greatest-requires-2 : tie.Need-greatest-requires-2 Inv-loop μ-loop
 greatest-requires-2 c κs = search needs
 
--- src/write.rt:118:5
 loop-less : tie.Need-loop-less Inv-loop μ-loop
 loop-less c = omega arith
 
--- src/write.rt:118:5
 loop-again : tie.Need-loop-again Inv-loop μ-loop
-unfolding orderOf
 loop-again c =
-    let e = c .before .before .before .before .before .before .before .before .num-at2 .ensures .0 in
-    let x = c .before .before .before .before .before .before .at3 in
-    let y = c .before .before .before .before .at4 in
-    let v = c .before .before .before .before .before .before .before .before .before .before .before .loop .inv in
     let l = c .before .before .before .least in
     let k = c .before .before .least2 in
     let g = c .before .greatest in
-    let h = c .greatest2 in (
+    let h = c .greatest2 in
+    let y = c .before .before .before .before .read4 in
+    let x = c .before .before .before .before .before .read3 in
+    let t = c .before .before .before .before .before .before in
+    let e = t .position2 .ensures .0 in
+    let v = t .before .before .loop .inv in
+    let s = t .before .before .before .before .before .before in
+    let part = point-part _ _ _ (s .args .n) (s .args .j) (s .pre .3) (s .pre .7) in (
       omega arith,
-      handed (l .ok) (least-more 0 _ _ _ refl (l .ensures) (v .1) (handed (x .ok) (x .ensures ∙ leaf-part _ _ 0 _ _ (omega (arith, e))))),
-      handed (k .ok) (least-more 1 _ _ _ refl (k .ensures) (v .2) (handed (y .ok) (y .ensures ∙ leaf-part _ _ 1 _ _ (omega (arith, e))))),
-      handed (g .ok) (greatest-more 2 _ _ _ refl (g .ensures) (v .3) (handed (x .ok) (x .ensures ∙ leaf-part _ _ 2 _ _ (omega (arith, e))))),
-      handed (h .ok) (greatest-more 3 _ _ _ refl (h .ensures) (v .4) (handed (y .ok) (y .ensures ∙ leaf-part _ _ 3 _ _ (omega (arith, e))))),
+      handed (l .ok) (least-more 0 _ _ _ refl (l .ensures) (v .1) (handed (x .ok) (x .ensures ∙ part 0 _ _ (omega arith) (omega (arith, e))))),
+      handed (k .ok) (least-more 1 _ _ _ refl (k .ensures) (v .2) (handed (y .ok) (y .ensures ∙ part 1 _ _ (omega arith) (omega (arith, e))))),
+      handed (g .ok) (greatest-more 2 _ _ _ refl (g .ensures) (v .3) (handed (x .ok) (x .ensures ∙ part 2 _ _ (omega arith) (omega (arith, e))))),
+      handed (h .ok) (greatest-more 3 _ _ _ refl (h .ensures) (v .4) (handed (y .ok) (y .ensures ∙ part 3 _ _ (omega arith) (omega (arith, e))))),
     )
 
--- src/write.rt:128:15
 mul-put-sides : tie.Need-mul-put-sides Inv-loop μ-loop
 mul-put-sides c = omega arith
 
--- src/write.rt:128:23
 mul-put-sides-2 : tie.Need-mul-put-sides-2 Inv-loop μ-loop
 mul-put-sides-2 c = omega arith
 
--- src/write.rt:128:15
 add-put-sides : tie.Need-add-put-sides Inv-loop μ-loop
 add-put-sides c = omega arith
 
--- src/write.rt:128:15
 add-put-sides-2 : tie.Need-add-put-sides-2 Inv-loop μ-loop
 add-put-sides-2 c = omega arith
 
--- src/write.rt:128:5
 put-sides-requires : tie.Need-put-sides-requires Inv-loop μ-loop
 put-sides-requires c κs = omega arith
 
--- src/write.rt:108:1
 same-length : tie.Need-same-length Inv-loop μ-loop
 same-length c = search needs
 
--- src/write.rt:108:1
 returns : tie.Need-returns Inv-loop μ-loop
 returns c =
     let v = c .before .before .before .before .loop .inv in
@@ -187,25 +138,21 @@ put-leaf-spec =
     (tie.spec
     Inv-loop
     μ-loop
-    mul-num-at
-    add-num-at
-    num-at-requires
+    position-requires
     mul-f
     add-f
-    at-requires
-    add-at
-    at-requires-2
+    read-requires
+    add-read
+    read-requires-2
     loop-holds
     add-i
-    mul-num-at-2
-    add-num-at-2
-    add-num-at-3
-    num-at-requires-2
-    mul-p
-    add-p
-    at-requires-3
-    add-at-2
-    at-requires-4
+    add-position
+    position-requires-2
+    mul-k
+    add-k
+    read-requires-3
+    add-read-2
+    read-requires-4
     least-requires
     least-requires-2
     greatest-requires

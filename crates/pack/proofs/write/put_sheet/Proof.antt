@@ -17,7 +17,12 @@ nodes-for-requires : tie.Need-nodes-for-requires
 nodes-for-requires c κs = search needs
 
 put-nodes-requires : tie.Need-put-nodes-requires
-put-nodes-requires c κs = (omega arith, c .before .nodes-for .ensures, omega (arith, sheet-size (c .before .before .before .before .before .before .before .before .before .before .before .args .n)))
+put-nodes-requires c κs =
+    let r = c .before .before .before .put-ranks in
+    let o = c .before .before .before .before .before .before .put-order in
+    let p = c .before .before .before .before .before .before .before .before .before .put-points in
+    let s = c .before .before .before .before .before .before .before .before .before .before .before in
+    (omega arith, s .pre .1, s .pre .2, s .pre .3, c .before .nodes-for .ensures, omega (arith, sheet-size (s .args .n)), r .ensures _ (o .ensures _ (p .ensures _)))
 
 put-trailer-requires : tie.Need-put-trailer-requires
 put-trailer-requires c κs = search needs
@@ -26,14 +31,7 @@ same-length : tie.Need-same-length
 same-length c = search needs
 
 returns : tie.Need-returns
-returns c =
-    let g = c .before .put-trailer in
-    let x = c .before .before .before .before .put-nodes in
-    let r = c .before .before .before .before .before .before .before .before .put-ranks in
-    let o = c .before .before .before .before .before .before .before .before .before .before .before .put-order in
-    let p = c .before .before .before .before .before .before .before .before .before .before .before .before .before .before .put-points in
-    let s = c .before .before .before .before .before .before .before .before .before .before .before .before .before .before .before .before in
-    g .ensures _ _ (x .ensures _ _ (s .pre .3) (r .ensures _ (o .ensures _ (p .ensures _))))
+returns c = c .before .put-trailer .ensures _ _ (c .before .before .before .before .put-nodes .ensures)
 
 pub put-sheet-spec : {M : Type 1} → statement M
 put-sheet-spec =
