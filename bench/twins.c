@@ -128,7 +128,8 @@ unsigned twin_pack(twin_size n, const twin_word *points, const twin_word *order,
 static spot spot_at(const sheet *s, twin_size i) { const twin_word *p = s->w + 3 * i; spot z = {p[1], p[2]}; return z; }
 static i64 dot(spot a, spot b, spot z) { return (a.x - z.x) * (b.x - z.x) + (a.y - z.y) * (b.y - z.y); }
 
-typedef struct { u64 bits[16]; u64 opened; twin_size last; } kept;
+/* The kept set, and beside it the positions in the order in which they were kept; where count is more than 256 the list does not have them all. */
+typedef struct { u64 bits[16]; u64 opened; twin_size last, count, latest[256]; } kept;
 
 static int drops_box(spot q, spot p, const twin_word *o)
 {
@@ -136,12 +137,20 @@ static int drops_box(spot q, spot p, const twin_word *o)
     return (dot(q, a, p) <= 0) & (dot(q, b, p) <= 0) & (dot(q, c, p) <= 0) & (dot(q, d, p) <= 0);
 }
 
-/* Whether a kept point drops the box (or the point z where o is null): the one that dropped last is tried first. */
+/* Whether a kept point drops the box (or the point z where o is null): the one that dropped last is tried first, then the others from the latest kept to the first. */
 static int dropped(const sheet *s, spot q, kept *k, const twin_word *o, spot z)
 {
     if (k->last < s->n) {
         spot p = spot_at(s, k->last);
         if (o ? drops_box(q, p, o) : dot(q, z, p) <= 0) return 1;
+    }
+    if (k->count <= 256) {
+        for (twin_size c = k->count; c > 0;) {
+            twin_size i = k->latest[--c];
+            spot p = spot_at(s, i);
+            if (o ? drops_box(q, p, o) : dot(q, z, p) <= 0) { k->last = i; return 1; }
+        }
+        return 0;
     }
     for (twin_size w = 0; w < 16; w++) {
         for (u64 b = k->bits[w]; b; b &= b - 1) {
@@ -153,6 +162,13 @@ static int dropped(const sheet *s, spot q, kept *k, const twin_word *o, spot z)
     return 0;
 }
 
+static void keep(kept *k, twin_size i)
+{
+    k->bits[i / 64] |= 1ull << (i % 64);
+    if (k->count < 256) k->latest[k->count] = i;
+    if (k->count <= 256) k->count++;
+}
+
 static void filter_node(const sheet *s, spot q, twin_size j, kept *k)
 {
     const twin_word *a = s->w + 5 * s->n + 7 * j;
@@ -162,7 +178,7 @@ static void filter_node(const sheet *s, spot q, twin_size j, kept *k)
     for (twin_word c = a[1]; c < a[1] + a[2]; c++) {
         if (a[0]) { filter_node(s, q, (twin_size)c, k); continue; }
         twin_size i = (twin_size)s->w[3 * s->n + (twin_size)c];
-        if (!dropped(s, q, k, 0, spot_at(s, i))) k->bits[i / 64] |= 1ull << (i % 64);
+        if (!dropped(s, q, k, 0, spot_at(s, i))) keep(k, i);
     }
 }
 
@@ -204,7 +220,7 @@ twin_page_answer twin_page(const twin_word *pw, twin_size plen, const twin_word 
         unsigned qid = (unsigned)q.w[3 * j];
         if (qid < key.q) continue;
         spot a = spot_at(&q, j);
-        kept k = {{0}, 0, ~0ul};
+        kept k = {{0}, 0, ~0ul, 0, {0}};
         if (p.m) filter_node(&p, a, p.m - 1, &k);
         r.opened += k.opened;
         for (twin_size w = 0; w < 16; w++) {

@@ -107,6 +107,32 @@ def large_pairs(out, rng):
         out.add(label, p, q, filters, pairs)
 
 
+def on_a_circle(radius, quarter):
+    """Four times so many places near a circle around (0, 0), so near that none drops another for a q in the middle."""
+    first = [(radius * (quarter ** 2 - t ** 2) // (quarter ** 2 + t ** 2), radius * 2 * t * quarter // (quarter ** 2 + t ** 2)) for t in range(quarter)]
+    turned = [first]
+    for _ in range(3):
+        turned.append([(-y, x) for x, y in turned[-1]])
+    return sum(turned, [])
+
+
+def many_kept(out, rng):
+    """More points kept than the filter walk lists, so that the kept set itself is asked: 360 on a circle, then some inside it, which are kept too, then others outside it,
+    which are dropped one by one or by their boxes."""
+    inside = [(rng.randint(-9000, 9000), rng.randint(-9000, 9000)) for _ in range(10)]
+    outside = [(x + rng.randint(-800, 800), y + rng.randint(-800, 800)) for x, y in on_a_circle(900000, 32)]
+    places = on_a_circle(600000, 90) + inside + outside
+    order = trees.shuffled(rng, len(places))
+    at = dict(zip(order, places))
+    p = trees.sheet([(number,) + at[i] for i, number in enumerate(trees.ids(rng, len(places)))], order, reading.runs_of_sixteen(len(places)), 21)
+    middle = [(0, 0), (1, -1), (-40, 9), (3000, 200), (-600000, 0), (900000, 900000)]
+    q = trees.sheet([(j + 1,) + place for j, place in enumerate(middle)], trees.shuffled(rng, len(middle)), reading.runs_of_sixteen(len(middle)), 22)
+    walks_mean_the_rule(p, q)
+    kept = [len(reading.filter_walk(reading.Sheet(p), place)[0]) for place in middle]
+    assert max(kept) > 360 and min(kept) < 256
+    out.add("more than 256 kept", p, q, range(len(middle)), [(j, i) for j in range(len(middle)) for i in rng.sample(range(len(places)), 3)])
+
+
 def refused(out, rng):
     """A bad sheet, P's before Q's, and a position not below n: the earlier number each time. Empty sheets."""
     for p, q, number in towns.both_faulty(rng):
@@ -138,6 +164,7 @@ def cases():
     shaped_pairs(out, rng)
     large_pairs(out, rng)
     refused(out, rng)
+    many_kept(out, rng)
     assert out.pairs >= 300
     for answer in ("clear", "point 0", "point 1", "side 0", "side 1"):
         assert out.seen["ring " + answer] >= 50, (answer, out.seen)

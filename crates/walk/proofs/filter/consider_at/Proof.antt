@@ -1,8 +1,13 @@
 -- `walk::filter::consider_at` meets its contract. Assumes nothing.
+use mathlib.Core.Path.{_≡_}
+use Prim.Native.Nat.{_*_, _<_}
 use native.Mathlib.Omega.{arith}
-use Rattle.bits.proofs.SomeLaws.{finds-some, known-more}
+use lib.ListN.{length}
+use Rattle.bits.proofs.SomeLaws.{finds-some}
+use Rattle.walk.specs.FilterWalk.{consider}
 use Rattle.walk.proofs.NodeLaws.{spot-fits}
 use Rattle.walk.proofs.FilterCode.{consider-yes, consider-no, dropped-is}
+use Rattle.walk.proofs.LatestLaws.{tries-found, tries-more, tries-full}
 use borrow.Author.Needs.{needs}
 use Rattle.walk.proofs.filter.consider_at.Statement.{statement}
 use Rattle.walk.proofs.filter.consider_at.Tie as tie
@@ -12,8 +17,8 @@ spot-at-requires c κs = (c .before .pre .0, c .before .pre .2)
 
 drops-spot-requires : tie.Need-drops-spot-requires
 drops-spot-requires c κs =
-    let p = c .before .before .before .pre in
-    (p .0, p .1, spot-fits _ _ _ (p .0) _ _ (p .2) (c .before .spot-at .ensures), p .3, p .4)
+    let p = c .before .before .before .before .pre in
+    (p .0, p .1, spot-fits _ _ _ (p .0) _ _ (p .2) (c .before .before .spot-at .ensures), p .3, p .4)
 
 same-length : tie.Need-same-length
 same-length c = search needs
@@ -21,23 +26,54 @@ same-length c = search needs
 returns : tie.Need-returns
 returns c =
     let f = c .before .drops-spot .ensures in
-    (consider-yes _ _ _ _ _ (dropped-is _ _ _ _ _ _ _ (c .before .before .before .spot-at .ensures) (finds-some _ _ _ _ f (c .if1 .taken))), f .known)
+    let z = c .before .before .before .before in
+    (consider-yes _ _ _ _ _ (dropped-is _ _ _ _ _ _ _ (z .spot-at .ensures) (finds-some _ _ _ _ f (c .if1 .taken))), tries-found _ _ _ _ _ _ (f .known) (z .before .before .pre .4))
 
 insert-requires : tie.Need-insert-requires
 insert-requires c κs = search needs
 
+mul-latest : tie.Need-mul-latest
+mul-latest c = search needs
+
+element-write-latest : tie.Need-element-write-latest
+element-write-latest c = search needs
+
+add-t19 : tie.Need-add-t19
+add-t19 c = search needs
+
 same-length-2 : tie.Need-same-length-2
 same-length-2 c = search needs
 
+-- ---- once position i is kept
+
+abbrev asked : tie.After-insert → tie.Else1
+asked c = c .before .before
+
+abbrev start : tie.After-insert → tie.Start
+start c = asked c .before .before .before .before .before .before
+
+considered : (c : tie.After-insert) → c .insert .last .0 ≡ consider (start c .args .w .now) (start c .args .n) (start c .args .q) (start c .args .i) (start c .args .bits .now)
+considered c =
+    let e = asked c in
+    consider-no _ _ _ _ _ _ (dropped-is _ _ _ _ _ _ _ (e .before .before .before .before .spot-at .ensures) (e .before .drops-spot .ensures .none-left (e .if1 .left))) (c .insert .ensures)
+
+room : (c : tie.After-insert) → start c .args .i < 64 * length (start c .args .bits .now)
+room c = omega (arith, start c .pre .2, start c .pre .3 .enough)
+
 returns-2 : tie.Need-returns-2
 returns-2 c =
-    let e = c .before .before .before .before in
-    let z = e .before .before .before in
-    let p = z .before .before .pre in
-    let w = c .before .before .insert .ensures in (
-      consider-no _ _ _ _ _ _ (dropped-is _ _ _ _ _ _ _ (z .spot-at .ensures) (e .before .drops-spot .ensures .none-left (e .if1 .left))) w,
-      known-more _ _ _ _ _ w (omega (arith, p .2, p .3 .enough)) (p .4),
-    )
+    let k = c .before .before .before in
+    let p = start k .pre in
+    (considered k, tries-more _ _ _ _ _ _ (p .2) (room k) (p .4) (c .if2 .taken) _ (k .insert .ensures))
+
+same-length-3 : tie.Need-same-length-3
+same-length-3 c = search needs
+
+returns-3 : tie.Need-returns-3
+returns-3 c =
+    let k = c .before .before .before in
+    let p = start k .pre in
+    (considered k, tries-full _ _ _ _ _ _ (p .2) (room k) (p .4) _ _ (k .insert .ensures) (omega arith))
 
 pub consider-at-spec : {M : Type 1} → statement M
 consider-at-spec =
@@ -48,5 +84,10 @@ consider-at-spec =
     same-length
     returns
     insert-requires
+    mul-latest
+    element-write-latest
+    add-t19
     same-length-2
-    returns-2)
+    returns-2
+    same-length-3
+    returns-3)
