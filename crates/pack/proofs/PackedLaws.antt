@@ -41,12 +41,9 @@ module _ (p o : List ℤ) (n : ℕ) where
   unfolding flatWord
   point-word i h = flat-is i (omega arith) ∙ rw (lt-ltb i (3 * n) h)
 
-  pub front-order : (i : ℕ) → 3 * n ≤ i → i < 4 * n → bodyWord p o n i ≡ at o (i - 3 * n)
-  unfolding flatWord
-  front-order i g h = flat-is i (omega arith) ∙ rw (le-ltb i (3 * n) g, lt-ltb i (4 * n) h)
-
   pub order-word : (i : ℕ) → i < n → bodyWord p o n (3 * n + i) ≡ at o i
-  order-word i h = front-order (3 * n + i) (omega arith) (omega arith) ∙ ap (at o) z
+  unfolding flatWord
+  order-word i h = flat-is (3 * n + i) (omega arith) ∙ rw (le-ltb (3 * n + i) (3 * n) (omega arith), lt-ltb (3 * n + i) (4 * n) (omega arith)) (ap (at o) z)
     where
       z : 3 * n + i - 3 * n ≡ i
       z = omega arith
