@@ -104,6 +104,7 @@ unsigned twin_pack(twin_size n, const twin_word *points, const twin_word *order,
         twin_size count = next + 16 < top ? 16 : top - next;
         twin_word *a = t + 7 * j;
         a[0] = (twin_word)level; a[1] = (twin_word)next; a[2] = (twin_word)count;
+        twin_word box[4];
         for (twin_size k = next; k < next + count; k++) {
             twin_word part[4];
             if (level == 0) {
@@ -113,8 +114,9 @@ unsigned twin_pack(twin_size n, const twin_word *points, const twin_word *order,
                 for (int s = 0; s < 4; s++) part[s] = t[7 * k + 3 + s];
             }
             for (int s = 0; s < 4; s++)
-                if (k == next || (s < 2 ? part[s] < a[3 + s] : part[s] > a[3 + s])) a[3 + s] = part[s];
+                if (k == next || (s < 2 ? part[s] < box[s] : part[s] > box[s])) box[s] = part[s];
         }
+        for (int s = 0; s < 4; s++) a[3 + s] = box[s];
         next += count;
         if (next == top) { level++; next = head; head = j + 1; top = j + 1; }
     }
