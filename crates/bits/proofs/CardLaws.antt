@@ -1,4 +1,4 @@
--- How many positions are kept: word by word, after one more is kept, and where none is kept from n on.
+-- How many positions are kept: word by word, and where none is kept from n on.
 -- Assumes nothing.
 use mathlib.Core.Path.{_≡_, refl, sym, ap, _∙_}
 use mathlib.Core.Bool.{Bool, true, false}
@@ -8,9 +8,9 @@ use native.Mathlib.Omega.{arith}
 use native.Mathlib.Nat.{div-one, div-eq-of-lt, zero-add}
 use lib.ListN.{length, getD}
 use lib.Count.{ones}
-use Rattle.bits.specs.Set.{digit, at, kept, with, cardIn, card}
+use Rattle.bits.specs.Set.{digit, at, kept, cardIn, card}
 use Rattle.bits.proofs.DigitLaws.{ones-digit}
-use Rattle.bits.proofs.SetLaws.{at-lt, at-word, not-kept-at, with-length, with-same, with-other}
+use Rattle.bits.proofs.SetLaws.{at-word, not-kept-at}
 
 -- ---- word by word
 
@@ -56,18 +56,10 @@ pub rest-end : (ws : List ℕ) (w : ℕ) → length ws ≤ w → rest ws w ≡ 0
 unfolding rest cardIn
 rest-end ws w h = let e : (length ws - w) * 64 ≡ 0 = omega arith in rw e
 
--- ---- after one more is kept
+-- ---- where none is kept from n on
 
-card-same : (ws us : List ℕ) (f i : ℕ) → ((j : ℕ) → j < f → at ws (i + j) ≡ at us (i + j)) → cardIn ws f i ≡ cardIn us f i
-unfolding cardIn
-card-same ws us zero i h = refl
-card-same ws us (suc f) i h =
-    let a : i + 0 ≡ i = omega arith in
-    let o = rw a at (h 0 (omega arith)) in
-    let r = card-same ws us f (i + 1) (λ j l. let b : i + 1 + j ≡ i + suc j = omega arith in rw b (h (suc j) (omega arith))) in
-    omega arith
-
-pub card-split : (ws : List ℕ) (a b i : ℕ) → cardIn ws (a + b) i ≡ cardIn ws a i + cardIn ws b (i + a)
+-- positions one after the other
+card-split : (ws : List ℕ) (a b i : ℕ) → cardIn ws (a + b) i ≡ cardIn ws a i + cardIn ws b (i + a)
 unfolding cardIn
 card-split ws zero b i =
     let e : zero + b ≡ b = omega arith in
@@ -78,28 +70,6 @@ card-split ws (suc a) b i =
     let d : i + suc a ≡ i + 1 + a = omega arith in
     let r = card-split ws a b (i + 1) in
     rw (e, d) (omega arith)
-
--- below i, at i, and the f above i
-card-at : (ws : List ℕ) (i f : ℕ) → cardIn ws (i + suc f) 0 ≡ cardIn ws i 0 + (at ws i + cardIn ws f (i + 1))
-unfolding cardIn
-card-at ws i f =
-    let z : 0 + i ≡ i = omega arith in
-    card-split ws i (suc f) 0 ∙ ap (λ (x : ℕ). cardIn ws i 0 + cardIn ws (suc f) x) z
-
--- a position that was not kept is one more, and one that was changes nothing
-pub card-with : (ws : List ℕ) (i : ℕ) → i < 64 * length ws → card (with ws i) ≡ card ws + (1 - at ws i)
-unfolding card
-card-with ws i h =
-    let f : ℕ = 64 * length ws - (i + 1) in
-    let e : 64 * length ws ≡ i + suc f = omega arith in
-    let l : 64 * length (with ws i) ≡ i + suc f = omega (arith, with-length ws i) in
-    let low = card-same (with ws i) ws i 0 (λ j l. with-other ws i (0 + j) h (λ q. omega arith)) in
-    let high = card-same (with ws i) ws f (i + 1) (λ j l. with-other ws i (i + 1 + j) h (λ q. omega arith)) in
-    let a = ap (λ (x : ℕ). cardIn (with ws i) x 0) l in
-    let b = ap (λ (x : ℕ). cardIn ws x 0) e in
-    omega (arith, card-at ws i f, card-at (with ws i) i f, with-same ws i h, at-lt ws i)
-
--- ---- where none is kept from n on
 
 -- positions that are not kept add nothing to the count
 card-zero : (ws : List ℕ) (f i : ℕ) → ((j : ℕ) → i ≤ j → j < i + f → kept ws j ≡ false) → cardIn ws f i ≡ 0

@@ -10,17 +10,13 @@ use native.Mathlib.Decide.{ℕ-discrete}
 use lib.ListN.{length, getD, set, replicate, length-set, length-replicate, getD-replicate}
 use lib.Seq.{getD-set-same, getD-set-other, ext-getD}
 use lib.Dec.{eqb, lit<}
-use borrow.Author.Tests.{eqb-true, eqb-false, eq-eqb}
+use borrow.Author.Tests.{eqb-false, eq-eqb}
 use Rattle.bits.specs.Set.{digit, at, kept, with, none}
 use Rattle.bits.proofs.DigitLaws.{digit-lt, digit-shr, digit-high, set-same, set-other}
 
 pub at-lt : (ws : List ℕ) (i : ℕ) → at ws i < 2
 unfolding at
 at-lt ws i = digit-lt (getD ws (i / 64) 0) (i % 64)
-
-pub kept-at : (ws : List ℕ) (i : ℕ) → kept ws i ≡ true → at ws i ≡ 1
-unfolding kept
-kept-at ws i e = eqb-true (at ws i) 1 e
 
 pub not-kept-at : (ws : List ℕ) (i : ℕ) → kept ws i ≡ false → at ws i ≡ 0
 unfolding kept

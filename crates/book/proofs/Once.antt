@@ -1,4 +1,4 @@
--- One input, one answer and one final state of the slots: from each promise alone. And the number and the value that each answer has.
+-- One input, one answer and one final state of the slots: from each promise alone. And the number that each answer has.
 -- Assumes nothing.
 use mathlib.Core.Path.{_≡_, refl, sym, ap, _∙_}
 use mathlib.Core.List.{List}
@@ -13,7 +13,7 @@ use Rattle.book.specs.declared.Begun.{Begun}
 use Rattle.book.specs.declared.Asked.{Asked}
 use Rattle.book.specs.declared.Taken.{Taken}
 use Rattle.book.specs.declared.TakenArray.{TakenArray}
-use Rattle.book.specs.Rules.{beginNo, begunNo, begunValue, begunBy, begunBook, begunFor, lastKey, nextNo, askedNo, askedKey, nextBy, askedAt, asked, taken, takenSlots, lentOf, takenArray}
+use Rattle.book.specs.Rules.{beginNo, begunNo, begunBy, begunBook, begunFor, lastKey, nextNo, askedNo, nextBy, askedAt, asked, taken, takenSlots, lentOf, takenArray}
 
 pub begin-once : (s : Source) (r r′ : Begun) → r ≡ begunFor s → r′ ≡ begunFor s → r ≡ r′
 begin-once s r r′ x y = x ∙ sym y
@@ -31,7 +31,7 @@ next-array-once s len b r r′ x y = x ∙ sym y
 pub take-array-once : (s : List Pair) (len : ℕ) (b : Book) (g : Page) (r r′ : TakenArray) → r ≡ takenArray s len b g → r′ ≡ takenArray s len b g → r ≡ r′
 take-array-once s len b g r r′ x y = x ∙ sym y
 
--- ---- the number of each answer, and what goes with 0
+-- ---- the number of each answer
 
 by-begun : (n : ℕ) (b : Book) → begunNo (begunBy n b) ≡ n
 unfolding begunNo begunBy
@@ -42,10 +42,6 @@ pub begin-no : (s : Source) → begunNo (begunFor s) ≡ beginNo s
 unfolding begunFor
 begin-no s = by-begun (beginNo s) (begunBook s)
 
-pub begin-value : (s : Source) → beginNo s ≡ 0 → begunValue (begunFor s) ≡ begunBook s
-unfolding begunFor begunBy begunValue
-begin-value s e = ap (λ (n : ℕ). begunValue (begunBy n (begunBook s))) e
-
 by-next : (n : ℕ) (k : Key) → askedNo (nextBy n k) ≡ n
 unfolding askedNo nextBy
 by-next zero k = refl
@@ -54,10 +50,6 @@ by-next (suc n) k = refl
 pub next-no : (b : Book) (s : List Pair) → askedNo (asked b s .next) ≡ nextNo b (length s)
 unfolding asked askedAt
 next-no b s = by-next (nextNo b (length s)) (lastKey (b .held) s)
-
-pub next-value : (b : Book) (s : List Pair) → nextNo b (length s) ≡ 0 → askedKey (asked b s .next) ≡ lastKey (b .held) s
-unfolding asked askedAt nextBy askedKey
-next-value b s e = ap (λ (n : ℕ). askedKey (nextBy n (lastKey (b .held) s))) e
 
 -- asking hands the state back
 pub asked-book : (b : Book) (s : List Pair) → asked b s .book ≡ b

@@ -32,14 +32,10 @@ beginNo s = cond (editionOk (s .«p_edition») && editionOk (s .«q_edition»)) 
 unfoldable pub begunBook : Source → Book
 begunBook s = record { held = 0; closed = false; source = s }
 
--- the document's number for each case of the answer, and the book: "An array or number in a refused answer is all zero"
+-- the document's number for each case of the answer
 unfoldable pub begunNo : Begun → ℕ
 begunNo (begun.Open b) = 0
 begunNo (begun.Refused n) = n
-
-unfoldable pub begunValue : Begun → Book
-begunValue (begun.Open b) = b
-begunValue (begun.Refused n) = begunBook (record { «p_edition» = 0; «q_edition» = 0 })
 
 -- the answer by its number: 0 goes with the book, "Every refusal gives only its number"
 unfoldable pub begunBy : ℕ → Book → Begun
@@ -66,14 +62,10 @@ lastSlot (suc n) len = n
 unfoldable pub nextNo : Book → ℕ → ℕ
 nextNo b len = cond (ltb len (b .held)) 11 0
 
--- the document's number for each case of the answer, and the key
+-- the document's number for each case of the answer
 unfoldable pub askedNo : Next → ℕ
 askedNo (next.After k) = 0
 askedNo (next.Refused n) = n
-
-unfoldable pub askedKey : Next → Key
-askedKey (next.After k) = k
-askedKey (next.Refused n) = start
 
 -- the answer by its number: 0 goes with the key
 unfoldable pub nextBy : ℕ → Key → Next

@@ -13,7 +13,7 @@ use mir.Syntax.{w64}
 use mir.Val.{Fits}
 use Rattle.integers.specs.Order.{zl, Within, in--, in-up, in-lit, diff, sum, +-mono}
 use Rattle.integers.specs.Sign.{sq-≥0}
-use Rattle.integers.specs.Bools.{decide, test-iff}
+use Rattle.integers.specs.Bools.{test-iff}
 use Rattle.plane.specs.declared.Spot.{Spot}
 use Rattle.plane.specs.declared.Boxed.{Boxed}
 use Rattle.plane.specs.Rule.{sq, out, size, gap, far}

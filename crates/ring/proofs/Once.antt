@@ -19,7 +19,6 @@ use Rattle.ring.specs.declared.Asset.{Asset}
 use Rattle.ring.specs.declared.Pointed.{Pointed}
 use Rattle.ring.specs.declared.Filtered.{Filtered}
 use Rattle.ring.specs.declared.Walked.{Walked}
-use Rattle.ring.proofs.HeadLaws.{head-number}
 use Rattle.ring.proofs.RingLaws.{ring-refused}
 
 pub open-once : (w : List ℤ) (r r′ : ℕ) → r ≡ sheetNo w → r′ ≡ sheetNo w → r ≡ r′
@@ -38,9 +37,6 @@ pub filter-once : (P Q : List ℤ) (j : ℕ) (r r′ : Filtered) → r ≡ filte
 filter-once P Q j r r′ e f = e ∙ sym f
 
 -- ---- the number of each answer
-
-pub head-no : (w : List ℤ) → headOf w .number ≡ sheetNo w
-head-no w = head-number w (headOf w) refl
 
 by-point : (k : ℕ) (a : Asset) → pointedNo (pointedBy k a) ≡ k
 unfolding pointedBy

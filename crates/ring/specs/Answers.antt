@@ -42,14 +42,10 @@ assetOf w i = record { id = num (idAt w i); x = xAt w i; y = yAt w i }
 unfoldable pub pointedBy : ℕ → Asset → Pointed
 pointedBy k a = cond (eqb k 0) (At a) (NoPoint k)
 
--- the number and the values of each case
+-- the number of each case
 abbrev pub pointedNo : Pointed → ℕ
 pointedNo (At a) = 0
 pointedNo (NoPoint k) = k
-
-abbrev pub pointedAsset : Pointed → Asset
-pointedAsset (At a) = a
-pointedAsset (NoPoint k) = record { id = 0; x = pos 0; y = pos 0 }
 
 unfoldable pub pointed : List ℤ → ℕ → Pointed
 pointed w i = pointedBy (pointNo w i) (assetOf w i)

@@ -22,29 +22,15 @@ unfolding idWord idOk within num
 id-num (pos k) e = e
 id-num (negsuc k) e = e
 
-pub id-pos : (k : ℕ) → idWord (pos k) ≡ idOk k
-unfolding idWord idOk within
-id-pos k = refl
-
-pub edition-num : (z : ℤ) → editionWord z ≡ true → editionOk (num z) ≡ true
-unfolding editionWord editionOk within num
-edition-num (pos k) e = e
-edition-num (negsuc k) e = e
-
 pub edition-pos : (k : ℕ) → editionWord (pos k) ≡ editionOk k
 unfolding editionWord editionOk within
 edition-pos k = refl
 
--- a word that is an id, or an edition, is its number
+-- a word that is an id is its number
 pub id-is : (z : ℤ) → idWord z ≡ true → z ≡ pos (num z)
 unfolding idWord within num
 id-is (pos k) e = refl
 id-is (negsuc k) e = absurd (true≢false (sym e))
-
-pub edition-is : (z : ℤ) → editionWord z ≡ true → z ≡ pos (num z)
-unfolding editionWord within num
-edition-is (pos k) e = refl
-edition-is (negsuc k) e = absurd (true≢false (sym e))
 
 -- ---- what the tests say
 
@@ -59,10 +45,6 @@ id-make k h l = and-both (leb 1 k) (leb k lastId) (le-leb 1 k h) (le-leb k lastI
 pub edition-bounds : (k : ℕ) → editionOk k ≡ true → (1 ≤ k) × (k ≤ 1000000000)
 unfolding editionOk
 edition-bounds k e = (leb-true 1 k (and-left (leb 1 k) (leb k lastEdition) e), leb-true k lastEdition (and-right (leb 1 k) (leb k lastEdition) e))
-
-pub edition-make : (k : ℕ) → 1 ≤ k → k ≤ 1000000000 → editionOk k ≡ true
-unfolding editionOk
-edition-make k h l = and-both (leb 1 k) (leb k lastEdition) (le-leb 1 k h) (le-leb k lastEdition l)
 
 -- a coordinate of a form is within any bound of its limit
 pub coord-in : (c z : ℤ) (n : ℕ) → c ≤ℤ pos n → coordWord c z ≡ true → Within n z
