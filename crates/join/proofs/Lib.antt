@@ -1,3 +1,9 @@
+-- The page made is the list's, and its count is the walks'.
+--     MakerLaws    the page made is the page of the list
+--     WorkLaws     the count is that of the walks
+--     TurnLaws     the loops, turn by turn
+--     CallLaws     what the functions find, from what their calls answered
+--     Meaning      the theorems: `page-pairs`, `page-opened`, `list-by-points`
 pub mod MakerLaws
 pub mod WorkLaws
 pub mod TurnLaws

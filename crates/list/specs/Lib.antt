@@ -1,3 +1,8 @@
+-- The list of ring pairs and its pages, of points alone.
+--     Pairs       keys and pairs, their order, what follows a key
+--     Pages       a page of a list; following the pages
+--     Rows        the list that any rule on positions makes
+--     RingList    the ring rule on two sets of points, and its list
 pub mod Pairs
 pub mod Pages
 pub mod Rows

@@ -1,3 +1,11 @@
+-- The answers of the calls by their number, and that one input has one answer.
+--     NumberLaws    the first number that applies
+--     HeadLaws      what the check of one sheet, and of two, finds
+--     PointLaws     the point reader
+--     RingLaws      the ring walk
+--     FilterLaws    the filter walk
+--     Once          one input, one answer, and its number
+--     PageLaws      the page request
 pub mod NumberLaws
 pub mod HeadLaws
 pub mod PointLaws

@@ -1,3 +1,7 @@
+-- What the calls on plain slices answer.
+--     Numbers    the numbers of refusal
+--     Answers    the answers of the point reader, of both walks and of the check
+--     Page       the page request
 pub mod Numbers
 pub mod Answers
 pub mod Page
