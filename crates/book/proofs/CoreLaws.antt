@@ -3,12 +3,12 @@
 use mathlib.Core.Path.{_≡_, refl, sym, ap, ap₂, _∙_}
 use mathlib.Core.Bool.{Bool, true, false, not, cond, _&&_, _||_, and-false, true≢false}
 use mathlib.Core.Logic.{_⊎_, ⊎-elim}
-use mathlib.Core.List.{List, [], _∷_, _++_, map}
+use mathlib.Core.List.{List, [], _∷_, _++_}
 use Prim.Native.Nat.{ℕ, zero, suc, _+_, _*_, _-_, _^_, _≤_, _<_}
 use native.Mathlib.Omega.{arith}
 use native.Mathlib.Numerals.{add-one}
 use lib.Dec.{eqb, ltb}
-use lib.ListN.{length, take, drop, getD, length-map, length-append, length-drop}
+use lib.ListN.{length, take, drop, getD, length-append, length-drop}
 use lib.Seq.{drop-cons, paste, length-take-le}
 use borrow.Author.Tests.{ltb-false, lt-ltb, le-ltb, not-true, not-false}
 use Rattle.integers.specs.Bools.{decide}
@@ -24,10 +24,6 @@ use Rattle.book.specs.declared.Taken.{Taken}
 use Rattle.book.specs.declared.TakenArray.{TakenArray}
 use Rattle.book.specs.Rules.{lastKey, lastSlot, idsOk, sameKey, pageMost, pageBad, firstNo, takeNoAt, takeNo, accepted, refused, decidedAt, decided, taken, takenSlots, askedAt, asked, lentOf, withSlots, takenArray}
 use Rattle.book.proofs.TakeLaws.{no-refusal-at, by-zero, by-number, same-key, passed, or-zero}
-
--- an array of records in a record is kept as a list of what makes them: it is as long
-pub long-of : {X Y : Type 0} (f : X → Y) (l : List X) (n : ℕ) → length (map f l) ≡ n → length l ≡ n
-long-of f l n e = sym (length-map l f) ∙ e
 
 -- ---- the loop over a page's pairs
 
@@ -93,13 +89,6 @@ a-slot (suc n) len e = omega arith
 past-end : (l : List Pair) → getD l (length l) none ≡ none
 past-end [] = refl
 past-end (v ∷ l) = past-end l
-
--- the last of the first n + 1 pairs
-pub last-at : (k : Key) (l : List Pair) (n : ℕ) → n < length l → lastOr k (take (suc n) l) ≡ keyOf (getD l n none)
-unfolding lastOr
-last-at k [] n h = absurd (omega arith)
-last-at k (v ∷ l) zero h = refl
-last-at k (v ∷ l) (suc n) h = last-at (keyOf v) l n (omega arith)
 
 -- what is read there is the next key
 pub last-read : (h : ℕ) (l : List Pair) → keyOf (getD l (lastSlot h (length l)) none) ≡ lastKey h l

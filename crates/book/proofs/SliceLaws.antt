@@ -16,12 +16,14 @@ use Rattle.list.specs.declared.Source.{Source}
 use Rattle.list.specs.declared.Page.{Page}
 use Rattle.list.specs.Pairs.{start, ascends, lastOr}
 use Rattle.list.specs.Pages.{sourceNo, pagePairs}
+use Rattle.list.proofs.Order.{last-at}
+use Rattle.list.proofs.SourceLaws.{source-same, source-13}
 use Rattle.book.specs.declared.Book.{Book}
 use Rattle.book.specs.declared.Next.the-variants as next
 use Rattle.book.specs.declared.Decided.{Decided}
 use Rattle.book.specs.Rules.{lastKey, nextNo, nextBy, askedAt, asked, idsOk, sameKey, pageBad, firstNo, takeNoAt, takeNo, advanced, accepted, refused, decided, taken, takenSlots}
-use Rattle.book.proofs.TakeLaws.{no-cond, cond-no, first-no, source-13, by-zero, by-number, refused-slots, taken-slots, no-refusal, source-same}
-use Rattle.book.proofs.CoreLaws.{is-11, last-at}
+use Rattle.book.proofs.TakeLaws.{no-cond, cond-no, first-no, by-zero, by-number, refused-slots, taken-slots, no-refusal}
+use Rattle.book.proofs.CoreLaws.{is-11}
 
 -- ---- the next key
 

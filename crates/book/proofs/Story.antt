@@ -11,28 +11,26 @@ use lib.ListN.{length, take, drop, length-take, length-drop, take-append-drop}
 use lib.Seq.{paste, take-paste, take-add, take-length, length-paste}
 use lib.Dec.{eqb, ltb}
 use borrow.Author.Tests.{ltb-true, ltb-false, le-ltb, ne-eqb, not-true}
-use Rattle.integers.specs.Bools.{decide, and-left, and-right, and-both}
-use Rattle.plane.specs.Point.{Point, idAt}
+use Rattle.integers.specs.Bools.{decide, and-left, and-right, and-both, or-both-false}
+use Rattle.plane.specs.Point.{Point}
 use Rattle.words.specs.Range.{idOk}
-use Rattle.words.proofs.RangeLaws.{id-make}
 use Rattle.list.specs.declared.Key.{Key}
 use Rattle.list.specs.declared.Pair.{Pair}
 use Rattle.list.specs.declared.Source.{Source}
 use Rattle.list.specs.declared.Page.{Page}
 use Rattle.list.specs.Pairs.{start, keyOf, follows, ascends, after, lastOr}
 use Rattle.list.specs.Pages.{sourceNo, shown, pageOf, pagePairs}
-use Rattle.list.specs.Rows.{Rising}
 use Rattle.list.specs.RingList.{ringList}
 use Rattle.list.proofs.Order.{asc-left, after-asc, after-last}
 use Rattle.list.proofs.PageLaws.{page-shows, shown-count, length-padded, end-mark}
-use Rattle.list.proofs.RowLaws.{ring-ascends, ring-only}
+use Rattle.list.proofs.SourceLaws.{source-same}
+use Rattle.list.proofs.RowLaws.{ring-ascends, ring-ids}
 use Rattle.book.specs.declared.Book.{Book}
 use Rattle.book.specs.declared.Begun.the-variants as begun
-use Rattle.book.specs.declared.Next.the-variants as next
-use Rattle.book.specs.Rules.{beginNo, begunBy, begunBook, begunFor, lastKey, asked, idsOk, pageMost, pageBad, takeNo, advanced, taken, takenSlots}
+use Rattle.book.specs.Rules.{beginNo, begunBy, begunBook, begunFor, lastKey, idsOk, pageMost, pageBad, takeNo, advanced, taken, takenSlots}
 use Rattle.book.specs.World.{World, listOf, Honest, Reached, began, took, lent, ownPage, served}
-use Rattle.book.proofs.TakeLaws.{Passed, passed, taken-book, taken-slots, refused-book, refused-slots, or-zero, no-refusal, or-both-false, same-length, closed-no, source-same, same-book-source}
-use Rattle.book.proofs.SliceLaws.{last-held, next-is-last}
+use Rattle.book.proofs.TakeLaws.{Passed, passed, taken-book, taken-slots, refused-book, refused-slots, or-zero, no-refusal, same-length, closed-no, same-book-source}
+use Rattle.book.proofs.SliceLaws.{last-held}
 
 -- ---- the ids of a list
 
@@ -59,9 +57,6 @@ ids-take (suc n) [] e = refl
 ids-take (suc n) (v ∷ l) e =
     let x = idOk (v .q) && idOk (v .p) in
     and-both x (idsOk (take n l)) (and-left x (idsOk l) e) (ids-take n l (and-right x (idsOk l) e))
-
-id-ok : (id : ℕ → ℕ) (n i : ℕ) → Rising id n → i < n → idOk (id i) ≡ true
-id-ok id n i r h = id-make (id i) (r .low i h) (r .high i h)
 
 -- ---- a book that holds the first pairs of a list
 
@@ -241,9 +236,7 @@ module _ (w : World) where
       let Q = w .chambers (s .«q_edition») in
       let rp = w .pumps-rise (s .«p_edition») in
       let rq = w .chambers-rise (s .«q_edition») in
-      ids-of (listOf w s) (λ v m.
-      let at = ring-only P Q rp rq v m in
-      rw (at .is) (and-both (idOk (idAt Q (at .at-q))) (idOk (idAt P (at .at-p))) (id-ok (idAt Q) (length Q) (at .at-q) rq (at .q-in)) (id-ok (idAt P) (length P) (at .at-p) rp (at .p-in))))
+      ids-of (listOf w s) (λ v m. let z = ring-ids P Q rp rq v m in and-both (idOk (v .q)) (idOk (v .p)) (z .0) (z .1))
 
   -- what a page request answers on two sheets with these points is honest, where the points are those of their editions
   pub honest-from : (s : Source) (k : Key) (size : ℕ) (P Q : List Point) (g : Page) → 0 < size → size ≤ 16 → w .pumps (s .«p_edition») ≡ P → w .chambers (s .«q_edition») ≡ Q
@@ -278,10 +271,6 @@ module _ (w : World) where
   -- "a book begun empty always holds exactly the first so many pairs of its list"
   pub held-prefix : {b : Book} {s : List Pair} → Reached w b s → (b .held ≤ length s) × (b .held ≤ length (bookList b)) × (take (b .held) s ≡ take (b .held) (bookList b))
   held-prefix r = let k = story r in (k .room, k .few, k .same)
-
-  -- its next key is the last of them
-  pub next-of-list : {b : Book} {s : List Pair} → Reached w b s → asked b s .next ≡ next.After (lastOr start (take (b .held) (bookList b)))
-  next-of-list {b} {s} r = let k = story r in next-is-last b s (k .room) ∙ ap (λ (x : List Pair). next.After (lastOr start x)) (k .same)
 
   -- "and calls itself closed only when it holds all"
   pub closed-all : {b : Book} {s : List Pair} → Reached w b s → b .closed ≡ true → (b .held ≡ length (bookList b)) × (take (b .held) s ≡ bookList b)

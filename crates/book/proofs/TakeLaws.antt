@@ -7,16 +7,16 @@ use mathlib.Core.List.{List}
 use Prim.Native.Nat.{ℕ, zero, suc, _+_, _-_, _≤_}
 use native.Mathlib.Omega.{arith}
 use lib.ListN.{length, take, drop}
-use lib.Seq.{paste, paste-zero, take-paste, drop-paste, length-paste, take-take, take-at, length-take-le}
+use lib.Seq.{paste, paste-zero, drop-paste, length-paste}
 use lib.Dec.{eqb, ltb}
 use borrow.Author.Tests.{ltb-false, eqb-true, le-ltb, eq-eqb, not-false}
-use Rattle.integers.specs.Bools.{decide, and-left, and-right, and-both}
+use Rattle.integers.specs.Bools.{and-left, and-right, and-both, or-false-left, or-false-right, or-both-false}
 use Rattle.list.specs.declared.Key.{Key}
 use Rattle.list.specs.declared.Pair.{Pair}
-use Rattle.list.specs.declared.Source.{Source}
 use Rattle.list.specs.declared.Page.{Page}
 use Rattle.list.specs.Pairs.{ascends}
 use Rattle.list.specs.Pages.{sourceNo, pagePairs}
+use Rattle.list.proofs.SourceLaws.{same-source}
 use Rattle.book.specs.declared.Book.{Book}
 use Rattle.book.specs.declared.Decided.{Decided}
 use Rattle.book.specs.Rules.{lastKey, idsOk, sameKey, pageMost, pageBad, firstNo, takeNoAt, takeNo, advanced, accepted, refused, decidedBy, decided, taken, takenSlots}
@@ -41,19 +41,7 @@ pub first-no : (n r : ℕ) → n ≡ 0 → r ≡ 0 → firstNo n r ≡ 0
 unfolding firstNo
 first-no n r e f = ap (λ (m : ℕ). firstNo m r) e ∙ f
 
-or-false-left : (a b : Bool) → (a || b) ≡ false → a ≡ false
-or-false-left true b e = e
-or-false-left false b e = refl
-
-or-false-right : (a b : Bool) → (a || b) ≡ false → b ≡ false
-or-false-right true b e = absurd (true≢false e)
-or-false-right false b e = e
-
-pub or-both-false : (a b : Bool) → a ≡ false → b ≡ false → (a || b) ≡ false
-or-both-false true b e f = e
-or-both-false false b e f = f
-
--- ---- keys and sources
+-- ---- keys
 
 pub same-key : (a b : Key) → sameKey a b ≡ true → a ≡ b
 unfolding sameKey
@@ -65,35 +53,6 @@ same-key a b e =
 pub key-same : (a b : Key) → a ≡ b → sameKey a b ≡ true
 unfolding sameKey
 key-same a b e = and-both (eqb (a .q) (b .q)) (eqb (a .p) (b .p)) (eq-eqb (a .q) (b .q) (ap (λ (v : Key). v .q) e)) (eq-eqb (a .p) (b .p) (ap (λ (v : Key). v .p) e))
-
-tested : (t : Bool) (k : ℕ) → cond t 0 (suc k) ≡ 0 → t ≡ true
-tested true k e = refl
-tested false k e = absurd (omega arith)
-
--- a page that is not refused by its source is of the book's list
-pub same-source : (a b : Source) → sourceNo a b ≡ 0 → a ≡ b
-unfolding sourceNo
-same-source a b e =
-    let t = eqb (a .«p_edition») (b .«p_edition») in
-    let u = eqb (a .«q_edition») (b .«q_edition») in
-    let x = eqb-true (a .«p_edition») (b .«p_edition») (and-left t u (tested (t && u) 12 e)) in
-    let y = eqb-true (a .«q_edition») (b .«q_edition») (and-right t u (tested (t && u) 12 e)) in
-    λ i. record { «p_edition» = x i; «q_edition» = y i }
-
-pub source-same : (a b : Source) → a ≡ b → sourceNo a b ≡ 0
-unfolding sourceNo
-source-same a b e =
-    let t = eqb (a .«p_edition») (b .«p_edition») in
-    let u = eqb (a .«q_edition») (b .«q_edition») in
-    ap (λ (x : Bool). cond x 0 13) (and-both t u (eq-eqb (a .«p_edition») (b .«p_edition») (ap (λ (v : Source). v .«p_edition») e)) (eq-eqb (a .«q_edition») (b .«q_edition») (ap (λ (v : Source). v .«q_edition») e)))
-
-pub source-13 : (a b : Source) → (sourceNo a b ≡ 0 → ⊥) → sourceNo a b ≡ 13
-unfolding sourceNo
-source-13 a b h =
-    ⊎-elim
-    (λ (e : (eqb (a .«p_edition») (b .«p_edition») && eqb (a .«q_edition») (b .«q_edition»)) ≡ true). absurd (h (rw e)))
-    (λ (e : (eqb (a .«p_edition») (b .«p_edition») && eqb (a .«q_edition») (b .«q_edition»)) ≡ false). rw e)
-    (decide (eqb (a .«p_edition») (b .«p_edition») && eqb (a .«q_edition») (b .«q_edition»)))
 
 -- ---- what a page that is taken has passed
 
@@ -211,19 +170,6 @@ module _ (b : Book) (s : List Pair) (g : Page) where
         let k = passed e in
         let z : taken b s g .book .held ≡ b .held + g .count = ap (λ (x : Book). x .held) (taken-book e) ∙ (unfold advanced in refl) in
         rw (z, taken-slots e) (drop-paste s (b .held) (g .pairs) (g .count) (k .room) (omega (arith, k .few))))
-        (λ (e : takeNo b s g ≡ 0 → ⊥). rw (refused-slots e))
-        (or-zero (takeNo b s g))
-
-    -- nor are those that were held before it
-    pub held-untouched : take (b .held) (takenSlots b s g) ≡ take (b .held) s
-    held-untouched =
-        ⊎-elim
-        (λ (e : takeNo b s g ≡ 0).
-        let k = passed e in
-        rw (taken-slots e)
-        (sym (take-take (b .held) (b .held + g .count) (paste s (b .held) (g .pairs) (g .count)) (omega arith))
-        ∙ ap (take (b .held)) (take-paste s (b .held) (g .pairs) (g .count) (k .room) (omega (arith, k .few)))
-        ∙ take-at (take (b .held) s) (take (g .count) (g .pairs)) (b .held) (length-take-le (b .held) s (k .room))))
         (λ (e : takeNo b s g ≡ 0 → ⊥). rw (refused-slots e))
         (or-zero (takeNo b s g))
 

@@ -15,7 +15,7 @@
 use mathlib.Core.Path.{_≡_, refl, sym, ap, subst, _∙_}
 use mathlib.Core.Bool.{true, false}
 use mathlib.Core.Logic.{_⊎_, ⊎-elim}
-use mathlib.Core.List.{List, [], _∷_, List·Memᴰ, List·Memᴰ·head, List·Memᴰ·tail, Memᴰ·append-left}
+use mathlib.Core.List.{List, [], List·Memᴰ, Memᴰ·append-left}
 use Prim.Native.Nat.{ℕ, zero, suc, _+_, _≤_, _<_}
 use native.Mathlib.Omega.{arith}
 use lib.IntN.{ℤ}
@@ -30,11 +30,12 @@ use Rattle.list.specs.declared.Key.{Key}
 use Rattle.list.specs.declared.Pair.{Pair}
 use Rattle.list.specs.declared.Source.{Source}
 use Rattle.list.specs.declared.Page.{Page}
-use Rattle.list.specs.Pairs.{start, keyOf, lastOr}
+use Rattle.list.specs.Pairs.{start, lastOr}
 use Rattle.list.specs.Pages.{shown, pageOf}
 use Rattle.list.specs.RingList.{ringList}
+use Rattle.list.proofs.Order.{last-holds}
 use Rattle.list.proofs.PageLaws.{shown-count, length-padded}
-use Rattle.list.proofs.RowLaws.{ring-only}
+use Rattle.list.proofs.RowLaws.{ring-keys}
 use Rattle.join.proofs.Meaning.{points-rise}
 use Rattle.ring.specs.Numbers.{sheetsNo}
 use Rattle.ring.specs.Page.{askedNo, pageNo, sourceOf, pageGiven, pageAnswer}
@@ -55,12 +56,6 @@ use Rattle.demands.specs.Promises.{Place, NextAnswers, TakeAnswers}
 use Rattle.demands.specs.World.{Editions, PumpSheet, ChamberSheet, bookList, Answered, History, began, took, lent, OwnPage, Asking, stops, asks}
 use Rattle.demands.proofs.Demand1 as demand1
 use Rattle.demands.proofs.Demand2 as demand2
-
--- the last of some keys is one of them
-last-in : (X : Key → Type 0) (k : Key) (l : List Pair) → X k → ((v : Pair) → List·Memᴰ v l → X (keyOf v)) → X (lastOr k l)
-unfolding lastOr
-last-in X k [] x f = x
-last-in X k (v ∷ l) x f = last-in X (keyOf v) l (f v (List·Memᴰ·head refl)) (λ u m. f u (List·Memᴰ·tail m))
 
 module _ (w : Editions) where
   -- ids ascend, since the sheets open
@@ -112,13 +107,14 @@ module _ (w : Editions) where
 
   -- ---- a book's own page
 
-  -- an id of the book's list is at most 2,000,000,000
-  listed-in : (b : Book) (v : Pair) → List·Memᴰ v (bookList w b) → (v .q ≤ lastId) × (v .p ≤ lastId)
-  listed-in b v m =
-      let rp = worldOf .pumps-rise (b .source .«p_edition») in
-      let rq = worldOf .chambers-rise (b .source .«q_edition») in
-      let at = ring-only (worldOf .pumps (b .source .«p_edition»)) (worldOf .chambers (b .source .«q_edition»)) rp rq v m in
-      (omega (arith, ap (λ (x : Pair). x .q) (at .is), rq .high (at .at-q) (at .q-in)), omega (arith, ap (λ (x : Pair). x .p) (at .is), rp .high (at .at-p) (at .p-in)))
+  -- the keys of the book's list are in range
+  keys-in : (b : Book) (v : Pair) → List·Memᴰ v (bookList w b) → (v .q ≤ lastId) × (v .p ≤ lastId)
+  keys-in b =
+      ring-keys
+      (worldOf .pumps (b .source .«p_edition»))
+      (worldOf .chambers (b .source .«q_edition»))
+      (worldOf .pumps-rise (b .source .«p_edition»))
+      (worldOf .chambers-rise (b .source .«q_edition»))
 
   module _ {b : Book} {s : List Pair} (h : History w b s) {g : Page} (o : OwnPage w b s g) where
     key-last : o .key ≡ lastOr start (take (b .held) s)
@@ -130,7 +126,7 @@ module _ (w : Editions) where
     in-range : demand2.InRange (o .key) (o .size)
     in-range =
         let l = bookList w b in
-        let z = last-in (λ k. (k .q ≤ lastId) × (k .p ≤ lastId)) start (take (b .held) l) (omega arith, omega arith) (λ v m. listed-in b v (subst (List·Memᴰ v) (take-append-drop (b .held) l) (Memᴰ·append-left (drop (b .held) l) m))) in
+        let z = last-holds (λ k. (k .q ≤ lastId) × (k .p ≤ lastId)) start (take (b .held) l) (omega arith, omega arith) (λ v m. keys-in b v (subst (List·Memᴰ v) (take-append-drop (b .held) l) (Memᴰ·append-left (drop (b .held) l) m))) in
         let k : o .key ≡ lastOr start (take (b .held) l) = key-last ∙ ap (lastOr start) (held-prefix h .2) in
         record {
           q-in = omega (arith, ap (λ (x : Key). x .q) k, z .0);

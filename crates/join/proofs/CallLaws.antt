@@ -18,7 +18,7 @@ use Rattle.sheet.specs.Layout.{points, nodes}
 use Rattle.sheet.specs.Places.{spotOf, pointsOf}
 use Rattle.sheet.specs.Open.{Opens}
 use Rattle.sheet.proofs.RangeLaws.{spot-in}
-use Rattle.bits.specs.Set.{kept, Holds}
+use Rattle.bits.specs.Set.{kept}
 use Rattle.walk.specs.declared.Answer.{Answer}
 use Rattle.walk.specs.FilterWalk.{filterKept}
 use Rattle.walk.specs.RingWalk.{clear, pairWalk}
@@ -86,10 +86,6 @@ with-no size t u d e n = rw (← e, n)
 
 pub words-of : (P Q : List ℤ) (j : ℕ) (ws : List ℕ) → ws ≡ filterKept (length ws) P (spotOf Q j) .bits → Words (walksOf (length ws) P Q) j ws
 words-of P Q j ws e i = ap (λ (x : List ℕ). kept x i) (sym e)
-
--- lent words are as many after a walk as before it
-pub still-hold : (ws ws₀ : List ℕ) (n : ℕ) → length ws ≡ length ws₀ → Holds ws₀ n → Holds ws n
-still-hold ws ws₀ n e h = record { enough = omega (arith, h .enough); numbered = omega (arith, h .numbered) }
 
 module _ (P Q : List ℤ) (j : ℕ) (z : Spot) (ez : z ≡ spotOf Q j) (b : ℕ) where
   pub words-are : (ws : List ℕ) → length ws ≡ b → ws ≡ filterKept b P z .bits → ws ≡ filterKept (length ws) P (spotOf Q j) .bits

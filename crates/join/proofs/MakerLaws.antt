@@ -10,10 +10,10 @@ use native.Mathlib.Nat.{eq-or-lt-of-le}
 use lib.ListN.{length, take, set, replicate, length-append}
 use lib.Seq.{take-at, take-all, set-at}
 use lib.Dec.{ltb}
-use borrow.Author.Tests.{ltb-true, ltb-false, lt-ltb, le-ltb, not-false}
+use borrow.Author.Tests.{ltb-true, lt-ltb, le-ltb, not-false}
 use Rattle.integers.specs.Bools.{decide}
 use Rattle.words.specs.All.{firstB}
-use Rattle.words.proofs.AllLaws.{below-suc, first-le}
+use Rattle.words.proofs.AllLaws.{first-le, first-before}
 use Rattle.list.specs.declared.Key.{Key}
 use Rattle.list.specs.declared.Pair.{Pair}
 use Rattle.list.specs.declared.Source.{Source}
@@ -126,24 +126,6 @@ feed-page size m g = feed-on size m [] (omega arith) g
 -- what the walks must be: the rule holds exactly if the partner is kept and its ring walk is clear
 abbrev pub Exact : Walks → (ℕ → ℕ → Bool) → ℕ → ℕ → Type 0
 Exact w rule np nq = (j i : ℕ) → j < nq → i < np → rule j i ≡ (w .kept j i && w .clear j i)
-
--- below the first number at which a test holds, it does not
-first-before : (p : ℕ → Bool) (k i : ℕ) → i < firstB k p → p i ≡ false
-unfolding firstB
-first-before p zero i h = absurd (omega arith)
-first-before p (suc k) i h =
-    ⊎-elim
-    (λ (e : ltb (firstB k p) k ≡ true). first-before p k i (rw e at h))
-    (λ (e : ltb (firstB k p) k ≡ false).
-    ⊎-elim
-    (λ (f : p k ≡ true). first-before p k i (let z : i < k = rw (e, f) at h in omega (arith, ltb-false (firstB k p) k e)))
-    (λ (f : p k ≡ false).
-    ⊎-elim
-    (λ (x : i ≡ k). rw x f)
-    (λ (x : i < k). first-before p k i (omega (arith, ltb-false (firstB k p) k e)))
-    (below-suc i k (rw (e, f) at h)))
-    (decide (p k)))
-    (decide (ltb (firstB k p) k))
 
 rows-split : (rule : ℕ → ℕ → Bool) (pair : ℕ → ℕ → Pair) (n a b j : ℕ) → rows rule pair n (a + b) j ≡ rows rule pair n a j ++ rows rule pair n b (j + a)
 unfolding rows

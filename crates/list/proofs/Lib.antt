@@ -1,4 +1,11 @@
+-- What holds of every list of pairs, and of the ring pairs' list.
+--     Order         lists that ascend: what follows a key, the last pair, each pair once
+--     PageLaws      what a page shows, its end mark, following the pages
+--     SourceLaws    what list a page is of, and the number 13
+--     RowLaws       the list that a rule makes: it ascends and holds what the rule does; the ring list, and the ids in it
+--     Examples      the document's listing and its pages, by computation
 pub mod Order
 pub mod PageLaws
+pub mod SourceLaws
 pub mod RowLaws
 pub mod Examples

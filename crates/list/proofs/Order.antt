@@ -6,13 +6,13 @@ use mathlib.Core.Logic.{_⊎_, inl, inr, ⊎-elim}
 use mathlib.Core.List.{List, [], _∷_, _++_, List·Memᴰ, List·Memᴰ·head, List·Memᴰ·tail, List·Memᴰ·not-nil, List·Memᴰ·cases-cons}
 use Prim.Native.Nat.{ℕ, zero, suc, _<_}
 use native.Mathlib.Omega.{arith}
-use lib.ListN.{length, getD}
+use lib.ListN.{length, take, getD}
 use lib.Dec.{eqb, ltb}
 use borrow.Author.Tests.{ltb-true, eqb-true, lt-ltb, eq-eqb}
 use Rattle.integers.specs.Bools.{decide, and-left, and-right, and-both, clash}
 use Rattle.list.specs.declared.Key.{Key}
 use Rattle.list.specs.declared.Pair.{Pair}
-use Rattle.list.specs.Pairs.{start, none, keyOf, follows, ascends, after, lastOr}
+use Rattle.list.specs.Pairs.{none, keyOf, follows, ascends, after, lastOr}
 
 or-cases : (a b : Bool) → (a || b) ≡ true → (a ≡ true) ⊎ (b ≡ true)
 or-cases true b e = inl refl
@@ -78,10 +78,6 @@ asc-weaken k v (w ∷ l) e f =
     let u = keyOf w in
     and-both (follows k u) (ascends u l) (follows-trans k v u e (and-left (follows v u) (ascends u l) f)) (and-right (follows v u) (ascends u l) f)
 
--- from an earlier key, or the same
-pub asc-from : (k v : Key) (l : List Pair) → (v ≡ k) ⊎ (follows k v ≡ true) → ascends v l ≡ true → ascends k l ≡ true
-asc-from k v l s e = ⊎-elim (λ (p : v ≡ k). rw (← p) e) (λ (f : follows k v ≡ true). asc-weaken k v l f e) s
-
 pub asc-after : (key k : Key) (l : List Pair) → ascends k l ≡ true → ascends k (after key l) ≡ true
 unfolding ascends after
 asc-after key k [] e = refl
@@ -133,11 +129,6 @@ asc-left k [] b e = refl
 asc-left k (v ∷ a) b e =
     and-both (follows k (keyOf v)) (ascends (keyOf v) a) (and-left (follows k (keyOf v)) (ascends (keyOf v) (a ++ b)) e) (asc-left (keyOf v) a b (and-right (follows k (keyOf v)) (ascends (keyOf v) (a ++ b)) e))
 
-pub asc-right : (k : Key) (a b : List Pair) → ascends k (a ++ b) ≡ true → ascends (lastOr k a) b ≡ true
-unfolding ascends lastOr
-asc-right k [] b e = e
-asc-right k (v ∷ a) b e = asc-right (keyOf v) a b (and-right (follows k (keyOf v)) (ascends (keyOf v) (a ++ b)) e)
-
 -- the last of an ascending list is the key or follows it
 pub last-from : (k : Key) (a : List Pair) → ascends k a ≡ true → (lastOr k a ≡ k) ⊎ (follows k (lastOr k a) ≡ true)
 unfolding ascends lastOr
@@ -148,6 +139,19 @@ last-from k (v ∷ a) e =
     (λ (x : lastOr (keyOf v) a ≡ (keyOf v)). inr (rw x f))
     (λ (x : follows (keyOf v) (lastOr (keyOf v) a) ≡ true). inr (follows-trans k (keyOf v) (lastOr (keyOf v) a) f x))
     (last-from (keyOf v) a (and-right (follows k (keyOf v)) (ascends (keyOf v) a) e))
+
+-- the last of some keys is one of them: what holds of each holds of it
+pub last-holds : (X : Key → Type 0) (k : Key) (a : List Pair) → X k → ((v : Pair) → List·Memᴰ v a → X (keyOf v)) → X (lastOr k a)
+unfolding lastOr
+last-holds X k [] x f = x
+last-holds X k (v ∷ a) x f = last-holds X (keyOf v) a (f v (List·Memᴰ·head refl)) (λ w m. f w (List·Memᴰ·tail m))
+
+-- the last of the first n + 1 pairs
+pub last-at : (k : Key) (l : List Pair) (n : ℕ) → n < length l → lastOr k (take (suc n) l) ≡ keyOf (getD l n none)
+unfolding lastOr
+last-at k [] n h = absurd (omega arith)
+last-at k (v ∷ l) zero h = refl
+last-at k (v ∷ l) (suc n) h = last-at (keyOf v) l n (omega arith)
 
 -- what follows the last of a first part is the rest
 pub after-last : (k : Key) (a b : List Pair) → ascends k (a ++ b) ≡ true → after (lastOr k a) (a ++ b) ≡ b

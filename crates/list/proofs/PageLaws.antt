@@ -3,10 +3,10 @@
 use mathlib.Core.Path.{_≡_, refl, sym, ap, subst, _∙_}
 use mathlib.Core.Bool.{Bool, true, false, cond, not}
 use mathlib.Core.Logic.{⊎-elim}
-use mathlib.Core.List.{List, [], _∷_, _++_, append-nil, List·Memᴰ, List·Memᴰ·head, List·Memᴰ·tail, List·Memᴰ·cases-cons, Memᴰ·append-left}
+use mathlib.Core.List.{List, [], _∷_, _++_, map, append-nil, List·Memᴰ, List·Memᴰ·head, List·Memᴰ·tail, List·Memᴰ·cases-cons, Memᴰ·append-left}
 use Prim.Native.Nat.{ℕ, zero, suc, _-_, _≤_, _<_}
 use native.Mathlib.Omega.{arith}
-use lib.ListN.{length, take, drop, replicate, take-append-drop, length-append, length-take, length-drop, length-replicate}
+use lib.ListN.{length, take, drop, replicate, take-append-drop, length-append, length-take, length-drop, length-map, length-replicate}
 use lib.Seq.{take-append-seam, take-all}
 use lib.Dec.{ltb}
 use borrow.Author.Tests.{ltb-true, ltb-false, lt-ltb, le-ltb, not-false}
@@ -17,7 +17,7 @@ use Rattle.list.specs.declared.Source.{Source}
 use Rattle.list.specs.declared.Page.{Page}
 use Rattle.list.specs.Pairs.{start, none, keyOf, follows, ascends, after, lastOr, isNone}
 use Rattle.list.specs.Pages.{padded, shown, pageOf, pagePairs, followed}
-use Rattle.list.proofs.Order.{asc-left, last-from, after-asc, after-all, after-last, after-after}
+use Rattle.list.proofs.Order.{asc-left, last-from, last-holds, after-asc, after-all, after-last, after-after}
 
 -- what follows the last pair shown is what was not shown
 pub after-shown : (k key : Key) (l : List Pair) (n : ℕ) → ascends k l ≡ true → after (lastOr key (shown l key n)) l ≡ drop n (after key l)
@@ -91,6 +91,10 @@ pages-list sizes s l some e =
     let z = after-all start l e in
     pages-after (length l) sizes s start start l some e (rw z (omega arith)) ∙ z
 
+-- a page's array of pairs is kept as a list of what makes them: it is as long
+pub long-of : {X Y : Type 0} (f : X → Y) (l : List X) (n : ℕ) → length (map f l) ≡ n → length l ≡ n
+long-of f l n e = sym (length-map l f) ∙ e
+
 -- ---- pages that are asked for, not computed
 
 after-member : (k : Key) (v : Pair) (l : List Pair) → List·Memᴰ v (after k l) → List·Memᴰ v l
@@ -108,11 +112,6 @@ unfolding shown
 shown-member l key n v m =
     let t = after key l in
     after-member key v l (subst (List·Memᴰ v) (take-append-drop n t) (Memᴰ·append-left (drop n t) m))
-
-last-holds : (X : Key → Type 0) (k : Key) (a : List Pair) → X k → ((v : Pair) → List·Memᴰ v a → X (keyOf v)) → X (lastOr k a)
-unfolding lastOr
-last-holds X k [] x f = x
-last-holds X k (v ∷ a) x f = last-holds X (keyOf v) a (f v (List·Memᴰ·head refl)) (λ w m. f w (List·Memᴰ·tail m))
 
 -- where `ask` gives the list's pages for the keys of X, to which every pair's belongs, following it is following them
 pub asked-pages : (X : Key → Type 0) (ask : Key → ℕ → Page) (s : Source) (l : List Pair) → ((v : Pair) → List·Memᴰ v l → X (keyOf v)) → (f : ℕ) (sizes : ℕ → ℕ) (key : Key) → X key

@@ -12,6 +12,8 @@ use lib.Dec.{ltb}
 use borrow.Author.Tests.{ltb-true, ltb-false}
 use lib.ListN.{length, getD}
 use Rattle.integers.specs.Bools.{decide, and-both}
+use Rattle.words.specs.Range.{lastId, idOk}
+use Rattle.words.proofs.RangeLaws.{id-make, id-bounds}
 use Rattle.plane.specs.Point.{Point, idAt}
 use Rattle.list.specs.declared.Key.{Key}
 use Rattle.list.specs.declared.Pair.{Pair}
@@ -158,6 +160,9 @@ module _ (rule : ℕ → ℕ → Bool) (pair : ℕ → ℕ → Pair) (qid pid : 
 pub named : (P Q : List Point) → Named (pairAt P Q) (idAt Q) (idAt P)
 named P Q = record { q-is = λ j i. refl; p-is = λ j i. refl }
 
+id-in : (id : ℕ → ℕ) (n : ℕ) → Rising id n → (i : ℕ) → i < n → idOk (id i) ≡ true
+id-in id n r i h = id-make (id i) (r .low i h) (r .high i h)
+
 module _ (P Q : List Point) (rp : Rising (idAt P) (length P)) (rq : Rising (idAt Q) (length Q)) where
   -- it runs by q id, then p id
   pub ring-ascends : ascends start (ringList P Q) ≡ true
@@ -174,7 +179,16 @@ module _ (P Q : List Point) (rp : Rising (idAt P) (length P)) (rq : Rising (idAt
   unfolding ringList
   ring-only v m = listed-holds _ _ (idAt Q) (idAt P) (named P Q) _ _ rq rp v m
 
-  -- .. and each once
+  -- .. the ids of each pair are in range, and so is its key ..
+  pub ring-ids : (v : Pair) → List·Memᴰ v (ringList P Q) → (idOk (v .q) ≡ true) × (idOk (v .p) ≡ true)
+  ring-ids v m =
+      let z = ring-only v m in
+      rw (z .is) (id-in (idAt Q) (length Q) rq (z .at-q) (z .q-in), id-in (idAt P) (length P) rp (z .at-p) (z .p-in))
+
+  pub ring-keys : (v : Pair) → List·Memᴰ v (ringList P Q) → (v .q ≤ lastId) × (v .p ≤ lastId)
+  ring-keys v m = let z = ring-ids v m in (id-bounds (v .q) (z .0) .1, id-bounds (v .p) (z .1) .1)
+
+  -- .. and each stands there once
   pub ring-once : (a b : ℕ) → a < b → b < length (ringList P Q) → getD (ringList P Q) a none ≡ getD (ringList P Q) b none → ⊥
   ring-once a b h g e = once start (ringList P Q) ring-ascends a b h g e
 

@@ -1,7 +1,7 @@
 -- Laws of the lines: finding a record by its id, and lines one after the other. Assumes nothing.
 use mathlib.Core.Path.{_≡_, refl, sym, ap, subst, _∙_}
 use mathlib.Core.Bool.{Bool}
-use mathlib.Core.List.{List, [], _∷_, _++_, append-assoc, append-nil, map}
+use mathlib.Core.List.{List, [], _∷_, _++_, append-assoc, append-nil}
 use Prim.Native.Nat.{ℕ, _+_, _≤_, _<_}
 use native.Mathlib.Nat.{le-antisymm}
 use native.Mathlib.Nat.{add-zero}
@@ -9,7 +9,7 @@ use native.Mathlib.Numerals.{add-one}
 use borrow.Author.Tests.{eq-eqb, ne-eqb}
 use lib.Dec.{eqb}
 use lib.IntN.{ℤ}
-use lib.ListN.{length, take, getD, length-map}
+use lib.ListN.{length, take, getD}
 use lib.Seq.{take-suc}
 use Rattle.words.specs.All.{firstB}
 use Rattle.words.proofs.AllLaws.{first-more, first-stop}
@@ -65,9 +65,6 @@ unfolding linesOf
 one-line P Q v = append-nil (lineOf P Q v)
 
 -- ---- the loop over a page's pairs: A is the buffer before, B after the first i pairs, C after one more
-
-pub long-of : {X Y : Type 0} (f : X → Y) (l : List X) (n : ℕ) → length (map f l) ≡ n → length l ≡ n
-long-of f l n e = sym (length-map l f) ∙ e
 
 pub no-line : (P Q : List Point) (A : List ℕ) (at : ℕ) → Grown A at A at (linesOf P Q [])
 unfolding linesOf

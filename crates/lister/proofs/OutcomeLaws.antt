@@ -1,6 +1,6 @@
 -- Which outcome an input has. Assumes nothing.
-use mathlib.Core.Path.{_≡_, refl, ap, subst, _∙_}
-use mathlib.Core.Bool.{Bool, true, false, cond, _||_}
+use mathlib.Core.Path.{_≡_, refl, ap, _∙_}
+use mathlib.Core.Bool.{true, false}
 use mathlib.Core.List.{List, [], _∷_, _++_}
 use Prim.Native.Nat.{ℕ, zero, suc, _/_, _≤_}
 use native.Mathlib.Omega.{arith}
@@ -9,6 +9,7 @@ use lib.Dec.{ltb}
 use lib.IntN.{ℤ}
 use lib.ListN.{length, take, drop, length-append}
 use lib.Seq.{take-at}
+use Rattle.integers.specs.Bools.{or-false-left, or-false-right}
 use Rattle.words.specs.Bytes.{wordAt, wordsOf}
 use Rattle.ring.specs.Numbers.{sheetNo}
 use Rattle.lister.specs.Split.{badInput}
@@ -40,22 +41,14 @@ pub input-taken : (bytes : List ℕ) → badInput (length bytes) ≡ false → (
 unfolding outcome
 input-taken bytes e r h = h ∙ rw e
 
-or-left : (a b : Bool) → (a || b) ≡ false → a ≡ false
-or-left true b e = e
-or-left false b e = refl
-
-or-right : (a b : Bool) → (a || b) ≡ false → b ≡ false
-or-right true b e = absurd (subst (λ (t : Bool). cond t (Unit {0}) ⊥) e tt)
-or-right false b e = e
-
 -- an input that is taken has 6 to 15,612 words
 pub long-enough : (n : ℕ) → badInput n ≡ false → 24 ≤ n
 unfolding badInput
-long-enough n e = ltb-false n 24 (or-left (ltb n 24) _ e)
+long-enough n e = ltb-false n 24 (or-false-left (ltb n 24) _ e)
 
 pub short-enough : (n : ℕ) → badInput n ≡ false → n ≤ 62448
 unfolding badInput
-short-enough n e = ltb-false 62448 n (or-left (ltb 62448 n) _ (or-right (ltb n 24) _ e))
+short-enough n e = ltb-false 62448 n (or-false-left (ltb 62448 n) _ (or-false-right (ltb n 24) _ e))
 
 -- ---- the words that were decoded
 

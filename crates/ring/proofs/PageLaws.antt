@@ -8,7 +8,7 @@
 -- Assumes nothing.
 use mathlib.Core.Path.{_≡_, refl, sym, ap, _∙_}
 use mathlib.Core.Bool.{Bool, true, false, cond, not, _&&_}
-use mathlib.Core.List.{List, List·Memᴰ}
+use mathlib.Core.List.{List}
 use Prim.Native.Nat.{ℕ, _≤_}
 use native.Mathlib.Omega.{arith}
 use lib.Dec.{eqb, leb}
@@ -26,12 +26,11 @@ use Rattle.sheet.proofs.SheetLaws.{open-facts, open-trailer, form1-fair}
 use Rattle.list.specs.declared.Key.{Key}
 use Rattle.list.specs.declared.Page.{Page}
 use Rattle.list.specs.declared.Source.{Source}
-use Rattle.list.specs.declared.Pair.{Pair}
-use Rattle.list.specs.Pairs.{start, keyOf}
+use Rattle.list.specs.Pairs.{start}
 use Rattle.list.specs.Pages.{pageOf, followed}
 use Rattle.list.specs.RingList.{ringList}
 use Rattle.list.proofs.PageLaws.{asked-pages}
-use Rattle.list.proofs.RowLaws.{ring-only}
+use Rattle.list.proofs.RowLaws.{ring-keys}
 use Rattle.join.specs.declared.Draft.{Draft}
 use Rattle.join.specs.Work.{pageOpened}
 use Rattle.join.specs.Maker.{pageMade, pageFrom}
@@ -148,27 +147,16 @@ module _ (P Q : List ℤ) (opens : sheetsNo P Q ≡ 0) where
   q-opens : Opens Q (points Q) (nodes Q)
   q-opens = open-facts form1 form1-fair Q (both-open P Q opens .1)
 
-  -- the key of a listed pair is in range
-  listed-in : (v : Pair) → List·Memᴰ v (ringList (pointsOf P) (pointsOf Q)) → keyNo (keyOf v) ≡ 0
-  unfolding keyNo
-  listed-in v m =
-      let z = ring-only (pointsOf P) (pointsOf Q) (points-rise p-opens) (points-rise q-opens) v m in
-      let a : v .q ≤ lastId = omega (arith, ap (λ (x : Pair). x .q) (z .is), points-rise q-opens .high (z .at-q) (z .q-in)) in
-      let b : v .p ≤ lastId = omega (arith, ap (λ (x : Pair). x .p) (z .is), points-rise p-opens .high (z .at-p) (z .p-in)) in
-      rw (le-leb (v .q) lastId a, le-leb (v .p) lastId b)
-
-  page-in : (key : Key) (size : ℕ) → keyNo key ≡ 0 → sizeNo size ≡ 0 → pageAnswer P Q key size .page ≡ pageOf (sourceOf P Q) (ringList (pointsOf P) (pointsOf Q)) key size
-  unfolding pageNo askedNo pageGiven
-  page-in key size k s =
-      ap (λ (x : Paged). x .page) (page-answered P Q key size (first-passes (sheetsNo P Q) (askedNo key size) opens ∙ first-passes (keyNo key) (sizeNo size) k ∙ s))
-
   pub pages-list : (sizes : ℕ → ℕ) → ((i : ℕ) → sizeNo (sizes i) ≡ 0)
       → followed (length (ringList (pointsOf P) (pointsOf Q))) sizes (λ k n. pageAnswer P Q k n .page) start ≡ ringList (pointsOf P) (pointsOf Q)
-  unfolding keyNo askedNo
+  unfolding keyNo askedNo pageGiven
   pages-list sizes s =
       let l = ringList (pointsOf P) (pointsOf Q) in
-      asked-pages (λ k. keyNo k ≡ 0) (λ k n. pageAnswer P Q k n .page) (sourceOf P Q) l listed-in (length l) sizes start refl (λ i k x. page-in k (sizes i) x (s i))
-      ∙ sheet-pages p-opens q-opens sizes (sourceOf P Q) (λ i. asked-size start (sizes i) (first-passes (keyNo start) (sizeNo (sizes i)) refl ∙ s i) .0)
+      let fit : (i : ℕ) → (1 ≤ sizes i) × (sizes i ≤ 16) = λ i. asked-size start (sizes i) (first-passes (keyNo start) (sizeNo (sizes i)) refl ∙ s i) in
+      asked-pages (λ k. (k .q ≤ lastId) × (k .p ≤ lastId)) (λ k n. pageAnswer P Q k n .page) (sourceOf P Q) l
+      (ring-keys (pointsOf P) (pointsOf Q) (points-rise p-opens) (points-rise q-opens)) (length l) sizes start (omega arith, omega arith)
+      (λ i k x. ap (λ (r : Paged). r .page) (page-served P Q k (sizes i) opens (x .0) (x .1) (fit i .0) (fit i .1)))
+      ∙ sheet-pages p-opens q-opens sizes (sourceOf P Q) (λ i. fit i .0)
 
 -- sheets with the same points give the same pairs, number and end mark of every page, whatever their editions and trees
 module _ (P P′ Q Q′ : List ℤ) (key : Key) (size : ℕ) (ep : pointsOf P ≡ pointsOf P′) (eq : pointsOf Q ≡ pointsOf Q′) (n : pageNo P Q key size ≡ 0) (n′ : pageNo P′ Q′ key size ≡ 0) where

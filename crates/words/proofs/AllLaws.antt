@@ -1,4 +1,4 @@
--- Laws of `allB`: how a loop that tests every index finds it, and what it says of each index.
+-- Laws of `allB` and `firstB`: how a loop that tests every index, or looks for the first, finds it, and what it says of each index.
 -- Assumes nothing.
 use mathlib.Core.Path.{_≡_, refl, sym, ap, subst, _∙_}
 use mathlib.Core.Bool.{Bool, true, false, cond, _&&_, and-false}
@@ -10,7 +10,7 @@ use native.Mathlib.Omega.{arith}
 use Rattle.words.specs.All.{allB, firstB}
 use lib.Dec.{ltb}
 use borrow.Author.Tests.{lt-ltb, le-ltb, ltb-true, ltb-false}
-use Rattle.integers.specs.Bools.{and-left, and-right, and-both, decide}
+use Rattle.integers.specs.Bools.{and-left, and-right, and-both, decide, clash}
 
 -- ---- a loop that tests every index
 
@@ -86,3 +86,26 @@ first-hit p (suc k) h =
     (λ (e : ltb (firstB k p) k ≡ false).
     ⊎-elim (λ (f : p k ≡ true). rw (e, f) f) (λ (f : p k ≡ false). let z : suc k < suc k = rw (e, f) at h in absurd (omega arith)) (decide (p k)))
     (decide (ltb (firstB k p) k))
+
+-- below the first number at which a test holds, it does not
+pub first-before : (p : ℕ → Bool) (k i : ℕ) → i < firstB k p → p i ≡ false
+unfolding firstB
+first-before p zero i h = absurd (omega arith)
+first-before p (suc k) i h =
+    ⊎-elim
+    (λ (e : ltb (firstB k p) k ≡ true). first-before p k i (rw e at h))
+    (λ (e : ltb (firstB k p) k ≡ false).
+    ⊎-elim
+    (λ (f : p k ≡ true). first-before p k i (let z : i < k = rw (e, f) at h in omega (arith, ltb-false (firstB k p) k e)))
+    (λ (f : p k ≡ false).
+    ⊎-elim
+    (λ (x : i ≡ k). rw x f)
+    (λ (x : i < k). first-before p k i (omega (arith, ltb-false (firstB k p) k e)))
+    (below-suc i k (rw (e, f) at h)))
+    (decide (p k)))
+    (decide (ltb (firstB k p) k))
+
+-- where a test holds somewhere below a bound, its first place is below it
+pub first-in : (p : ℕ → Bool) (k j : ℕ) → j < k → p j ≡ true → firstB k p < k
+first-in p k j h e =
+    ⊎-elim (λ (x : firstB k p ≡ k). clash e (first-before p k j (omega arith))) (λ (x : firstB k p < k). x) (eq-or-lt-of-le (first-le p k))

@@ -12,22 +12,8 @@ use mir.ValLaws.{toZ-ofZ}
 use mir.Val.{Fits, SFits, toZ, ofZ}
 use borrow.Author.Tests.{ltb-true, ltb-false, leb-true, leb-false, eqb-true, eqb-false, lt-ltb, le-ltb, le-leb, lt-leb, eq-eqb, ne-eqb}
 use Rattle.integers.specs.Bools.{and-left, and-right}
+use Rattle.integers.specs.Order.{zl, leZ-not}
 use Rattle.words.specs.Word.{eqZ, within, num, isBelow}
-
--- a test that fails the one way holds the other way
-pub le-not-lt : (x y : ℤ) → leZ x y ≡ not (ltZ y x)
-le-not-lt (pos a) (pos b) = go (ltb b a) refl
-  where
-    go : (t : Bool) → ltb b a ≡ t → leb a b ≡ not t
-    go true e = let h = ltb-true b a e in lt-leb a b h
-    go false e = let h = ltb-false b a e in le-leb a b h
-le-not-lt (pos a) (negsuc b) = refl
-le-not-lt (negsuc a) (pos b) = refl
-le-not-lt (negsuc a) (negsuc b) = go (ltb a b) refl
-  where
-    go : (t : Bool) → ltb a b ≡ t → leb b a ≡ not t
-    go true e = let h = ltb-true a b e in lt-leb b a h
-    go false e = let h = ltb-false a b e in le-leb b a h
 
 -- the count of a negative word, and of another
 pub num-neg : (x y : ℤ) → y ≡ x → ltZ y (pos 0) ≡ true → _≡_ {A = ℕ} 0 (num x)
@@ -48,15 +34,15 @@ cast-ok (negsuc n) y e f t = let t′ : true ≡ false = rw e at t in absurd (tr
 -- the two ends of a range
 pub within-low : (lo hi x : ℤ) → ltZ x lo ≡ true → false ≡ within lo hi x
 unfolding within
-within-low lo hi x t = rw (le-not-lt lo x, t)
+within-low lo hi x t = rw (leZ-not lo x, t)
 
 pub within-high : (lo hi x : ℤ) → ltZ x lo ≡ false → ltZ hi x ≡ true → false ≡ within lo hi x
 unfolding within
-within-high lo hi x s t = rw (le-not-lt lo x, s, le-not-lt x hi, t)
+within-high lo hi x s t = rw (leZ-not lo x, s, leZ-not x hi, t)
 
 pub within-yes : (lo hi x : ℤ) → ltZ x lo ≡ false → ltZ hi x ≡ false → true ≡ within lo hi x
 unfolding within
-within-yes lo hi x s t = rw (le-not-lt lo x, s, le-not-lt x hi, t)
+within-yes lo hi x s t = rw (leZ-not lo x, s, leZ-not x hi, t)
 
 -- equal bits are equal words
 pub same-bits : (a b : ℤ) → SFits w32 a → SFits w32 b → eqb (ofZ w32 a) (ofZ w32 b) ≡ eqZ a b
@@ -141,24 +127,14 @@ eq-eqZ a b e = ap (eqZ a) (sym e) ∙ eqZ-self a
 -- ---- the order
 
 pub leZ-refl : (a : ℤ) → leZ a a ≡ true
-leZ-refl (pos a) = le-leb a a (omega arith)
-leZ-refl (negsuc a) = le-leb a a (omega arith)
+leZ-refl a = omega zl
 
 pub leZ-trans : (a b c : ℤ) → leZ a b ≡ true → leZ b c ≡ true → leZ a c ≡ true
-leZ-trans (pos a) (pos b) (pos c) e f = le-leb a c (omega (arith, leb-true a b e, leb-true b c f))
-leZ-trans (pos a) (pos b) (negsuc c) e f = f
-leZ-trans (pos a) (negsuc b) c e f = absurd (true≢false (sym e))
-leZ-trans (negsuc a) (pos b) (pos c) e f = refl
-leZ-trans (negsuc a) (pos b) (negsuc c) e f = absurd (true≢false (sym f))
-leZ-trans (negsuc a) (negsuc b) (pos c) e f = refl
-leZ-trans (negsuc a) (negsuc b) (negsuc c) e f = le-leb c a (omega (arith, leb-true b a e, leb-true c b f))
+leZ-trans a b c e f = omega zl
 
 -- a test that holds strictly holds
 pub lt-le : (a b : ℤ) → ltZ a b ≡ true → leZ a b ≡ true
-lt-le (pos a) (pos b) e = le-leb a b (omega (arith, ltb-true a b e))
-lt-le (pos a) (negsuc b) e = e
-lt-le (negsuc a) (pos b) e = refl
-lt-le (negsuc a) (negsuc b) e = le-leb b a (omega (arith, ltb-true b a e))
+lt-le a b e = omega zl
 
 pub not-lt-le : (a b : ℤ) → ltZ a b ≡ false → leZ b a ≡ true
-not-lt-le a b e = le-not-lt b a ∙ ap not e
+not-lt-le a b e = leZ-not b a ∙ ap not e

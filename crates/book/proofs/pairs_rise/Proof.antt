@@ -3,7 +3,8 @@ use Prim.Native.Nat.{_-_}
 use native.Mathlib.Omega.{arith}
 use lib.ListN.{length}
 use borrow.Author.Needs.{needs}
-use Rattle.book.proofs.CoreLaws.{long-of, Testing, testing-start, testing-stop, testing-on, testing-end}
+use Rattle.list.proofs.PageLaws.{long-of}
+use Rattle.book.proofs.CoreLaws.{Testing, testing-start, testing-stop, testing-on, testing-end}
 use Rattle.book.proofs.pairs_rise.Statement.{statement}
 use Rattle.book.proofs.pairs_rise.Tie as tie
 

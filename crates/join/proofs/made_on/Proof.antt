@@ -6,7 +6,8 @@ use native.Mathlib.Nat.{lt-of-le-of-lt}
 use lib.ListN.{length}
 use Rattle.join.specs.Sheets.{walksOf}
 use Rattle.join.proofs.TurnLaws.{Rounds, rounds-start, rounds-room, rounds-on, rounds-stop, rounds-end}
-use Rattle.join.proofs.CallLaws.{still-hold, chamber-same, capped, page-room}
+use Rattle.walk.proofs.FilterCode.{still-holds}
+use Rattle.join.proofs.CallLaws.{chamber-same, capped, page-room}
 use Rattle.join.proofs.made_on.Statement.{statement}
 use Rattle.join.proofs.made_on.Tie as tie
 
@@ -33,7 +34,7 @@ with-chamber-requires c κs =
     let l = c .before .before .before in
     let s = l .before .before .before in
     let in-loop = c .before .before .loop-test .taken in
-    (s .pre .0, s .pre .1, in-loop, s .pre .2, still-hold _ _ _ (l .loop .inv .0) (s .pre .3), lt-of-le-of-lt (rounds-room _ _ _ _ _ _ _ _ (l .loop .j) in-loop (l .loop .inv .1)) (page-room (s .pre .0) (s .pre .1)))
+    (s .pre .0, s .pre .1, in-loop, s .pre .2, still-holds _ _ _ (l .loop .inv .0) (s .pre .3), lt-of-le-of-lt (rounds-room _ _ _ _ _ _ _ _ (l .loop .j) in-loop (l .loop .inv .1)) (page-room (s .pre .0) (s .pre .1)))
 
 add-j : tie.Need-add-j Inv-loop μ-loop
 add-j c = omega arith

@@ -1,6 +1,7 @@
 -- `join::with_chamber` meets its contract: the lent words are the filter walk's, and as many as before. Assumes nothing.
 use native.Mathlib.Omega.{arith}
-use Rattle.join.proofs.CallLaws.{still-hold, words-are, chamber-walked, filter-few, spot-fits}
+use Rattle.walk.proofs.FilterCode.{still-holds}
+use Rattle.join.proofs.CallLaws.{words-are, chamber-walked, filter-few, spot-fits}
 use borrow.Author.Needs.{needs}
 use Rattle.join.proofs.with_chamber.Statement.{statement}
 use Rattle.join.proofs.with_chamber.Tie as tie
@@ -25,7 +26,7 @@ with-partners-requires c κs =
     let k = c .before .before .before .before in
     let s = k .before .before .before .before in
     let long = k .filter-kept .kept .1 .1 .1 .1 .0 in
-    (s .pre .0, s .pre .1, s .pre .2, s .pre .3, still-hold _ _ _ long (s .pre .4), omega (arith, s .pre .5, filter-few (s .pre .0) _ _ _ (k .filter-kept .ensures .1)), words-are _ _ _ _ (k .before .before .spot-at .ensures) _ _ long (k .filter-kept .ensures .0))
+    (s .pre .0, s .pre .1, s .pre .2, s .pre .3, still-holds _ _ _ long (s .pre .4), omega (arith, s .pre .5, filter-few (s .pre .0) _ _ _ (k .filter-kept .ensures .1)), words-are _ _ _ _ (k .before .before .spot-at .ensures) _ _ long (k .filter-kept .ensures .0))
 
 same-length : tie.Need-same-length
 same-length c = search needs

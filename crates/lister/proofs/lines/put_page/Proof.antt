@@ -8,7 +8,8 @@ use Rattle.sheet.specs.Places.{pointsOf}
 use Rattle.text.specs.Text.{Grown}
 use Rattle.list.specs.Pages.{pagePairs}
 use Rattle.lister.specs.Listing.{linesOf}
-use Rattle.lister.proofs.LineLaws.{long-of, no-line, line-more}
+use Rattle.list.proofs.PageLaws.{long-of}
+use Rattle.lister.proofs.LineLaws.{no-line, line-more}
 use Rattle.lister.proofs.lines.put_page.Statement.{statement}
 use Rattle.lister.proofs.lines.put_page.Tie as tie
 

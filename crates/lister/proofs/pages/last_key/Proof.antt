@@ -5,7 +5,7 @@ use native.Mathlib.Omega.{arith}
 use borrow.Author.Needs.{needs}
 use lib.ListN.{length}
 use Rattle.list.specs.Pages.{pagePairs}
-use Rattle.lister.proofs.LineLaws.{long-of}
+use Rattle.list.proofs.PageLaws.{long-of}
 use Rattle.lister.proofs.ShowLaws.{last-none, last-some}
 use Rattle.lister.proofs.pages.last_key.Statement.{statement}
 use Rattle.lister.proofs.pages.last_key.Tie as tie
