@@ -1,0 +1,3 @@
+pub mod LeafWalk
+pub mod LeafRun
+pub mod Room
