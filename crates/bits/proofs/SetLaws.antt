@@ -1,4 +1,4 @@
--- The set by its positions: what is kept after one more is kept, and in the set of none.
+-- The set by its positions: what is kept after one more is kept, after one is kept no more, and in the set of none.
 -- Assumes nothing.
 use mathlib.Core.Path.{_≡_, refl, sym, ap, subst, _∙_}
 use mathlib.Core.Bool.{true, false}
@@ -11,8 +11,11 @@ use lib.ListN.{length, getD, set, replicate, length-set, length-replicate, getD-
 use lib.Seq.{getD-set-same, getD-set-other, ext-getD}
 use lib.Dec.{eqb, lit<}
 use borrow.Author.Tests.{eqb-false, eq-eqb}
-use Rattle.bits.specs.Set.{digit, at, kept, with, none}
-use Rattle.bits.proofs.DigitLaws.{digit-lt, digit-shr, digit-high, set-same, set-other}
+use lib.Bits.{bitAnd, bitOr, or-add-and}
+use lib.Pow.{pow-pos}
+use native.Mathlib.Nat.{le-refl, lt-of-not-le, div-eq-sub-div}
+use Rattle.bits.specs.Set.{digit, at, kept, with, without, none}
+use Rattle.bits.proofs.DigitLaws.{digit-lt, digit-shr, digit-high, one-at, set-digit, set-same, set-other}
 
 pub at-lt : (ws : List ℕ) (i : ℕ) → at ws i < 2
 unfolding at
@@ -81,6 +84,68 @@ kept-only ws i j h k = go (ℕ-discrete j i)
     go : Dec (j ≡ i) → (j ≡ i) ⊎ (kept ws j ≡ true)
     go (yes q) = inl q
     go (no d) = inr (sym (kept-other ws i j h d) ∙ k)
+
+-- ---- one is kept no more
+
+-- `&` with a power of two shows a word's digit
+pub and-one-at : (n k : ℕ) → k < 64 → bitAnd n (1 * 2 ^ k % 18446744073709551616) ≡ digit n k * 2 ^ k
+and-one-at n k h = go (digit n k) (digit-lt n k) (set-digit n k h)
+  where
+    go : (d : ℕ) → d < 2 → bitOr n (1 * 2 ^ k % 18446744073709551616) ≡ n + (1 - d) * 2 ^ k → bitAnd n (1 * 2 ^ k % 18446744073709551616) ≡ d * 2 ^ k
+    go zero l s = omega (arith, or-add-and n (1 * 2 ^ k % 18446744073709551616), one-at k h)
+    go (suc zero) l s = omega (arith, or-add-and n (1 * 2 ^ k % 18446744073709551616), one-at k h)
+    go (suc (suc d)) l s = absurd (omega arith)
+
+-- the digits of a word in which digit k is taken out
+module _ (n k : ℕ) (h : k < 64) where
+  -- a digit that is set is at most the word
+  least : digit n k ≡ 1 → 2 ^ k ≤ n
+  least e = let l : 2 ^ k < n + 1 = lt-of-not-le (λ (g : n + 1 ≤ 2 ^ k). omega (arith, digit-high n k k (omega arith) (le-refl k))) in omega arith
+
+  gone : digit n k ≡ 1 → digit (n - 2 ^ k) k ≡ 0
+  unfolding digit
+  gone e = omega (arith, div-eq-sub-div (pow-pos k) (least e))
+
+  less-same : digit (n - digit n k * 2 ^ k) k ≡ 0
+  less-same = go (digit n k) refl (digit-lt n k)
+    where
+      go : (d : ℕ) → digit n k ≡ d → d < 2 → digit (n - d * 2 ^ k) k ≡ 0
+      go zero e l = let z : n - 0 * 2 ^ k ≡ n = omega arith in rw z e
+      go (suc zero) e l = let z : n - 1 * 2 ^ k ≡ n - 2 ^ k = omega arith in rw z (gone e)
+      go (suc (suc d)) e l = absurd (omega arith)
+
+  less-other : (j : ℕ) → (j ≡ k → ⊥) → digit (n - digit n k * 2 ^ k) j ≡ digit n j
+  less-other j ne = go (digit n k) refl (digit-lt n k)
+    where
+      go : (d : ℕ) → digit n k ≡ d → d < 2 → digit (n - d * 2 ^ k) j ≡ digit n j
+      go zero e l = let z : n - 0 * 2 ^ k ≡ n = omega arith in rw z
+      go (suc zero) e l =
+          let z : n - 1 * 2 ^ k ≡ n - 2 ^ k = omega arith in
+          let o : 1 - digit (n - 2 ^ k) k ≡ 1 = omega (arith, gone e) in
+          let w : n - 2 ^ k + 1 * 2 ^ k ≡ n = omega (arith, least e) in
+          rw z (sym (set-other (n - 2 ^ k) k j h ne) ∙ ap (λ (x : ℕ). digit (n - 2 ^ k + x * 2 ^ k) j) o ∙ ap (λ (x : ℕ). digit x j) w)
+      go (suc (suc d)) e l = absurd (omega arith)
+
+pub without-length : (ws : List ℕ) (i : ℕ) → length (without ws i) ≡ length ws
+unfolding without
+without-length ws i = simp length-set
+
+-- the position is not kept
+pub gone-same : (ws : List ℕ) (i : ℕ) → i < 64 * length ws → kept (without ws i) i ≡ false
+unfolding kept at without
+gone-same ws i h =
+    ap (λ (x : ℕ). eqb (digit x (i % 64)) 1) (getD-set-same ws (i / 64) (getD ws (i / 64) 0 - at ws i * 2 ^ (i % 64)) 0 (omega arith))
+    ∙ ap (λ (x : ℕ). eqb x 1) (less-same (getD ws (i / 64) 0) (i % 64) (omega arith))
+
+-- every other is as it was
+pub gone-other : (ws : List ℕ) (i j : ℕ) → i < 64 * length ws → (j ≡ i → ⊥) → kept (without ws i) j ≡ kept ws j
+unfolding kept at without
+gone-other ws i j h d = go (ℕ-discrete (j / 64) (i / 64))
+  where
+    go : Dec (j / 64 ≡ i / 64) → eqb (digit (getD (set ws (i / 64) (getD ws (i / 64) 0 - at ws i * 2 ^ (i % 64))) (j / 64) 0) (j % 64)) 1 ≡ eqb (digit (getD ws (j / 64) 0) (j % 64)) 1
+    go (yes q) = rw q (ap (λ (x : ℕ). eqb (digit x (j % 64)) 1) (getD-set-same ws (i / 64) (getD ws (i / 64) 0 - at ws i * 2 ^ (i % 64)) 0 (omega arith))
+        ∙ ap (λ (x : ℕ). eqb x 1) (less-other (getD ws (i / 64) 0) (i % 64) (omega arith) (j % 64) (λ r. d (omega arith))))
+    go (no q) = ap (λ (x : ℕ). eqb (digit x (j % 64)) 1) (getD-set-other ws (i / 64) (j / 64) _ 0 q)
 
 -- ---- none
 
