@@ -1,0 +1,4 @@
+pub mod WriteLaws
+pub mod DecideLaws
+pub mod Meaning
+pub mod Once

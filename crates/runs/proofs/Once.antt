@@ -1,0 +1,25 @@
+-- One input, one answer and one final state of the slots: from the promise alone. And the number that the answer has.
+-- Assumes nothing.
+use mathlib.Core.Path.{_≡_, refl, sym, _∙_}
+use mathlib.Core.Bool.{Bool, true, false, cond}
+use mathlib.Core.List.{List}
+use Prim.Native.Nat.{ℕ}
+use lib.Dec.{eqb}
+use lib.IntN.{ℤ}
+use lib.ListN.{length}
+use borrow.Author.Tests.{eqb-true}
+use Rattle.list.specs.declared.Pair.{Pair}
+use Rattle.runs.specs.declared.Run.{Run}
+use Rattle.runs.specs.Run.{runNo, runGiven, runRefused, runAnswer, runSlots}
+
+pub run-once : (P Q : List ℤ) (v : ℕ) (s : List Pair) (r r′ : Run) (t t′ : List Pair)
+    → (r ≡ runAnswer P Q v (length s)) × (t ≡ runSlots P Q v s) → (r′ ≡ runAnswer P Q v (length s)) × (t′ ≡ runSlots P Q v s) → (r ≡ r′) × (t ≡ t′)
+run-once P Q v s r r′ t t′ x y = (x .0 ∙ sym (y .0), x .1 ∙ sym (y .1))
+
+pub run-no : (P Q : List ℤ) (v len : ℕ) → runAnswer P Q v len .number ≡ runNo P Q v len
+unfolding runAnswer runGiven runRefused
+run-no P Q v len = by (eqb (runNo P Q v len) 0) refl
+  where
+    by : (t : Bool) → eqb (runNo P Q v len) 0 ≡ t → cond {A = Run} t (runGiven P Q v) (runRefused (runNo P Q v len)) .number ≡ runNo P Q v len
+    by true t = sym (eqb-true (runNo P Q v len) 0 t)
+    by false t = refl

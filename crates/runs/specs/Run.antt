@@ -1,0 +1,42 @@
+-- One run per leaf: the number of the call, its answer, and the slots after it.
+-- "For one leaf of Q, named by node number, give the ring pairs of its points by place, then p id, in a lent slice of pairs; the rest of the slice isn't touched."
+use mathlib.Core.Bool.{cond, _&&_}
+use mathlib.Core.List.{List, _++_}
+use Prim.Native.Nat.{ℕ}
+use lib.Dec.{eqb, ltb}
+use lib.IntN.{ℤ}
+use lib.ListN.{length, drop}
+use Rattle.sheet.specs.Layout.{points, nodes}
+use Rattle.sheet.specs.Nodes.{levelOf}
+use Rattle.list.specs.declared.Pair.{Pair}
+use Rattle.leaf.specs.LeafRun.{leafList, leafOpened}
+use Rattle.ring.specs.Numbers.{first, sheetsNo}
+use Rattle.runs.specs.declared.Run.{Run}
+
+-- "19 no such leaf": the number names no node of Q, or one that is no leaf
+unfoldable pub leafNo : List ℤ → ℕ → ℕ
+leafNo Q v = cond (ltb v (nodes Q) && eqb (levelOf Q (points Q) v) 0) 0 19
+
+-- "then 16 exactly when the pairs outnumber the slots"
+unfoldable pub roomNo : List Pair → ℕ → ℕ
+roomNo l len = cond (ltb len (length l)) 16 0
+
+-- "Refusals: 19 no such leaf, then 16 exactly when the pairs outnumber the slots", after the sheets' own: "1 to 8 for P, then for Q"
+unfoldable pub runNo : List ℤ → List ℤ → ℕ → ℕ → ℕ
+runNo P Q v len = first (sheetsNo P Q) (first (leafNo Q v) (roomNo (leafList P Q v) len))
+
+-- how many pairs the run has, and "Its count is that walk's opened nodes plus those of each kept partner's ring walk", the kept sets on sixteen words each
+unfoldable pub runGiven : List ℤ → List ℤ → ℕ → Run
+runGiven P Q v = record { number = 0; count = length (leafList P Q v); opened = leafOpened 16 P Q v }
+
+-- "Every refusal gives only its number [..]. An array or number in a refused answer is all zero"
+unfoldable pub runRefused : ℕ → Run
+runRefused k = record { number = k; count = 0; opened = 0 }
+
+-- the answer by its number: 0 is the run's, any other is the refusal of that number
+unfoldable pub runAnswer : List ℤ → List ℤ → ℕ → ℕ → Run
+runAnswer P Q v len = cond (eqb (runNo P Q v len) 0) (runGiven P Q v) (runRefused (runNo P Q v len))
+
+-- the slots after it: the pairs stand from the first slot on, "the rest of the slice isn't touched"; a refusal "leaves lent memory [..] as they stood"
+unfoldable pub runSlots : List ℤ → List ℤ → ℕ → List Pair → List Pair
+runSlots P Q v slots = cond (eqb (runNo P Q v (length slots)) 0) (leafList P Q v ++ drop (length (leafList P Q v)) slots) slots
