@@ -1,3 +1,4 @@
 pub mod LeafLaws
 pub mod RunLaws
 pub mod FilterCode
+pub mod RunCode

@@ -1,5 +1,5 @@
 -- `bits::remove` meets its contract: what `&` with a power of two shows is taken away. Assumes nothing.
-use Prim.Native.Nat.{_/_, _%_, _^_, _*_}
+use Prim.Native.Nat.{_/_, _%_}
 use native.Mathlib.Omega.{arith}
 use lib.ListN.{getD}
 use lib.Bits.{and-le-l}
