@@ -1,1 +1,3 @@
+-- What the proofs of the calls over C share.
+--     MarkLaws    the marker over C
 pub mod MarkLaws

@@ -17,6 +17,7 @@ use Rattle.plane.specs.Point.{idAt}
 use Rattle.sheet.specs.Layout.{points, nodes}
 use Rattle.sheet.specs.Places.{spotOf, pointsOf}
 use Rattle.sheet.specs.Open.{Opens}
+use Rattle.sheet.proofs.SheetLaws.{own}
 use Rattle.sheet.proofs.RangeLaws.{spot-in}
 use Rattle.bits.specs.Set.{kept}
 use Rattle.walk.specs.declared.Answer.{Answer}
@@ -101,10 +102,6 @@ module _ (P Q : List ℤ) (j : ℕ) (z : Spot) (ez : z ≡ spotOf Q j) (b : ℕ)
 -- so many words, or as many
 pub chamber-same : (P Q : List ℤ) (key : Key) (size n j : ℕ) (d r : Draft) (a b : ℕ) → a ≡ b → r ≡ chamber (walksOf a P Q) key size n j d → r ≡ chamber (walksOf b P Q) key size n j d
 chamber-same P Q key size n j d r a b e f = f ∙ ap (λ (x : ℕ). chamber (walksOf x P Q) key size n j d) e
-
--- a sheet that opens, by its own counts
-pub own : {w : List ℤ} {n m : ℕ} → Opens w n m → Opens w (points w) (nodes w)
-own {w} {n} o = subst (λ (a : ℕ). Opens w a (nodes w)) (sym (o .n-is)) (subst (Opens w n) (sym (o .m-is)) o)
 
 pub filter-few : {P : List ℤ} {np mp : ℕ} → Opens P np mp → (words : ℕ) (z : Spot) (o : ℕ) → o ≡ filterKept words P z .opened → o ≤ mp
 filter-few {P} c words z o e = omega (arith, c .m-is, filter-opened-at-most-m words P z (own c))

@@ -31,7 +31,7 @@ use Rattle.join.specs.Maker.{pageMade, pageFrom}
 use Rattle.join.specs.Sheets.{walksOf}
 use Rattle.join.proofs.MakerLaws.{Exact, maker-page}
 use Rattle.join.proofs.WorkLaws.{maker-opened}
-use Rattle.join.proofs.CallLaws.{own}
+use Rattle.sheet.proofs.SheetLaws.{own}
 
 module _ {w : List ℤ} {n m : ℕ} (o : Opens w n m) where
   pub points-rise : Rising (idAt (pointsOf w)) (length (pointsOf w))

@@ -25,6 +25,7 @@ use Rattle.sheet.specs.Nodes.{levelOf, firstOf, countOf}
 use Rattle.sheet.specs.Boxes.{sumOver}
 use Rattle.sheet.specs.Places.{spotOf, pointsOf}
 use Rattle.sheet.specs.Open.{Opens}
+use Rattle.sheet.proofs.SheetLaws.{own}
 use Rattle.sheet.proofs.OrderLaws.{order-below}
 use Rattle.sheet.proofs.SizeLaws.{sum-join}
 use Rattle.list.specs.declared.Pair.{Pair}
@@ -594,9 +595,6 @@ module _ (words : ℕ) (P Q : List ℤ) (p-opens : Opens P (points P) (nodes P))
         ∙ sum-same _ _ 0 (points P) (λ i m. ap (λ (a : Answer). cond (leafKeeps (chamberSpot Q v) c words P (0 + k) (0 + i)) (a .opened) 0) (walk-slot (0 + k) (0 + i) (omega arith)))))
 
 -- ---- what the functions ask, of sheets that open by the counts that they are told
-
-own : {w : List ℤ} {n m : ℕ} → Opens w n m → Opens w (points w) (nodes w)
-own {w} {n} o = subst (λ (a : ℕ). Opens w a (nodes w)) (sym (o .n-is)) (subst (Opens w n) (sym (o .m-is)) o)
 
 -- the loop, after the filter walk of the leaf v
 abbrev pub Going : List ℤ → List ℤ → ℕ → ℕ → List ℕ → ℕ → ℕ → ℕ → Type 0

@@ -18,62 +18,16 @@ use Rattle.sheet.specs.Boxes.{Below}
 use Rattle.sheet.specs.Places.{pointsOf}
 use Rattle.sheet.specs.Open.{Opens}
 use Rattle.sheet.proofs.OrderLaws.{rank-below, order-rank, rank-order}
-use Rattle.sheet.proofs.CoverLaws.{leaf-at, below-one}
+use Rattle.sheet.proofs.CoverLaws.{OneNode, one-node}
 use Rattle.sheet.proofs.PointsLaws.{length-points, id-rises, id-low, id-high}
 use Rattle.list.specs.declared.Pair.{Pair}
 use Rattle.list.specs.Pairs.{none}
 use Rattle.list.specs.Rows.{row, rows, listBy, Rising}
 use Rattle.list.specs.RingList.{ringPair, pairAt, ringList}
-use Rattle.list.proofs.RowLaws.{Placed, ring-iff, ring-only, by-id}
+use Rattle.list.proofs.RowLaws.{Placed, rows-placed, placed-rows, ring-iff, ring-only, by-id}
 use Rattle.leaf.specs.LeafWalk.{chamberAt}
 use Rattle.leaf.specs.LeafRun.{leafList}
 use Rattle.leaf.proofs.LeafLaws.{leaf-place, chamber-in, chamber-once}
-
--- ---- what a list of rows holds
-
-module _ (rule : ℕ → ℕ → Bool) (pair : ℕ → ℕ → Pair) (nq np : ℕ) where
-  row-placed : (j k i : ℕ) (v : Pair) → j < nq → i + k ≤ np → List·Memᴰ v (row rule pair j k i) → Placed rule pair np nq v
-  unfolding row
-  row-placed j zero i v a h m = absurd (List·Memᴰ·not-nil m)
-  row-placed j (suc k) i v a h m = go (row-placed j k (i + 1) v a (omega arith)) (rule j i) refl m
-    where
-      go : (List·Memᴰ v (row rule pair j k (i + 1)) → Placed rule pair np nq v) → (b : Bool) → rule j i ≡ b
-          → List·Memᴰ v (cond b (pair j i ∷ row rule pair j k (i + 1)) (row rule pair j k (i + 1))) → Placed rule pair np nq v
-      go ih true e n =
-          ⊎-elim
-          (λ (x : v ≡ pair j i). record { at-q = j; at-p = i; q-in = a; p-in = omega arith; holds = e; is = x })
-          (λ x. ih x)
-          (List·Memᴰ·cases-cons n)
-      go ih false e n = ih n
-
-  rows-placed : (k j : ℕ) (v : Pair) → j + k ≤ nq → List·Memᴰ v (rows rule pair np k j) → Placed rule pair np nq v
-  unfolding rows
-  rows-placed zero j v h m = absurd (List·Memᴰ·not-nil m)
-  rows-placed (suc k) j v h m =
-      ⊎-elim
-      (λ x. row-placed j np 0 v (omega arith) (omega arith) x)
-      (λ x. rows-placed k (j + 1) v (omega arith) x)
-      (List·Memᴰ·append-cases (row rule pair j np 0) m)
-
-  placed-row : (j k i u : ℕ) → i ≤ u → u < i + k → rule j u ≡ true → List·Memᴰ (pair j u) (row rule pair j k i)
-  unfolding row
-  placed-row j zero i u a b e = absurd (omega arith)
-  placed-row j (suc k) i u a b e =
-      ⊎-elim
-      (λ (x : i ≡ u). rw (x, e) (List·Memᴰ·head refl))
-      (λ (x : i < u).
-      let m = placed-row j k (i + 1) u (omega arith) (omega arith) e in
-      ⊎-elim (λ (f : rule j i ≡ true). rw f (List·Memᴰ·tail m)) (λ (f : rule j i ≡ false). rw f m) (decide (rule j i)))
-      (eq-or-lt-of-le a)
-
-  placed-rows : (k j t u : ℕ) → j ≤ t → t < j + k → u < np → rule t u ≡ true → List·Memᴰ (pair t u) (rows rule pair np k j)
-  unfolding rows
-  placed-rows zero j t u a b c e = absurd (omega arith)
-  placed-rows (suc k) j t u a b c e =
-      ⊎-elim
-      (λ (x : j ≡ t). rw x (Memᴰ·append-left (rows rule pair np k (t + 1)) (placed-row t np 0 u (omega arith) (omega arith) e)))
-      (λ (x : j < t). Memᴰ·append-right (row rule pair j np 0) (placed-rows k (j + 1) t u (omega arith) (omega arith) c e))
-      (eq-or-lt-of-le a)
 
 -- ---- each pair once, in whatever order
 
@@ -196,7 +150,7 @@ module _ (P Q : List ℤ) (p-opens : Opens P (points P) (nodes P)) (q-opens : Op
   -- "Over all leaves the pairs are 01's list, each once."
   pub listed-run : (x : Pair) → List·Memᴰ x (ringList (pointsOf P) (pointsOf Q)) → InRun x
   unfolding chamberAt Below
-  listed-run x m = record { leaf = v .0; here = v .1; level = v .2; in-run = there; only = only }
+  listed-run x m = record { leaf = v .node; here = v .here; level = v .level; in-run = there; only = only }
     where
       y : Placed (ringPair (pointsOf P) (pointsOf Q)) (pairAt (pointsOf P) (pointsOf Q)) (length (pointsOf P)) (length (pointsOf Q)) x
       y = ring-only (pointsOf P) (pointsOf Q) rise-p rise-q x m
@@ -210,28 +164,29 @@ module _ (P Q : List ℤ) (p-opens : Opens P (points P) (nodes P)) (q-opens : Op
       place : ℕ
       place = rankOf Q (points Q) (y .at-q)
 
-      place-in : place < points Q
-      place-in = rank-below Q (points Q) (q-opens .ordered) (y .at-q) j-in
-
       some : 0 < nodes Q
       some = pos-of-ne-zero (λ z. absurd (omega (arith, q-opens .empty z, j-in)))
 
-      v : (p : ℕ) × (p < nodes Q) × (levelOf Q (points Q) p ≡ 0) × (firstOf Q (points Q) p ≤ place) × (place < firstOf Q (points Q) p + countOf Q (points Q) p)
-      v = leaf-at Q (points Q) (nodes Q) (q-opens .table) some place place-in
+      -- the leaf in which q stands
+      v : OneNode Q (points Q) (nodes Q) 0 place
+      v = one-node Q (points Q) (nodes Q) (q-opens .table) some place (rank-below Q (points Q) (q-opens .ordered) (y .at-q) j-in) 0 (omega arith)
 
-      at : chamberAt Q (v .0) (place - firstOf Q (points Q) (v .0)) ≡ y .at-q
+      k : ℕ
+      k = place - firstOf Q (points Q) (v .node)
+
+      at : chamberAt Q (v .node) k ≡ y .at-q
       at =
-          let e : firstOf Q (points Q) (v .0) + (place - firstOf Q (points Q) (v .0)) ≡ place = omega (arith, v .3) in
+          let e : firstOf Q (points Q) (v .node) + k ≡ place = omega (arith, v .below .0) in
           ap (orderOf Q (points Q)) e ∙ order-rank Q (points Q) (q-opens .ordered) (y .at-q) j-in
 
-      there : List·Memᴰ x (leafList P Q (v .0))
+      there : List·Memᴰ x (leafList P Q (v .node))
       there =
-          let h = run-holds (v .0) (v .1) (v .2) (place - firstOf Q (points Q) (v .0)) (y .at-p) (omega (arith, v .3, v .4)) i-in (ap (λ (j : ℕ). ringPair (pointsOf P) (pointsOf Q) j (y .at-p)) at ∙ y .holds) in
-          subst (λ (u : Pair). List·Memᴰ u (leafList P Q (v .0))) (ap (λ (j : ℕ). pairAt (pointsOf P) (pointsOf Q) j (y .at-p)) at ∙ sym (y .is)) h
+          let h = run-holds (v .node) (v .here) (v .level) k (y .at-p) (omega (arith, v .below .0, v .below .1)) i-in (ap (λ (j : ℕ). ringPair (pointsOf P) (pointsOf Q) j (y .at-p)) at ∙ y .holds) in
+          subst (λ (u : Pair). List·Memᴰ u (leafList P Q (v .node))) (ap (λ (j : ℕ). pairAt (pointsOf P) (pointsOf Q) j (y .at-p)) at ∙ sym (y .is)) h
 
-      only : (u : ℕ) → u < nodes Q → levelOf Q (points Q) u ≡ 0 → List·Memᴰ x (leafList P Q u) → u ≡ v .0
+      only : (u : ℕ) → u < nodes Q → levelOf Q (points Q) u ≡ 0 → List·Memᴰ x (leafList P Q u) → u ≡ v .node
       only u h l n =
           let z = run-placed u h l x n in
           let e = pair-apart (y .at-q) (y .at-p) (chamberAt Q u (z .at-q)) (z .at-p) j-in i-in (chamber-in Q q-opens u h l (z .at-q) (z .q-in)) (z .p-in) (sym (y .is) ∙ z .is) .0 in
           let r : place ≡ firstOf Q (points Q) u + z .at-q = ap (rankOf Q (points Q)) e ∙ rank-order Q (points Q) (q-opens .ordered) (firstOf Q (points Q) u + z .at-q) (leaf-place Q q-opens u h l (z .at-q) (z .q-in)) in
-          below-one Q (points Q) (nodes Q) (q-opens .table) 0 u (v .0) place h (v .1) l (v .2) (omega (arith, r), omega (arith, r, z .q-in)) (v .3, v .4)
+          v .only u h l (omega (arith, r), omega (arith, r, z .q-in))

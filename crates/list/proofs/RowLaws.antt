@@ -56,6 +56,56 @@ pub record Placed (rule : ℕ → ℕ → Bool) (pair : ℕ → ℕ → Pair) (n
   pub holds : rule at-q at-p ≡ true
   pub is : v ≡ pair at-q at-p
 
+-- ---- what rows hold, whatever the ids
+
+module _ (rule : ℕ → ℕ → Bool) (pair : ℕ → ℕ → Pair) (nq np : ℕ) where
+  row-placed : (j k i : ℕ) (v : Pair) → j < nq → i + k ≤ np → List·Memᴰ v (row rule pair j k i) → Placed rule pair np nq v
+  unfolding row
+  row-placed j zero i v a h m = absurd (List·Memᴰ·not-nil m)
+  row-placed j (suc k) i v a h m = go (row-placed j k (i + 1) v a (omega arith)) (rule j i) refl m
+    where
+      go : (List·Memᴰ v (row rule pair j k (i + 1)) → Placed rule pair np nq v) → (b : Bool) → rule j i ≡ b
+          → List·Memᴰ v (cond b (pair j i ∷ row rule pair j k (i + 1)) (row rule pair j k (i + 1))) → Placed rule pair np nq v
+      go ih true e n =
+          ⊎-elim
+          (λ (x : v ≡ pair j i). record { at-q = j; at-p = i; q-in = a; p-in = omega arith; holds = e; is = x })
+          (λ x. ih x)
+          (List·Memᴰ·cases-cons n)
+      go ih false e n = ih n
+
+  -- every pair of the rows is one that the rule makes
+  pub rows-placed : (k j : ℕ) (v : Pair) → j + k ≤ nq → List·Memᴰ v (rows rule pair np k j) → Placed rule pair np nq v
+  unfolding rows
+  rows-placed zero j v h m = absurd (List·Memᴰ·not-nil m)
+  rows-placed (suc k) j v h m =
+      ⊎-elim
+      (λ x. row-placed j np 0 v (omega arith) (omega arith) x)
+      (λ x. rows-placed k (j + 1) v (omega arith) x)
+      (List·Memᴰ·append-cases (row rule pair j np 0) m)
+
+  placed-row : (j k i u : ℕ) → i ≤ u → u < i + k → rule j u ≡ true → List·Memᴰ (pair j u) (row rule pair j k i)
+  unfolding row
+  placed-row j zero i u a b e = absurd (omega arith)
+  placed-row j (suc k) i u a b e =
+      ⊎-elim
+      (λ (x : i ≡ u). rw (x, e) (List·Memᴰ·head refl))
+      (λ (x : i < u).
+      let m = placed-row j k (i + 1) u (omega arith) (omega arith) e in
+      ⊎-elim (λ (f : rule j i ≡ true). rw f (List·Memᴰ·tail m)) (λ (f : rule j i ≡ false). rw f m) (decide (rule j i)))
+      (eq-or-lt-of-le a)
+
+  -- and each of those is there
+  pub placed-rows : (k j t u : ℕ) → j ≤ t → t < j + k → u < np → rule t u ≡ true → List·Memᴰ (pair t u) (rows rule pair np k j)
+  unfolding rows
+  placed-rows zero j t u a b c e = absurd (omega arith)
+  placed-rows (suc k) j t u a b c e =
+      ⊎-elim
+      (λ (x : j ≡ t). rw x (Memᴰ·append-left (rows rule pair np k (t + 1)) (placed-row t np 0 u (omega arith) (omega arith) e)))
+      (λ (x : j < t). Memᴰ·append-right (row rule pair j np 0) (placed-rows k (j + 1) t u (omega arith) (omega arith) c e))
+      (eq-or-lt-of-le a)
+
+-- ---- rows by ids that rise
+
 module _ (rule : ℕ → ℕ → Bool) (pair : ℕ → ℕ → Pair) (qid pid : ℕ → ℕ) (nm : Named pair qid pid) (nq np : ℕ) (rq : Rising qid nq) (rp : Rising pid np) where
   row-asc : (j k i : ℕ) (key : Key) → i + k ≤ np → ((u : ℕ) → i ≤ u → u < np → follows key (keyOf (pair j u)) ≡ true) → ascends key (row rule pair j k i) ≡ true
   unfolding row ascends
@@ -93,55 +143,10 @@ module _ (rule : ℕ → ℕ → Bool) (pair : ℕ → ℕ → Pair) (qid pid : 
   unfolding listBy
   list-ascends = rows-asc nq 0 start (omega arith) (λ u a b. rq .low u b)
 
-  -- ---- what it holds
-
-  row-placed : (j k i : ℕ) (v : Pair) → j < nq → i + k ≤ np → List·Memᴰ v (row rule pair j k i) → Placed rule pair np nq v
-  unfolding row
-  row-placed j zero i v a h m = absurd (List·Memᴰ·not-nil m)
-  row-placed j (suc k) i v a h m = go (row-placed j k (i + 1) v a (omega arith)) (rule j i) refl m
-    where
-      go : (List·Memᴰ v (row rule pair j k (i + 1)) → Placed rule pair np nq v) → (b : Bool) → rule j i ≡ b
-          → List·Memᴰ v (cond b (pair j i ∷ row rule pair j k (i + 1)) (row rule pair j k (i + 1))) → Placed rule pair np nq v
-      go ih true e n =
-          ⊎-elim
-          (λ (x : v ≡ pair j i). record { at-q = j; at-p = i; q-in = a; p-in = omega arith; holds = e; is = x })
-          (λ x. ih x)
-          (List·Memᴰ·cases-cons n)
-      go ih false e n = ih n
-
-  rows-placed : (k j : ℕ) (v : Pair) → j + k ≤ nq → List·Memᴰ v (rows rule pair np k j) → Placed rule pair np nq v
-  unfolding rows
-  rows-placed zero j v h m = absurd (List·Memᴰ·not-nil m)
-  rows-placed (suc k) j v h m =
-      ⊎-elim
-      (λ x. row-placed j np 0 v (omega arith) (omega arith) x)
-      (λ x. rows-placed k (j + 1) v (omega arith) x)
-      (List·Memᴰ·append-cases (row rule pair j np 0) m)
-
-  placed-row : (j k i u : ℕ) → i ≤ u → u < i + k → rule j u ≡ true → List·Memᴰ (pair j u) (row rule pair j k i)
-  unfolding row
-  placed-row j zero i u a b e = absurd (omega arith)
-  placed-row j (suc k) i u a b e =
-      ⊎-elim
-      (λ (x : i ≡ u). rw (x, e) (List·Memᴰ·head refl))
-      (λ (x : i < u).
-      let m = placed-row j k (i + 1) u (omega arith) (omega arith) e in
-      ⊎-elim (λ (f : rule j i ≡ true). rw f (List·Memᴰ·tail m)) (λ (f : rule j i ≡ false). rw f m) (decide (rule j i)))
-      (eq-or-lt-of-le a)
-
-  placed-rows : (k j t u : ℕ) → j ≤ t → t < j + k → u < np → rule t u ≡ true → List·Memᴰ (pair t u) (rows rule pair np k j)
-  unfolding rows
-  placed-rows zero j t u a b c e = absurd (omega arith)
-  placed-rows (suc k) j t u a b c e =
-      ⊎-elim
-      (λ (x : j ≡ t). rw x (Memᴰ·append-left (rows rule pair np k (t + 1)) (placed-row t np 0 u (omega arith) (omega arith) e)))
-      (λ (x : j < t). Memᴰ·append-right (row rule pair j np 0) (placed-rows k (j + 1) t u (omega arith) (omega arith) c e))
-      (eq-or-lt-of-le a)
-
   -- every pair of the list is one that the rule makes
   pub listed-holds : (v : Pair) → List·Memᴰ v (listBy rule pair np nq) → Placed rule pair np nq v
   unfolding listBy
-  listed-holds v m = rows-placed nq 0 v (omega arith) m
+  listed-holds v m = rows-placed rule pair nq np nq 0 v (omega arith) m
 
   -- a pair of ids stands in the list exactly if the rule makes it one
   pub listed-iff : (j i : ℕ) → j < nq → i < np → List·Memᴰ (pair j i) (listBy rule pair np nq) ↔ (rule j i ≡ true)
@@ -152,7 +157,7 @@ module _ (rule : ℕ → ℕ → Bool) (pair : ℕ → ℕ → Pair) (qid pid : 
         let e : j ≡ z .at-q = by-id qid nq rq j (z .at-q) a (z .q-in) (sym (nm .q-is j i) ∙ ap (λ (v : Pair). v .q) (z .is) ∙ nm .q-is (z .at-q) (z .at-p)) in
         let f : i ≡ z .at-p = by-id pid np rp i (z .at-p) b (z .p-in) (sym (nm .p-is j i) ∙ ap (λ (v : Pair). v .p) (z .is) ∙ nm .p-is (z .at-q) (z .at-p)) in
         ap₂ rule e f ∙ z .holds,
-    λ e. placed-rows nq 0 j i (omega arith) (omega arith) b e,
+    λ e. placed-rows rule pair nq np nq 0 j i (omega arith) (omega arith) b e,
   )
 
 -- ---- the list of the ring pairs

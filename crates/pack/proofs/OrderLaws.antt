@@ -35,10 +35,6 @@ first-stay p k (suc n) h g =
     rw (lt-ltb (firstB n p) n (omega arith)) i)
     (eq-or-lt-of-le h)
 
-pub place-le : (o : List ℤ) (i k : ℕ) → placeIn o i k ≤ k
-unfolding placeIn
-place-le o i k = first-le _ k
-
 pub place-is : (o : List ℤ) (i n : ℕ) → placeIn o i n < n → eqZ (at o (placeIn o i n)) (pos i) ≡ true
 unfolding placeIn
 place-is o i n h = first-hit (λ p. eqZ (at o p) (pos i)) n h

@@ -19,7 +19,7 @@ use Rattle.list.specs.RingList.{unblocked, ringPair}
 use Rattle.sheet.specs.Layout.{points, nodes}
 use Rattle.sheet.specs.Places.{spotOf, pointsOf}
 use Rattle.sheet.specs.Open.{Opens}
-use Rattle.sheet.proofs.PointsLaws.{length-points, point-at}
+use Rattle.sheet.proofs.PointsLaws.{length-points, spot-of}
 use Rattle.walk.specs.declared.Hit.{Hit}
 use Rattle.walk.specs.declared.Answer.{Answer}
 use Rattle.walk.specs.RingWalk.{clear, ringOn, ringWalk, pairWalk}
@@ -27,9 +27,6 @@ use Rattle.walk.specs.Claims.{Free, plus, overQ, overP}
 use Rattle.walk.proofs.RingLaws.{only-clear, clear-free, free-clear, on-stops, on-adds}
 
 -- ---- the ring rule
-
-spot-is : (w : List ℤ) (i : ℕ) → i < points w → spotAt (pointsOf w) i ≡ spotOf w i
-spot-is w i h = ap (λ (p : Point). p .spot) (point-at w i h)
 
 not-both : (e b : Bool) → (e || not b) ≡ true → e ≡ false → b ≡ false
 not-both e true h f = clash h (ap (λ (x : Bool). x || false) f)
@@ -42,7 +39,7 @@ either false b f = ap not (f refl)
 pub unblocked-free : (w : List ℤ) (a b : Spot) (end : ℕ) → unblocked (pointsOf w) a b end ≡ true → Free w (points w) a b end
 unfolding unblocked
 unblocked-free w a b end e i h ne =
-    ap (blocks a b) (sym (spot-is w i h))
+    ap (blocks a b) (sym (spot-of w i h))
     ∙ not-both (eqb i end) (blocks a b (spotAt (pointsOf w) i)) (all-at _ (length (pointsOf w)) e i (omega (arith, length-points w))) (ne-eqb i end ne)
 
 pub free-unblocked : (w : List ℤ) (a b : Spot) (end : ℕ) → Free w (points w) a b end → unblocked (pointsOf w) a b end ≡ true
@@ -51,7 +48,7 @@ free-unblocked w a b end f =
     all-make _ (length (pointsOf w))
     (λ i h.
     let l : i < points w = omega (arith, length-points w) in
-    either (eqb i end) (blocks a b (spotAt (pointsOf w) i)) (λ e. ap (blocks a b) (spot-is w i l) ∙ f i l (λ z. clash (eq-eqb i end z) e)))
+    either (eqb i end) (blocks a b (spotAt (pointsOf w) i)) (λ e. ap (blocks a b) (spot-of w i l) ∙ f i l (λ z. clash (eq-eqb i end z) e)))
 
 -- a ring walk of a sheet is clear exactly if no record but the end blocks
 pub walk-unblocked : (set : ℕ) (w : List ℤ) → Opens w (points w) (nodes w) → (a b : Spot) (end : ℕ) → (spotOf w end ≡ a) ⊎ (spotOf w end ≡ b) → clear (ringWalk set w a b end .hit) ≡ unblocked (pointsOf w) a b end
@@ -61,7 +58,7 @@ walk-unblocked set w o a b end at-end =
 -- the rule for q at position j of Q and p at position i of P, by where they stand in the sheets
 pub pair-rule : (P Q : List ℤ) (j i : ℕ) → j < points Q → i < points P → ringPair (pointsOf P) (pointsOf Q) j i ≡ (unblocked (pointsOf Q) (spotOf Q j) (spotOf P i) j && unblocked (pointsOf P) (spotOf Q j) (spotOf P i) i)
 unfolding ringPair
-pair-rule P Q j i hj hi = rw (spot-is Q j hj, spot-is P i hi)
+pair-rule P Q j i hj hi = rw (spot-of Q j hj, spot-of P i hi)
 
 -- ---- the pair walk
 
