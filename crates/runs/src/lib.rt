@@ -3,7 +3,6 @@ use leaf::run::Step;
 use list::Pair;
 ghost use mathlib.Core.Path.{_≡_};
 ghost use mathlib.Core.List.{[], _∷_};
-ghost use Prim.Native.Nat.{_<_};
 ghost use lib.ListN.{length};
 ghost use Rattle.sheet.specs.Open.{Opens};
 ghost use Rattle.leaf.specs.LeafRun.{leftFrom};
