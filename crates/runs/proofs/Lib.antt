@@ -2,3 +2,4 @@ pub mod WriteLaws
 pub mod DecideLaws
 pub mod Meaning
 pub mod Once
+pub mod ArrayLaws

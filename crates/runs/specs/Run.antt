@@ -5,13 +5,14 @@ use mathlib.Core.List.{List, _++_}
 use Prim.Native.Nat.{ℕ}
 use lib.Dec.{eqb, ltb}
 use lib.IntN.{ℤ}
-use lib.ListN.{length, drop}
+use lib.ListN.{length, take, drop}
 use Rattle.sheet.specs.Layout.{points, nodes}
 use Rattle.sheet.specs.Nodes.{levelOf}
 use Rattle.list.specs.declared.Pair.{Pair}
 use Rattle.leaf.specs.LeafRun.{leafList, leafOpened}
 use Rattle.ring.specs.Numbers.{first, sheetsNo}
 use Rattle.runs.specs.declared.Run.{Run}
+use Rattle.runs.specs.declared.RunArray.{RunArray}
 
 -- "19 no such leaf": the number names no node of Q, or one that is no leaf
 unfoldable pub leafNo : List ℤ → ℕ → ℕ
@@ -40,3 +41,17 @@ runAnswer P Q v len = cond (eqb (runNo P Q v len) 0) (runGiven P Q v) (runRefuse
 -- the slots after it: the pairs stand from the first slot on, "the rest of the slice isn't touched"; a refusal "leaves lent memory [..] as they stood"
 unfoldable pub runSlots : List ℤ → List ℤ → ℕ → List Pair → List Pair
 runSlots P Q v slots = cond (eqb (runNo P Q v (length slots)) 0) (leafList P Q v ++ drop (length (leafList P Q v)) slots) slots
+
+-- ---- a part of an array, lent
+
+-- how many of 256 slots are lent: `len`, or all where it exceeds 256
+unfoldable pub lentOf : ℕ → ℕ
+lentOf len = cond (ltb 256 len) 256 len
+
+abbrev pub withSlots : List Pair → Run → RunArray
+withSlots slots r = record { slots = slots; run = r }
+
+-- `leaf_run` on the first so many slots of an array: the others are as they were
+unfoldable pub runArray : List ℤ → List ℤ → ℕ → List Pair → ℕ → RunArray
+runArray P Q v slots len =
+    withSlots (runSlots P Q v (take (lentOf len) slots) ++ drop (lentOf len) slots) (runAnswer P Q v (length (take (lentOf len) slots)))

@@ -6,7 +6,7 @@ ghost use mathlib.Core.List.{[], _∷_};
 ghost use lib.ListN.{length};
 ghost use Rattle.sheet.specs.Open.{Opens};
 ghost use Rattle.leaf.specs.LeafRun.{leftFrom};
-ghost use Rattle.runs.specs.Run.{leafNo, runRefused, runAnswer, runSlots};
+ghost use Rattle.runs.specs.Run.{leafNo, runRefused, runAnswer, runSlots, lentOf, withSlots, runArray};
 ghost use Rattle.runs.specs.Ready.{Ready};
 
 // What a leaf run answers: 0, how many pairs it stored and the nodes opened; or the number of refusal and zeros.
@@ -100,4 +100,39 @@ pub fn leaf_run(p: &[i32], q: &[i32], leaf: usize, slots: &mut [Pair]) -> Run
         k = k + 1;
     }
     r
+}
+
+// 256 slots, and what `leaf_run` answered of those lent to it.
+pub struct RunArray {
+    pub slots: [Pair; 256],
+    pub run: Run,
+}
+
+// How many of 256 slots are lent.
+fn lent_of(len: usize) -> usize
+    ensures { λ r. ⌜ r ≡ lentOf len ⌝ }
+{
+    if 256 < len {
+        return 256;
+    }
+    len
+}
+
+fn with_slots(slots: [Pair; 256], run: Run) -> RunArray
+    ensures { λ r. ⌜ r ≡ withSlots slots run ⌝ }
+{
+    RunArray {
+        slots: slots,
+        run: run,
+    }
+}
+
+// `leaf_run` on the first `len` of 256 slots, which are lent for the call and come back; on all 256 where `len` exceeds that. For callers that keep their slots by value.
+pub fn run_array(p: &[i32], q: &[i32], leaf: usize, slots: [Pair; 256], len: usize) -> RunArray
+    ensures { λ r. ⌜ r ≡ runArray (now (p .entry)) (now (q .entry)) leaf slots len ⌝ }
+{
+    let mut own = slots;
+    let n = lent_of(len);
+    let run = leaf_run(p, q, leaf, &mut own[..n]);
+    with_slots(own, run)
 }
