@@ -10,11 +10,15 @@ use lib.ListN.{length}
 use borrow.Author.Tests.{eqb-true}
 use Rattle.list.specs.declared.Pair.{Pair}
 use Rattle.runs.specs.declared.Run.{Run}
-use Rattle.runs.specs.Run.{runNo, runGiven, runRefused, runAnswer, runSlots}
+use Rattle.runs.specs.declared.RunArray.{RunArray}
+use Rattle.runs.specs.Run.{runNo, runGiven, runRefused, runAnswer, runSlots, runArray}
 
 pub run-once : (P Q : List ℤ) (v : ℕ) (s : List Pair) (r r′ : Run) (t t′ : List Pair)
     → (r ≡ runAnswer P Q v (length s)) × (t ≡ runSlots P Q v s) → (r′ ≡ runAnswer P Q v (length s)) × (t′ ≡ runSlots P Q v s) → (r ≡ r′) × (t ≡ t′)
 run-once P Q v s r r′ t t′ x y = (x .0 ∙ sym (y .0), x .1 ∙ sym (y .1))
+
+pub run-array-once : (P Q : List ℤ) (v : ℕ) (s : List Pair) (len : ℕ) (r r′ : RunArray) → r ≡ runArray P Q v s len → r′ ≡ runArray P Q v s len → r ≡ r′
+run-array-once P Q v s len r r′ x y = x ∙ sym y
 
 pub run-no : (P Q : List ℤ) (v len : ℕ) → runAnswer P Q v len .number ≡ runNo P Q v len
 unfolding runAnswer runGiven runRefused
