@@ -1,5 +1,5 @@
 -- The calls of `view` promise what the calls of `ring` promise of the words that the views cover: "a view handed in included, its counts read anew from its words". So
--- each theorem of Demand1, Demand2 and Demand3 on an answer of `ring` holds of theirs. And so for a book whose slots are kept in an array.
+-- each theorem of Demand1, Demand2 and Demand3 on an answer of `ring` holds of theirs. And so for a book, and for a run, whose slots are kept in an array.
 -- Assumes nothing.
 use mathlib.Core.Path.{_≡_, ap}
 use mathlib.Core.List.{List, [], _++_}
@@ -21,7 +21,9 @@ use Rattle.book.specs.declared.Book.{Book}
 use Rattle.book.specs.declared.Asked.{Asked}
 use Rattle.book.specs.declared.TakenArray.{TakenArray}
 use Rattle.book.specs.Rules.{takenSlots, lentOf, takenArray}
-use Rattle.demands.specs.Promises.{Place, HeadAnswers, PointAnswers, FilterAnswers, RingAnswers, PageAnswers, NextAnswers, TakeAnswers, NextArrayAnswers, TakeArrayAnswers, ViewPoints, ViewFilters, ViewRings, ViewPages, OpenHead, PointOpened, PointThrough, FilterThrough, RingThrough, PageThrough}
+use Rattle.runs.specs.declared.RunArray.{RunArray}
+use Rattle.runs.specs.Run as runs
+use Rattle.demands.specs.Promises.{Place, HeadAnswers, PointAnswers, FilterAnswers, RingAnswers, PageAnswers, NextAnswers, TakeAnswers, NextArrayAnswers, TakeArrayAnswers, RunAnswers, RunArrayAnswers, ViewPoints, ViewFilters, ViewRings, ViewPages, OpenHead, PointOpened, PointThrough, FilterThrough, RingThrough, PageThrough}
 
 -- ---- through a view
 
@@ -75,3 +77,12 @@ module _ (slots : List Pair) (len : ℕ) (b : Book) (g : Page) (r : TakenArray) 
   pub take-array-slots : r .slots ≡ takenSlots b (take (lentOf len) slots) g ++ drop (lentOf len) slots
   unfolding takenArray
   take-array-slots = ap (λ (x : TakenArray). x .slots) (a .promised)
+
+module _ (P Q : List ℤ) (v : ℕ) (slots : List Pair) (len : ℕ) (r : RunArray) (a : RunArrayAnswers P Q v slots len r) where
+  pub run-array : RunAnswers P Q v (take (runs.lentOf len) slots) (r .run) (runs.runSlots P Q v (take (runs.lentOf len) slots))
+  unfolding runs.runArray
+  run-array = (ap (λ (x : RunArray). x .run) (a .promised), λ t. runs.runSlots P Q v (take (runs.lentOf len) slots))
+
+  pub run-array-slots : r .slots ≡ runs.runSlots P Q v (take (runs.lentOf len) slots) ++ drop (runs.lentOf len) slots
+  unfolding runs.runArray
+  run-array-slots = ap (λ (x : RunArray). x .slots) (a .promised)

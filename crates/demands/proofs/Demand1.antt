@@ -5,13 +5,14 @@
 -- That every input is taken is proofs/Takes. Here is one theorem for each call: the number of its answer is the defined one, 0 where no rule is broken; and an answer with another number is that number and
 -- nothing else. None has a premise but that the call answered. The definitions of the numbers stand in the document's order: `openNo` of sheet/specs/Open,
 -- `packNo` of pack/specs/Pack, `pointNo`, `filterNo`, `ringNo` of ring/specs/Numbers, `pageNo` of ring/specs/Page, `beginNo`, `nextNo`, `takeNo` of
--- book/specs/Rules, `markNo` of marker/specs/Mark. For the calls through views and on arrays see proofs/Alike. What is lent as `&` cannot be written; what is lent as `&mut` (pack, take) is spoken of here.
+-- book/specs/Rules, `markNo` of marker/specs/Mark, `runNo` of runs/specs/Run. For the calls through views and on arrays see proofs/Alike. What is lent as `&` cannot be written; what is lent as `&mut` (pack, take, leaf_run) is spoken of here.
 -- Assumes nothing.
 use mathlib.Core.Path.{_≡_, refl, sym, ap, subst, _∙_}
 use mathlib.Core.List.{List, [], _++_}
 use Prim.Native.Nat.{ℕ}
 use lib.IntN.{ℤ}
 use lib.ListN.{length, take, drop, take-append-drop}
+use borrow.Author.Tests.{ne-eqb}
 use denote.Ref.{RefT, now}
 use Rattle.sheet.specs.Limits.{form1}
 use Rattle.sheet.specs.Layout.{points, nodes}
@@ -57,8 +58,13 @@ use Rattle.marker.specs.Mark.{markNo, numberOf, Middle, MiddleAt}
 use Rattle.marker.specs.declared.Marker.{Marker}
 use Rattle.marker.specs.declared.Marked.{Marked}
 use Rattle.marker.specs.declared.Marked.the-variants as marking
-use Rattle.demands.specs.Promises.{OpenAnswers, HeadAnswers, PointAnswers, FilterAnswers, RingAnswers, PageAnswers, PackAnswers, MarkAnswers, BeginAnswers, NextAnswers, TakeAnswers, TakeArrayAnswers, ViewOpens}
-use Rattle.demands.proofs.Alike.{take-array, take-array-slots}
+use Rattle.runs.specs.declared.Run.{Run}
+use Rattle.runs.specs.declared.RunArray.{RunArray}
+use Rattle.runs.specs.Run.{runNo, runRefused, runAnswer, runSlots, lentOf as lentForRun}
+use Rattle.runs.proofs.Once as of-runs
+use Rattle.runs.proofs.Meaning as of-run
+use Rattle.demands.specs.Promises.{OpenAnswers, HeadAnswers, PointAnswers, FilterAnswers, RingAnswers, PageAnswers, PackAnswers, MarkAnswers, BeginAnswers, NextAnswers, TakeAnswers, TakeArrayAnswers, RunAnswers, RunArrayAnswers, ViewOpens}
+use Rattle.demands.proofs.Alike.{take-array, take-array-slots, run-array, run-array-slots}
 
 -- the number k is one of refusal
 abbrev pub Refuses : ℕ → Type 0
@@ -153,6 +159,31 @@ take-array-no slots len b g r a =
       z .0,
       λ ne.
           (z .1 ne .0, take-array-slots slots len b g r a ∙ ap (λ (x : List Pair). x ++ drop (lentOf len) slots) (z .1 ne .1) ∙ take-append-drop (lentOf len) slots),
+    )
+
+-- ---- a leaf's run, 1 to 8 for P, then for Q, then 19, then 16: refused, both counts are 0, and every slot is as it stood
+
+only-run : (P Q : List ℤ) (v len : ℕ) → Refuses (runNo P Q v len) → runAnswer P Q v len ≡ runRefused (runNo P Q v len)
+unfolding runAnswer
+only-run P Q v len ne = rw (ne-eqb (runNo P Q v len) 0 ne)
+
+pub run-no : (P Q : List ℤ) (v : ℕ) (slots : List Pair) (r : Run) (slots′ : List Pair) → RunAnswers P Q v slots r slots′
+    → (r .number ≡ runNo P Q v (length slots)) × (Refuses (runNo P Q v (length slots)) → (r ≡ runRefused (runNo P Q v (length slots))) × (slots′ ≡ slots))
+run-no P Q v slots r slots′ a = (
+  ap (λ (x : Run). x .number) (a .0) ∙ of-runs.run-no P Q v (length slots),
+  λ ne. (a .0 ∙ only-run P Q v (length slots) ne, a .1 ∙ of-run.run-refused P Q v slots ne),
+)
+
+-- and so where the slots are kept in an array
+pub run-array-no : (P Q : List ℤ) (v : ℕ) (slots : List Pair) (len : ℕ) (r : RunArray) → RunArrayAnswers P Q v slots len r
+    → (r .run .number ≡ runNo P Q v (length (take (lentForRun len) slots)))
+    × (Refuses (runNo P Q v (length (take (lentForRun len) slots))) → (r .run ≡ runRefused (runNo P Q v (length (take (lentForRun len) slots)))) × (r .slots ≡ slots))
+run-array-no P Q v slots len r a =
+    let lent = take (lentForRun len) slots in
+    let z = run-no P Q v lent (r .run) (runSlots P Q v lent) (run-array P Q v slots len r a) in (
+      z .0,
+      λ ne.
+          (z .1 ne .0, run-array-slots P Q v slots len r a ∙ ap (λ (x : List Pair). x ++ drop (lentForRun len) slots) (z .1 ne .1) ∙ take-append-drop (lentForRun len) slots),
     )
 
 -- ---- the marker, 5

@@ -10,6 +10,9 @@
 --     list-exact         two records are listed exactly if they are a ring pair.  list-only, list-once: nothing else is, and nothing twice
 --     list-by-points     sheets with the same points give the same list, and the same pairs, number and end mark of every page
 --     opened-at-most-m   one walk of one sheet opens at most its nodes
+--     run-pairs          a leaf's run stores the ring pairs of its chambers, by place, then p id, and touches no other slot.  run-exact, run-only: these and no others
+--     run-opened         the count beside it is that of the defined walks.  run-at-most-m: its walk of P opens at most the nodes of P
+--     runs-list          a pair is listed exactly if the run of one leaf has it, and then no other leaf's has it.  stored-once: no run has it twice
 --     return-trip        pack, then open, gives the same points back
 -- Assumes nothing.
 use mathlib.Core.Path.{_≡_, refl, sym, ap, ap₂, subst, _∙_}
@@ -19,12 +22,14 @@ use mathlib.Core.List.{List, List·Memᴰ}
 use Prim.Native.Nat.{ℕ, _+_, _*_, _≤_, _<_}
 use native.Mathlib.Omega.{arith}
 use lib.IntN.{ℤ, pos}
-use lib.ListN.{length, getD}
+use lib.ListN.{length, getD, take, drop}
+use borrow.Author.Tests.{eq-eqb}
 use Rattle.words.specs.Range.{lastId}
 use Rattle.words.proofs.TabLaws.{at-tab}
 use Rattle.plane.specs.Point.{Point, pointAt}
 use Rattle.sheet.specs.Limits.{form1}
 use Rattle.sheet.specs.Layout.{points, nodes, edition}
+use Rattle.sheet.specs.Nodes.{levelOf, countOf}
 use Rattle.sheet.specs.Places.{spotOf, pointOf, pointsOf}
 use Rattle.sheet.specs.Open.{openNo, Opens}
 use Rattle.sheet.proofs.SheetLaws.{open-facts, open-trailer, form1-fair}
@@ -64,7 +69,16 @@ use Rattle.ring.proofs.PageLaws as of-page
 use Rattle.pack.specs.Pack.{pointsIn}
 use Rattle.pack.specs.Claims.{Returned}
 use Rattle.pack.proofs.ReturnTrip as of-pack
-use Rattle.demands.specs.Promises.{OpenAnswers, PointAnswers, FilterAnswers, RingAnswers, PageAnswers, PackAnswers}
+use Rattle.leaf.specs.LeafWalk.{chamberAt, chamberSpot, leafKept}
+use Rattle.leaf.specs.LeafRun.{leafList, leafOpened}
+use Rattle.leaf.proofs.LeafLaws.{chamber-in, leaf-opened}
+use Rattle.leaf.proofs.RunLaws as of-leaf
+use Rattle.runs.specs.declared.Run.{Run}
+use Rattle.runs.specs.Run.{leafNo, runNo, runGiven, runAnswer}
+use Rattle.runs.proofs.DecideLaws.{leaf-here}
+use Rattle.runs.proofs.Meaning as of-run
+use Rattle.runs.proofs.Once as of-runs
+use Rattle.demands.specs.Promises.{OpenAnswers, PointAnswers, FilterAnswers, RingAnswers, PageAnswers, PackAnswers, RunAnswers}
 
 -- the words are a sheet: "every well-formed sheet"
 abbrev pub WellFormed : List ℤ → Type 0
@@ -200,6 +214,109 @@ module _ (P Q : List ℤ) (p-opens : WellFormed P) (q-opens : WellFormed Q) wher
   -- "each once".
   pub list-once : (a b : ℕ) → a < b → b < length (ringList (pointsOf P) (pointsOf Q)) → getD (ringList (pointsOf P) (pointsOf Q)) a none ≡ getD (ringList (pointsOf P) (pointsOf Q)) b none → ⊥
   list-once a b h k e = ring-once (pointsOf P) (pointsOf Q) (of-join.points-rise (facts P p-opens)) (of-join.points-rise (facts Q q-opens)) a b h k e
+
+  -- ---- one run per leaf
+
+  -- v is a leaf of Q, "named by node number"
+  pub record LeafOf (v : ℕ) : Type 0 where
+    pub here : v < nodes Q
+    pub level : levelOf Q (points Q) v ≡ 0
+
+  module _ (v : ℕ) (o : LeafOf v) (slots : List Pair) (r : Run) (slots′ : List Pair) (a : RunAnswers P Q v slots r slots′) where
+    leaf-there : leafNo Q v ≡ 0
+    leaf-there = sym (leaf-here Q v (facts Q q-opens) refl (o .here) (o .level))
+
+    number-is : r .number ≡ runNo P Q v (length slots)
+    number-is = ap (λ (x : Run). x .number) (a .0) ∙ of-runs.run-no P Q v (length slots)
+
+    -- "then 16 exactly when the pairs outnumber the slots"
+    pub run-sixteen : (r .number ≡ 16) ↔ (length slots < length (leafList P Q v))
+    run-sixteen = let t = of-run.run-sixteen P Q v (length slots) sheets leaf-there in (λ x. t .0 (sym number-is ∙ x), λ x. number-is ∙ t .1 x)
+
+    -- with a slot for each pair
+    module _ (room : length (leafList P Q v) ≤ length slots) where
+      served : runNo P Q v (length slots) ≡ 0
+      served = of-run.run-served P Q v (length slots) sheets leaf-there room
+
+      given : runAnswer P Q v (length slots) ≡ runGiven P Q v
+      unfolding runAnswer
+      given = rw (eq-eqb (runNo P Q v (length slots)) 0 served)
+
+      count-is : r .count ≡ length (leafList P Q v)
+      unfolding runGiven
+      count-is = ap (λ (x : Run). x .count) (a .0 ∙ given)
+
+      stored : take (r .count) slots′ ≡ leafList P Q v
+      stored = ap₂ take count-is (a .1) ∙ of-run.run-first P Q v slots served
+
+      -- "give the ring pairs of its points by place, then p id, in a lent slice of pairs; the rest of the slice isn't touched"
+      pub run-pairs : (r .number ≡ 0) × (r .count ≡ length (leafList P Q v)) × (take (r .count) slots′ ≡ leafList P Q v) × (drop (r .count) slots′ ≡ drop (r .count) slots)
+      run-pairs = (
+        number-is ∙ served,
+        count-is,
+        stored,
+        ap₂ drop count-is (a .1) ∙ of-run.run-rest P Q v slots served ∙ ap (λ (k : ℕ). drop k slots) (sym count-is),
+      )
+
+      -- a chamber of the leaf and a pump house are stored exactly if the ring rule makes them a pair, whatever the walk has skipped ..
+      pub run-exact : (k i : ℕ) → k < countOf Q (points Q) v → i < points P
+          → List·Memᴰ (pairAt (pointsOf P) (pointsOf Q) (chamberAt Q v k) i) (take (r .count) slots′) ↔ (ringPair (pointsOf P) (pointsOf Q) (chamberAt Q v k) i ≡ true)
+      run-exact k i k-in i-in = (
+        λ m.
+            list-exact (chamberAt Q v k) i (chamber-in Q (facts Q q-opens) v (o .here) (o .level) k k-in) i-in .0
+            (of-leaf.run-listed P Q (facts P p-opens) (facts Q q-opens) v (o .here) (o .level) _ (subst (List·Memᴰ (pairAt (pointsOf P) (pointsOf Q) (chamberAt Q v k) i)) stored m)),
+        λ e.
+            subst (List·Memᴰ (pairAt (pointsOf P) (pointsOf Q) (chamberAt Q v k) i)) (sym stored)
+            (of-leaf.run-holds P Q (facts P p-opens) (facts Q q-opens) v (o .here) (o .level) k i k-in i-in e),
+      )
+
+      -- .. nothing else is ..
+      pub run-only : (x : Pair) → List·Memᴰ x (take (r .count) slots′)
+          → Placed (λ k i. ringPair (pointsOf P) (pointsOf Q) (chamberAt Q v k) i) (λ k i. pairAt (pointsOf P) (pointsOf Q) (chamberAt Q v k) i) (points P) (countOf Q (points Q) v) x
+      run-only x m = of-leaf.run-placed P Q (facts P p-opens) (facts Q q-opens) v (o .here) (o .level) x (subst (List·Memᴰ x) stored m)
+
+      -- .. and nothing twice
+      pub stored-once : (b c : ℕ) → b < c → c < r .count → getD (take (r .count) slots′) b none ≡ getD (take (r .count) slots′) c none → ⊥
+      stored-once b c h k e =
+          of-leaf.run-once P Q (facts P p-opens) (facts Q q-opens) v (o .here) (o .level) b c h (omega (arith, k, count-is))
+          (subst (λ (l : List Pair). getD l b none ≡ getD l c none) stored e)
+
+      -- "Its count is that walk's opened nodes plus those of each kept partner's ring walk", the kept sets on sixteen words each
+      pub run-opened : r .opened ≡ leafOpened 16 P Q v
+      unfolding runGiven
+      run-opened = ap (λ (x : Run). x .opened) (a .0 ∙ given)
+
+      -- "nodes opened never exceed m in one walk of one sheet": nor do those of the "one walk of P [that] serves all points of the leaf", which the answer counts in
+      pub run-at-most-m : (leafKept (chamberSpot Q v) (countOf Q (points Q) v) 16 P .opened ≤ nodes P) × (leafKept (chamberSpot Q v) (countOf Q (points Q) v) 16 P .opened ≤ r .opened)
+      unfolding leafOpened
+      run-at-most-m = (leaf-opened (chamberSpot Q v) (countOf Q (points Q) v) 16 P (facts P p-opens), omega (arith, run-opened))
+
+  -- of all these runs, that of one leaf has the pair, and no other
+  pub record InOneRun (runs : ℕ → List Pair) (x : Pair) : Type 0 where
+    pub leaf : ℕ
+    pub is-leaf : LeafOf leaf
+    pub in-run : List·Memᴰ x (runs leaf)
+    pub only : (u : ℕ) → LeafOf u → List·Memᴰ x (runs u) → u ≡ leaf
+
+  -- "Over all leaves the pairs are 01's list, each once." For each leaf v of Q, `lent v` are the slots lent, one at least for each pair, `run v` is what the call answered, and
+  -- `after v` are the slots after it.
+  pub runs-list : (lent : ℕ → List Pair) (run : ℕ → Run) (after : ℕ → List Pair)
+      → ((v : ℕ) → LeafOf v → RunAnswers P Q v (lent v) (run v) (after v)) → ((v : ℕ) → LeafOf v → length (leafList P Q v) ≤ length (lent v))
+      → (x : Pair) → List·Memᴰ x (ringList (pointsOf P) (pointsOf Q)) ↔ InOneRun (λ v. take (run v .count) (after v)) x
+  runs-list lent run after a room x = (there, back)
+    where
+      is : (v : ℕ) → LeafOf v → take (run v .count) (after v) ≡ leafList P Q v
+      is v o = stored v o (lent v) (run v) (after v) (a v o) (room v o)
+
+      there : List·Memᴰ x (ringList (pointsOf P) (pointsOf Q)) → InOneRun (λ v. take (run v .count) (after v)) x
+      there m =
+          let y = of-leaf.listed-run P Q (facts P p-opens) (facts Q q-opens) x m in
+          let o : LeafOf (y .leaf) = record { here = y .here; level = y .level } in
+          record { leaf = y .leaf; is-leaf = o; in-run = subst (List·Memᴰ x) (sym (is (y .leaf) o)) (y .in-run); only = λ u l n. y .only u (l .here) (l .level) (subst (List·Memᴰ x) (is u l) n) }
+
+      back : InOneRun (λ v. take (run v .count) (after v)) x → List·Memᴰ x (ringList (pointsOf P) (pointsOf Q))
+      back y =
+          of-leaf.run-listed P Q (facts P p-opens) (facts Q q-opens) (y .leaf) (y .is-leaf .here) (y .is-leaf .level) x (subst (List·Memᴰ x) (is (y .leaf) (y .is-leaf)) (y .in-run))
 
 -- "It depends on the points alone": whatever the editions, the orders and the trees of two pairs of sheets.
 module _ (P P′ Q Q′ : List ℤ) (p-opens : WellFormed P) (p-opens′ : WellFormed P′) (q-opens : WellFormed Q) (q-opens′ : WellFormed Q′) (same-p : pointsOf P ≡ pointsOf P′) (same-q : pointsOf Q ≡ pointsOf Q′) where

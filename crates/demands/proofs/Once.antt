@@ -2,7 +2,7 @@
 -- Each theorem starts from two answers that the call's promise admits for one input, and ends with their being one. No exception. (The calls over C: OverC.)
 -- Of a view that `open` makes it says all that there is to see: the number, the words covered and where they stand, the counts.
 -- Assumes nothing.
-use mathlib.Core.Path.{_≡_, refl}
+use mathlib.Core.Path.{_≡_, refl, sym, _∙_}
 use mathlib.Core.List.{List}
 use Prim.Native.Nat.{ℕ}
 use lib.IntN.{ℤ}
@@ -25,13 +25,16 @@ use Rattle.book.specs.declared.Asked.{Asked}
 use Rattle.book.specs.declared.Taken.{Taken}
 use Rattle.book.specs.declared.TakenArray.{TakenArray}
 use Rattle.marker.specs.declared.Marked.{Marked}
+use Rattle.runs.specs.declared.Run.{Run}
+use Rattle.runs.specs.declared.RunArray.{RunArray}
 use Rattle.ring.proofs.Once as of-ring
 use Rattle.ring.proofs.PageLaws as of-page
 use Rattle.view.proofs.Once as of-view
 use Rattle.book.proofs.Once as of-book
 use Rattle.pack.proofs.Once as of-pack
 use Rattle.marker.proofs.Once as of-marker
-use Rattle.demands.specs.Promises.{OpenAnswers, HeadAnswers, PointAnswers, FilterAnswers, RingAnswers, PageAnswers, PackAnswers, MarkAnswers, BeginAnswers, NextAnswers, TakeAnswers, NextArrayAnswers, TakeArrayAnswers, ViewOpens, ViewPoints, ViewFilters, ViewRings, ViewPages, OpenHead, PointOpened, PointThrough, FilterThrough, RingThrough, PageThrough}
+use Rattle.runs.proofs.Once as of-runs
+use Rattle.demands.specs.Promises.{OpenAnswers, HeadAnswers, PointAnswers, FilterAnswers, RingAnswers, PageAnswers, PackAnswers, MarkAnswers, BeginAnswers, NextAnswers, TakeAnswers, NextArrayAnswers, TakeArrayAnswers, RunAnswers, RunArrayAnswers, ViewOpens, ViewPoints, ViewFilters, ViewRings, ViewPages, OpenHead, PointOpened, PointThrough, FilterThrough, RingThrough, PageThrough}
 
 -- ---- ring
 
@@ -81,6 +84,14 @@ next-array-once slots len b r r′ x y = of-book.next-array-once slots len b r r
 
 pub take-array-once : (slots : List Pair) (len : ℕ) (b : Book) (g : Page) (r r′ : TakenArray) → TakeArrayAnswers slots len b g r → TakeArrayAnswers slots len b g r′ → r ≡ r′
 take-array-once slots len b g r r′ x y = of-book.take-array-once slots len b g r r′ (x .promised) (y .promised)
+
+-- ---- one run per leaf: one answer, and one final state of the slots
+
+pub run-once : (P Q : List ℤ) (v : ℕ) (slots : List Pair) (r r′ : Run) (t t′ : List Pair) → RunAnswers P Q v slots r t → RunAnswers P Q v slots r′ t′ → (r ≡ r′) × (t ≡ t′)
+run-once P Q v slots r r′ t t′ x y = of-runs.run-once P Q v slots r r′ t t′ x y
+
+pub run-array-once : (P Q : List ℤ) (v : ℕ) (slots : List Pair) (len : ℕ) (r r′ : RunArray) → RunArrayAnswers P Q v slots len r → RunArrayAnswers P Q v slots len r′ → r ≡ r′
+run-array-once P Q v slots len r r′ x y = x .promised ∙ sym (y .promised)
 
 -- ---- view
 

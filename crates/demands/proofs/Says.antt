@@ -28,12 +28,14 @@ use Rattle.book.specs.declared.Asked.{Asked}
 use Rattle.book.specs.declared.Taken.{Taken}
 use Rattle.book.proofs.Book.next_key as next-key
 use Rattle.book.proofs.Book.take as book-take
+use Rattle.runs.specs.declared.Run.{Run}
+use Rattle.runs.proofs.leaf_run as leaf-run
 use Rattle.view.proofs.open as view-open
 use Rattle.view.proofs.point_at as view-point
 use Rattle.view.proofs.filter_walk_at as view-filter
 use Rattle.view.proofs.ring_walk_at as view-ring
 use Rattle.view.proofs.page_at as view-page
-use Rattle.demands.specs.Promises.{Place, slice, NextAnswers, TakeAnswers, ViewOpens, ViewPoints, ViewFilters, ViewRings, ViewPages}
+use Rattle.demands.specs.Promises.{Place, slice, NextAnswers, TakeAnswers, RunAnswers, ViewOpens, ViewPoints, ViewFilters, ViewRings, ViewPages}
 
 module _ {M : Type 1} (𝓤 : URA M) (H : Heap 𝓤) (A : Atoms 𝓤) (mem : Memory → SProp 𝓤) (run : Routine → Fun 𝓤) where
   pub next-key-says : (κs : Lfts 1) (l : Place) (b : Book) (s : List Pair) (r : Asked)
@@ -44,6 +46,11 @@ module _ {M : Type 1} (𝓤 : URA M) (H : Heap 𝓤) (A : Atoms 𝓤) (mem : Mem
       → book-take.ensures-1 𝓤 H κs A mem run b (slice l s) g (record { entry = b; exit = b }) (record { entry = slice l s; exit = slice l s′ }) (record { entry = g; exit = g }) r
       ≡ fact 𝓤 (TakeAnswers b s g r s′)
   take-says κs l b s g r s′ = refl
+
+  pub run-says : (κs : Lfts 3) (p-at q-at l : Place) (P Q : List ℤ) (v : ℕ) (s : List Pair) (r : Run) (s′ : List Pair)
+      → leaf-run.ensures-1 𝓤 H κs A mem run (slice p-at P) (slice q-at Q) v (slice l s) (record { entry = slice p-at P; exit = slice p-at P }) (record { entry = slice q-at Q; exit = slice q-at Q }) (record { entry = v; exit = v }) (record { entry = slice l s; exit = slice l s′ }) r
+      ≡ fact 𝓤 (RunAnswers P Q v s r s′)
+  run-says κs p-at q-at l P Q v s r s′ = refl
 
   pub view-open-says : (κs : Lfts 1) (w : RefT (List ℤ)) (r : Opened)
       → view-open.ensures-1 𝓤 H κs A mem run w (record { entry = w; exit = w }) r ≡ fact 𝓤 (ViewOpens w r)

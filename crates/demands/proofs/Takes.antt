@@ -21,6 +21,7 @@ use Rattle.marker.proofs.mark.Reads as mark
 use Rattle.book.proofs.Book.begin.Reads as begin
 use Rattle.book.proofs.next_array.Reads as next-array
 use Rattle.book.proofs.take_array.Reads as take-array
+use Rattle.runs.proofs.run_array.Reads as run-array
 use Rattle.view.proofs.open_head.Reads as open-head
 use Rattle.view.proofs.point_opened.Reads as point-opened
 use Rattle.view.proofs.point_through.Reads as point-through
@@ -29,6 +30,7 @@ use Rattle.view.proofs.ring_walk_through.Reads as ring-walk-through
 use Rattle.view.proofs.page_through.Reads as page-through
 use Rattle.book.proofs.Book.next_key as next-key
 use Rattle.book.proofs.Book.take as take
+use Rattle.runs.proofs.leaf_run as leaf-run
 use Rattle.view.proofs.open as view-open
 use Rattle.view.proofs.point_at as view-point
 use Rattle.view.proofs.filter_walk_at as view-filter
@@ -68,6 +70,9 @@ next-array-takes κs a = tt
 pub take-array-takes : (κs : Lfts 0) (a : _) → take-array.Asked κs a
 take-array-takes κs a = tt
 
+pub run-array-takes : (κs : Lfts 2) (a : _) → run-array.Asked κs a
+run-array-takes κs a = tt
+
 pub open-head-takes : (κs : Lfts 1) (a : _) → open-head.Asked κs a
 open-head-takes κs a = tt
 
@@ -92,6 +97,9 @@ module _ {M : Type 1} (𝓤 : URA M) (H : Heap 𝓤) (A : Atoms 𝓤) (mem : Mem
 
   pub take-takes : (κs : Lfts 1) (a : _) → take.clauses 𝓤 H A mem run κs a .requires tt ≡ emp 𝓤
   take-takes κs a = refl
+
+  pub leaf-run-takes : (κs : Lfts 3) (a : _) → leaf-run.clauses 𝓤 H A mem run κs a .requires tt ≡ emp 𝓤
+  leaf-run-takes κs a = refl
 
   pub view-open-takes : (κs : Lfts 1) (a : _) → view-open.clauses 𝓤 H A mem run κs a .requires tt ≡ emp 𝓤
   view-open-takes κs a = refl

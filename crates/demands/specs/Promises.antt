@@ -3,12 +3,13 @@
 --
 -- `Post` of a call is its `ensures`, read as a plain claim: of the lifetimes κs of what is lent, the arguments, the answer, and the arguments at exit.
 -- Words and slots that are lent are lists that stand at some place of memory, and no promise depends on the place.
--- The calls over slices of records (`Book::next_key`, `Book::take`) and over views (`view::open`, `point_at`, `filter_walk_at`, `ring_walk_at`, `page_at`) have no such reading.
+-- The calls over slices of records (`Book::next_key`, `Book::take`, `runs::leaf_run`) and over views (`view::open`, `point_at`, `filter_walk_at`, `ring_walk_at`, `page_at`) have no such reading.
 -- Theirs is stated here, and proofs/Says shows that it is their `ensures`, word for word.
 use mathlib.Core.Path.{_≡_}
 use mathlib.Core.List.{List}
 use Prim.Native.Nat.{ℕ}
 use lib.IntN.{ℤ}
+use lib.ListN.{length}
 use base.Fml.{GName}
 use contract.Lifetimes.{Lfts}
 use denote.Ref.{RefT, now}
@@ -33,6 +34,9 @@ use Rattle.book.specs.declared.Taken.{Taken}
 use Rattle.book.specs.declared.TakenArray.{TakenArray}
 use Rattle.book.specs.Rules.{asked, taken, takenSlots}
 use Rattle.marker.specs.declared.Marked.{Marked}
+use Rattle.runs.specs.declared.Run.{Run}
+use Rattle.runs.specs.declared.RunArray.{RunArray}
+use Rattle.runs.specs.Run.{runAnswer, runSlots}
 use Rattle.ring.proofs.open.open_no.Reads as open-no
 use Rattle.ring.proofs.open.head_of.Reads as head-of
 use Rattle.ring.proofs.point.point.Reads as point
@@ -44,6 +48,7 @@ use Rattle.marker.proofs.mark.Reads as mark
 use Rattle.book.proofs.Book.begin.Reads as begin
 use Rattle.book.proofs.take_array.Reads as take-array
 use Rattle.book.proofs.next_array.Reads as next-array
+use Rattle.runs.proofs.run_array.Reads as run-array
 use Rattle.view.proofs.open_head.Reads as open-head
 use Rattle.view.proofs.point_opened.Reads as point-opened
 use Rattle.view.proofs.point_through.Reads as point-through
@@ -139,6 +144,22 @@ pub record NextArrayAnswers (slots : List Pair) (len : ℕ) (b : Book) (r : Aske
 -- `book::take_array(slots, len, b, page)` answers r
 pub record TakeArrayAnswers (slots : List Pair) (len : ℕ) (b : Book) (page : Page) (r : TakenArray) : Type 0 where
   pub promised : take-array.Post tt (slots, (len, (b, (page, tt)))) r (slots, (len, (b, (page, tt))))
+
+-- ---- one run per leaf
+
+-- `runs::leaf_run(P, Q, leaf, slots)` answers r, and the slots are `slots′` at its exit
+abbrev pub RunAnswers : List ℤ → List ℤ → ℕ → List Pair → Run → List Pair → Type 0
+RunAnswers P Q leaf slots r slots′ = (r ≡ runAnswer P Q leaf (length slots)) × (slots′ ≡ runSlots P Q leaf slots)
+
+-- `runs::run_array(P, Q, leaf, slots, len)` answers r
+pub record RunArrayAnswers (P Q : List ℤ) (leaf : ℕ) (slots : List Pair) (len : ℕ) (r : RunArray) : Type 0 where
+  pub κs : Lfts 2
+  pub p-at : Place
+  pub q-at : Place
+  pub promised : run-array.Post κs
+      (slice p-at P, (slice q-at Q, (leaf, (slots, (len, tt)))))
+      r
+      (slice p-at P, (slice q-at Q, (leaf, (slots, (len, tt)))))
 
 -- ---- views
 
