@@ -2,7 +2,7 @@
 -- Each theorem starts from two answers that the call's promise admits for one input, and ends with their being one. No exception. (The calls over C: OverC.)
 -- Of a view that `open` makes it says all that there is to see: the number, the words covered and where they stand, the counts.
 -- Assumes nothing.
-use mathlib.Core.Path.{_≡_, refl, sym, _∙_}
+use mathlib.Core.Path.{_≡_, refl}
 use mathlib.Core.List.{List}
 use Prim.Native.Nat.{ℕ}
 use lib.IntN.{ℤ}
@@ -91,7 +91,7 @@ pub run-once : (P Q : List ℤ) (v : ℕ) (slots : List Pair) (r r′ : Run) (t 
 run-once P Q v slots r r′ t t′ x y = of-runs.run-once P Q v slots r r′ t t′ x y
 
 pub run-array-once : (P Q : List ℤ) (v : ℕ) (slots : List Pair) (len : ℕ) (r r′ : RunArray) → RunArrayAnswers P Q v slots len r → RunArrayAnswers P Q v slots len r′ → r ≡ r′
-run-array-once P Q v slots len r r′ x y = x .promised ∙ sym (y .promised)
+run-array-once P Q v slots len r r′ x y = of-runs.run-array-once P Q v slots len r r′ (x .promised) (y .promised)
 
 -- ---- view
 
