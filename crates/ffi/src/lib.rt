@@ -9,6 +9,7 @@ use list::Source;
 use ring::Filtered;
 use ring::Head;
 use ring::Paged;
+use runs::Run;
 ghost use mathlib.Core.Path.{_≡_};
 ghost use lib.ListN.{length};
 ghost use Rattle.sheet.specs.Limits.{form1};
@@ -16,6 +17,7 @@ ghost use Rattle.pack.specs.Pack.{packNo, packOut};
 ghost use Rattle.ring.specs.Answers.{headOf, pointed, filtered, walked};
 ghost use Rattle.ring.specs.Page.{pageAnswer};
 ghost use Rattle.book.specs.Rules.{begunFor, asked, taken, takenSlots};
+ghost use Rattle.runs.specs.Run.{runAnswer, runSlots};
 ghost use Rattle.ffi.specs.Over.{pointOver, hitOver, walkOver, bookOver, nextOver, keyOver, markOver, markedAt};
 
 // The point reader's answer: the record, or zeros.
@@ -272,4 +274,12 @@ pub extern "C" fn ring_book_take(b: Book, slots: &mut [Pair], page: Page) -> Tak
     ensures { λ r. ⌜ (r ≡ taken b (now (slots .entry)) page) × (now (slots .exit) ≡ takenSlots b (now (slots .entry)) page) ⌝ }
 {
     b.take(slots, page)
+}
+
+// The ring pairs of the chambers of a leaf of Q, by place, then p id, in the lent slots: 0, or 1 to 8 of P, of Q, 19, 16 with the slots as they were.
+#[no_mangle]
+pub extern "C" fn ring_leaf_run(p: &[i32], q: &[i32], leaf: usize, slots: &mut [Pair]) -> Run
+    ensures { λ r. ⌜ (r ≡ runAnswer (now (p .entry)) (now (q .entry)) leaf (length (now (slots .entry)))) × (now (slots .exit) ≡ runSlots (now (p .entry)) (now (q .entry)) leaf (now (slots .entry))) ⌝ }
+{
+    runs::leaf_run(p, q, leaf, slots)
 }
