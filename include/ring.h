@@ -13,7 +13,7 @@
  *
  * What the caller sees to, since no call can test it
  *   - a pointer and its number describe memory that is there, aligned for its elements, and that nobody else writes during the call;
- *   - memory that a call may write (`out` of ring_pack, `slots` of ring_book_take) overlaps no other array of the same call;
+ *   - memory that a call may write (`out` of ring_pack, `slots` of ring_book_take and of ring_leaf_run) overlaps no other array of the same call;
  *   - a bool is 0 or 1, as C's own bool always is.
  * A negative number handed in for an unsigned one arrives as a large one, and is answered as such.
  *
@@ -133,6 +133,13 @@ typedef struct RingTaken {
     RingBook book;
 } RingTaken;
 
+/* The answer of ring_leaf_run: how many pairs it stored, and how many nodes were opened. */
+typedef struct RingRun {
+    uint32_t number;
+    size_t count;
+    uint64_t opened;
+} RingRun;
+
 /* The answer of ring_marker. */
 typedef struct RingMarker {
     uint32_t number;
@@ -203,6 +210,14 @@ RingTaken ring_book_take(RingBook book, RingPair *slots, size_t slots_len, RingP
  * Refused  5 where a coordinate is not -1,000,000 to 1,000,000. */
 RingMarker ring_marker(int32_t ax, int32_t ay, int32_t bx, int32_t by);
 
+/* One run per leaf: the ring pairs of the chambers of a leaf of Q, by the chambers' places in Q's order, then by p id. Over all leaves they are the list, each
+ * pair once.
+ * Input    both sheets, the number of a leaf of Q, and the slots lent for the pairs. The words are only read.
+ * Answer   the number of pairs, which stand from the first slot on, and the nodes opened: by one walk of P for all chambers of the leaf, and by the ring walk of
+ *          each partner that it keeps. Slots past the pairs are not written.
+ * Refused  1 to 8 for P, then 1 to 8 for Q, then 19 where Q has no such node or it is no leaf, then 16 where the pairs outnumber the slots; no slot is written. */
+RingRun ring_leaf_run(const int32_t *p, size_t p_len, const int32_t *q, size_t q_len, size_t leaf, RingPair *slots, size_t slots_len);
+
 /*
  * The numbers of refusal
  *    1  under 6 words
@@ -223,6 +238,7 @@ RingMarker ring_marker(int32_t ax, int32_t ay, int32_t bx, int32_t by);
  *   16  more pairs than slots left
  *   17  lent output not exactly the sheet's length
  *   18  point words not 3n, or order list not n long
+ *   19  no such leaf
  */
 
 #ifdef __cplusplus

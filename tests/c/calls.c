@@ -1,7 +1,8 @@
 /*
  * Every call of ring.h with random and damaged inputs: null with length 0, wrong lengths, extreme numbers, words changed at random.
  * Answers are held to a plain second reading of the rules: the numbers of open up to 6, of pack, next key and take; the list, by trying every pair against
- * every record; the marker, doubled. Lent memory is held to a copy made before the call, with guards on both sides.
+ * every record; a leaf's run likewise, its nodes opened by a plain walk; the marker, doubled. Lent memory is held to a copy made before the call, with guards
+ * on both sides.
  * Prints one line, and ends with 1 where an answer differs or a number of refusal never came up.
  */
 #include <stdio.h>
@@ -14,7 +15,7 @@
 #define GUARD 0x5ead5eed
 
 static uint64_t seed = 88172645463325252ull;
-static unsigned long calls, wrong, first_wrong, seen[19];
+static unsigned long calls, wrong, first_wrong, seen[20];
 
 #define HOLD(test) ((test) ? (void)0 : (void)(wrong++ ? 0 : (first_wrong = __LINE__)))
 
@@ -39,8 +40,8 @@ static size_t wild_size(void) { return below(4) ? wild() : below(2) ? (size_t)ch
 
 static void saw(uint32_t number) {
     calls++;
-    HOLD(number <= 18);
-    if (number <= 18) seen[number]++;
+    HOLD(number <= 19);
+    if (number <= 19) seen[number]++;
 }
 
 /* ---- sheets: words between guards, and a copy of all */
@@ -280,8 +281,8 @@ static void try_point(void) {
 }
 
 /* two sheets, sometimes damaged; the number that both give, and a position of each, which may be over */
-static uint32_t two_sheets(size_t *j, size_t *i) {
-    make_sheet(&P, some_n(14)), make_sheet(&Q, some_n(14));
+static uint32_t two_sheets(size_t most, size_t *j, size_t *i) {
+    make_sheet(&P, some_n(most)), make_sheet(&Q, some_n(most));
     if (below(4) == 0) damage(&P);
     if (below(4) == 0) damage(&Q);
     save();
@@ -293,7 +294,7 @@ static uint32_t two_sheets(size_t *j, size_t *i) {
 
 static void try_filter(void) {
     size_t j, i, set = 0;
-    uint32_t number = two_sheets(&j, &i);
+    uint32_t number = two_sheets(14, &j, &i);
     RingFiltered r = ring_filter_walk(at(&P), P.len, at(&Q), Q.len, j);
     saw(r.number), hold_saved();
     HOLD(r.number == (number ? number : j < count_of(&Q) ? 0 : 9));
@@ -308,7 +309,7 @@ static void try_filter(void) {
 
 static void try_pair(void) {
     size_t j, i;
-    uint32_t number = two_sheets(&j, &i);
+    uint32_t number = two_sheets(14, &j, &i);
     RingWalked r = ring_pair_walk(at(&P), P.len, at(&Q), Q.len, j, i);
     saw(r.number), hold_saved();
     HOLD(r.number == (number ? number : j < count_of(&Q) && i < count_of(&P) ? 0 : 9));
@@ -349,7 +350,7 @@ static void try_page(void) {
     size_t j, i, size = below(6) ? 1 + below(16) : wild_size();
     RingKey key = {0, 0};
     RingPage expected;
-    uint32_t number = two_sheets(&j, &i);
+    uint32_t number = two_sheets(14, &j, &i);
     if (!number && j < count_of(&Q) && i < count_of(&P)) key.q = (uint32_t)Q.words[3 * j] + (uint32_t)below(2), key.p = (uint32_t)P.words[3 * i];
     if (below(6) == 0) key.q = wild();
     if (below(6) == 0) key.p = wild();
@@ -461,15 +462,91 @@ static void try_marker(void) {
     if (!ok || ay + by == 0) HOLD(memcmp(&r.y, &zero, sizeof zero) == 0);
 }
 
+/* ---- a leaf's run */
+
+static const int32_t *node_of(const Sheet *s, size_t v) { return s->words + 5 * count_of(s) + 7 * v; }
+
+static size_t stands(const Sheet *s, int32_t place) { return (size_t)s->words[3 * count_of(s) + (size_t)place]; }
+
+/* the chambers of a leaf, and what one walk of P keeps for each */
+static struct {
+    size_t chambers, at[16];
+    bool kept[16][1000];
+    uint64_t opened;
+} leaf;
+
+static const int32_t *chamber(size_t k) { return Q.words + 3 * leaf.at[k]; }
+
+static bool blocks_all(const int32_t *a, const int32_t *spots, size_t count, const int32_t *x) {
+    for (size_t c = 0; c < count; c++)
+        if (!blocks(a, spots + 3 * c, x)) return false;
+    return true;
+}
+
+/* for chamber k, a pump house kept so far or another chamber of the leaf blocks all of these spots */
+static bool ruled_out(size_t k, const int32_t *spots, size_t count) {
+    for (size_t h = 0; h < leaf.chambers; h++)
+        if (h != k && blocks_all(chamber(k), spots, count, chamber(h))) return true;
+    for (size_t i = 0; i < count_of(&P); i++)
+        if (leaf.kept[k][i] && blocks_all(chamber(k), spots, count, P.words + 3 * i)) return true;
+    return false;
+}
+
+static void walk_node(size_t v) {
+    const int32_t *node = node_of(&P, v), corners[12] = {0, node[3], node[4], 0, node[3], node[6], 0, node[5], node[4], 0, node[5], node[6]};
+    size_t skips = 0;
+    for (size_t k = 0; k < leaf.chambers; k++) skips += ruled_out(k, corners, 4);
+    if (skips == leaf.chambers) return;
+    leaf.opened++;
+    for (int32_t c = node[1]; c < node[1] + node[2]; c++)
+        if (node[0]) walk_node((size_t)c);
+        else
+            for (size_t k = 0, i = stands(&P, c); k < leaf.chambers; k++) leaf.kept[k][i] = !ruled_out(k, P.words + 3 * i, 1);
+}
+
+/* leaf v of Q: its pairs by place, then p id, and the nodes opened, a ring walk's as ring_pair_walk counts them; how many pairs */
+static size_t run_of(size_t v, RingPair *pairs) {
+    const int32_t *node = node_of(&Q, v);
+    size_t count = 0;
+    memset(&leaf, 0, sizeof leaf);
+    for (int32_t c = node[1]; c < node[1] + node[2]; c++) leaf.at[leaf.chambers++] = stands(&Q, c);
+    if (nodes_of(&P)) walk_node(nodes_of(&P) - 1);
+    for (size_t k = 0; k < leaf.chambers; k++)
+        for (size_t i = 0; i < count_of(&P); i++) {
+            RingPair pair = {(uint32_t)chamber(k)[0], (uint32_t)P.words[3 * i]};
+            if (leaf.kept[k][i]) leaf.opened += ring_pair_walk(P.words, P.len, Q.words, Q.len, leaf.at[k], i).opened;
+            if (is_pair(leaf.at[k], i)) pairs[count++] = pair;
+        }
+    return count;
+}
+
+static void try_leaf(void) {
+    static RingPair pairs[16000], lent[304], lent_was[304];
+    size_t v, i, count = 0;
+    uint32_t number = two_sheets(60, &v, &i);
+    if (!number && below(8)) v = below(nodes_of(&Q) + 1);
+    if (!number && (v >= nodes_of(&Q) || node_of(&Q, v)[0])) number = 19;
+    if (!number) count = run_of(v, pairs);
+    size_t len = below(2) || count > 300 ? below(301) : below(2) ? count : below(count + 1);
+    if (!number && count > len) number = 16;
+    for (size_t k = 0; k < 304; k++) lent[k].q = wild(), lent[k].p = wild();
+    memcpy(lent_was, lent, sizeof lent);
+    RingRun r = ring_leaf_run(at(&P), P.len, at(&Q), Q.len, v, len ? lent + 2 : NULL, len);
+    saw(r.number), hold_saved();
+    if (!number) memcpy(lent_was + 2, pairs, count * sizeof pairs[0]);
+    HOLD(r.number == number && r.count == (number ? 0 : count) && r.opened == (number ? 0 : leaf.opened));
+    HOLD(memcmp(lent, lent_was, sizeof lent) == 0);
+}
+
 int main(void) {
-    static void (*const tries[])(void) = {try_open, try_pack, try_point, try_filter, try_pair, try_page, try_begin, try_next, try_take, try_marker};
+    static void (*const tries[])(void) = {try_open, try_pack, try_point, try_filter, try_pair, try_page, try_begin, try_next, try_take, try_marker, try_leaf};
     size_t exports = sizeof tries / sizeof tries[0];
     guard(&P), guard(&Q);
     for (size_t k = 0; k < exports; k++)
         for (int i = 0; i < TIMES; i++) tries[k]();
     unsigned long unseen = 0;
-    for (int k = 0; k < 19; k++) unseen += seen[k] == 0;
-    printf("c calls: %zu exports, %lu calls with %lu served, %lu of the numbers 0 to 18 never seen, %lu answers wrong", exports, calls, seen[0], unseen, wrong);
+    for (int k = 0; k < 20; k++) unseen += seen[k] == 0;
+    printf("c calls: %zu exports, %lu calls with %lu served, %lu of the numbers 0 to 19 never seen, %lu answers wrong", exports, calls, seen[0], unseen, wrong);
     if (wrong) printf(" (the first at line %lu)", first_wrong);
     printf("\n");
     return wrong || unseen;
