@@ -39,6 +39,7 @@ use Rattle.book.specs.declared.Asked.{Asked}
 use Rattle.book.specs.declared.Taken.{Taken}
 use Rattle.book.specs.Rules.{beginNo, begunNo, begunFor, nextNo, askedNo, asked}
 use Rattle.book.proofs.Once as of-book
+use Rattle.runs.specs.declared.Run.{Run}
 use Rattle.marker.specs.Mark.{markNo, numberOf}
 use Rattle.marker.specs.declared.Marked.{Marked}
 use Rattle.marker.specs.declared.Marked.the-variants as marking
@@ -59,7 +60,8 @@ use Rattle.ffi.proofs.ring_book_begin.Reads as begin-c
 use Rattle.ffi.proofs.ring_marker.Reads as mark-c
 use Rattle.ffi.proofs.ring_book_next_key as next-c
 use Rattle.ffi.proofs.ring_book_take as take-c
-use Rattle.demands.specs.Promises.{Place, slice, HeadAnswers, PointAnswers, FilterAnswers, RingAnswers, PageAnswers, PackAnswers, MarkAnswers, BeginAnswers, NextAnswers, TakeAnswers}
+use Rattle.ffi.proofs.ring_leaf_run as run-c
+use Rattle.demands.specs.Promises.{Place, slice, HeadAnswers, PointAnswers, FilterAnswers, RingAnswers, PageAnswers, PackAnswers, MarkAnswers, BeginAnswers, NextAnswers, TakeAnswers, RunAnswers}
 use Rattle.demands.specs.OverC.{OpenC, PackC, PointC, FilterC, WalkC, PageC, BeginC, MarkC, NextC}
 use Rattle.demands.proofs.Once as once
 
@@ -89,13 +91,16 @@ begin-c-takes κs a = tt
 pub mark-c-takes : (κs : Lfts 0) (a : _) → mark-c.Asked κs a
 mark-c-takes κs a = tt
 
--- the two over slots: they ask nothing, and what specs/ states is their `ensures`, word for word
+-- the three over slots: they ask nothing, and what specs/ states is their `ensures`, word for word
 module _ {M : Type 1} (𝓤 : URA M) (H : Heap 𝓤) (A : Atoms 𝓤) (mem : Memory → SProp 𝓤) (run : Routine → Fun 𝓤) where
   pub next-c-takes : (κs : Lfts 1) (a : _) → next-c.clauses 𝓤 H A mem run κs a .requires tt ≡ emp 𝓤
   next-c-takes κs a = refl
 
   pub take-c-takes : (κs : Lfts 1) (a : _) → take-c.clauses 𝓤 H A mem run κs a .requires tt ≡ emp 𝓤
   take-c-takes κs a = refl
+
+  pub run-c-takes : (κs : Lfts 3) (a : _) → run-c.clauses 𝓤 H A mem run κs a .requires tt ≡ emp 𝓤
+  run-c-takes κs a = refl
 
   pub next-c-says : (κs : Lfts 1) (l : Place) (b : Book) (s : List Pair) (r : KeyAnswer)
       → next-c.ensures-1 𝓤 H κs A mem run b (slice l s) (record { entry = b; exit = b }) (record { entry = slice l s; exit = slice l s }) r ≡ fact 𝓤 (NextC b s r)
@@ -105,6 +110,12 @@ module _ {M : Type 1} (𝓤 : URA M) (H : Heap 𝓤) (A : Atoms 𝓤) (mem : Mem
       → take-c.ensures-1 𝓤 H κs A mem run b (slice l s) g (record { entry = b; exit = b }) (record { entry = slice l s; exit = slice l s′ }) (record { entry = g; exit = g }) r
       ≡ fact 𝓤 (TakeAnswers b s g r s′)
   take-c-says κs l b s g r s′ = refl
+
+  pub run-c-says : (κs : Lfts 3) (p-at q-at l : Place) (P Q : List ℤ) (v : ℕ) (s : List Pair) (r : Run) (s′ : List Pair)
+      → run-c.ensures-1 𝓤 H κs A mem run (slice p-at P) (slice q-at Q) v (slice l s)
+      (record { entry = slice p-at P; exit = slice p-at P }) (record { entry = slice q-at Q; exit = slice q-at Q }) (record { entry = v; exit = v }) (record { entry = slice l s; exit = slice l s′ }) r
+      ≡ fact 𝓤 (RunAnswers P Q v s r s′)
+  run-c-says κs p-at q-at l P Q v s r s′ = refl
 
 -- ---- what crosses is the answer of the call
 
@@ -179,7 +190,7 @@ next-c-no b slots c a = ap (λ (x : KeyAnswer). x .number) a ∙ next-number (as
 pub mark-c-no : (ax ay bx by : ℤ) (c : MarkAnswer) → MarkC ax ay bx by c → c .number ≡ markNo ax ay bx by
 mark-c-no ax ay bx by c a = ap (λ (x : MarkAnswer). x .number) (a .promised) ∙ mark-number (markedAt ax ay bx by) ∙ marked-marks ax ay bx by .number
 
--- ---- one input, one answer, one final state. (`ring_book_take`: `take-once` of Once)
+-- ---- one input, one answer, one final state. (`ring_book_take`, `ring_leaf_run`: `take-once`, `run-once` of Once)
 
 pub open-c-once : (w : List ℤ) (r r′ : Head) → OpenC w r → OpenC w r′ → r ≡ r′
 open-c-once w r r′ a b = once.head-once w r r′ (open-over w r a) (open-over w r′ b)

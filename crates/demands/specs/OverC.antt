@@ -81,6 +81,6 @@ pub record BeginC (source : Source) (r : BookAnswer) : Type 0 where
 pub record MarkC (ax ay bx by : ℤ) (r : MarkAnswer) : Type 0 where
   pub promised : mark-c.Post tt (ax, (ay, (bx, (by, tt)))) r (ax, (ay, (bx, (by, tt))))
 
--- `ring_book_next_key(b, slots)` answers r. `ring_book_take` promises what `Book::take` does: `TakeAnswers` of specs/Promises
+-- `ring_book_next_key(b, slots)` answers r. `ring_book_take` promises what `Book::take` does, `ring_leaf_run` what `runs::leaf_run` does: `TakeAnswers` and `RunAnswers` of specs/Promises
 abbrev pub NextC : Book → List Pair → KeyAnswer → Type 0
 NextC b slots r = r ≡ keyOver (asked b slots)
