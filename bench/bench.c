@@ -153,7 +153,7 @@ static int same(const twin_pair *a, const twin_pair *b, unsigned long n)
     return 1;
 }
 
-static void listing(const char *kind, int n, const packed *p, const packed *q)
+static unsigned long listing(const char *kind, int n, const packed *p, const packed *q)
 {
     long proved, twin, brute;
     unsigned long a = 0, b = 0, c = 0;
@@ -171,6 +171,40 @@ static void listing(const char *kind, int n, const packed *p, const packed *q)
     int agree = r.number == 0 && t.number == 0 && r.opened == t.opened && r.page.count == t.count && !r.page.end == !t.end;
     for (unsigned long k = 0; k < t.count && agree; k++) agree = r.page.pairs[k].q == t.pairs[k].q && r.page.pairs[k].p == t.pairs[k].p;
     tell("page", kind, n, proved, twin, agree);
+    return a;
+}
+
+/* The runs of all leaves: Q's nodes from 0 on, as long as they are leaves. */
+static unsigned long runs_proved(const packed *p, const packed *q)
+{
+    unsigned long count = 0;
+    mine_opened = 0;
+    for (size_t v = 0;; v++) {
+        RingRun r = ring_leaf_run(p->words, p->len, q->words, q->len, v, (RingPair *)mine + count, PAIRS - count);
+        if (r.number) return r.number == 19 ? count : ~0ul;
+        count += r.count; mine_opened += r.opened;
+    }
+}
+
+static unsigned long runs_twin(const packed *p, const packed *q)
+{
+    unsigned long count = 0;
+    theirs_opened = 0;
+    for (twin_size v = 0;; v++) {
+        twin_run_answer r = twin_run(p->words, p->len, q->words, q->len, v, theirs + count, PAIRS - count);
+        if (r.number) return r.number == 19 ? count : ~0ul;
+        count += r.count; theirs_opened += r.opened;
+    }
+}
+
+static void running(const char *kind, int n, const packed *p, const packed *q, unsigned long listed)
+{
+    long proved, twin;
+    unsigned long a = 0, b = 0;
+    int times = n >= 1000 ? 5 : 20;
+    BEST(times, 1, proved, a = runs_proved(p, q));
+    BEST(times, 1, twin, b = runs_twin(p, q));
+    tell("runs", kind, n, proved, twin, a == b && a == listed && mine_opened == theirs_opened && same(mine, theirs, a));
 }
 
 typedef void (*maker)(int);
@@ -191,7 +225,8 @@ int main(void)
                 packing(kinds[k], n, side ? &q : &p, 7 + 2 * (unsigned)side);
             }
             opening(kinds[k], n, &p);
-            listing(kinds[k], n, &p, &q);
+            unsigned long listed = listing(kinds[k], n, &p, &q);
+            running(kinds[k], n, &p, &q, listed);
         }
     return 0;
 }

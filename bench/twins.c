@@ -245,6 +245,76 @@ twin_page_answer twin_page(const twin_word *pw, twin_size plen, const twin_word 
     return r;
 }
 
+/* ---- one run per leaf: one walk of P for all chambers of a leaf of Q, a kept set for each */
+
+typedef struct { spot q[16]; twin_size c; u64 bits[16][16]; u64 opened; } crowd;
+
+/* Whether another chamber of the leaf, or a point kept for chamber k, drops the box (or the point z where o is null). */
+static int ruled_out(const sheet *s, const crowd *g, twin_size k, const twin_word *o, spot z)
+{
+    for (twin_size h = 0; h < g->c; h++)
+        if (h != k && (o ? drops_box(g->q[k], g->q[h], o) : dot(g->q[k], z, g->q[h]) <= 0)) return 1;
+    for (twin_size w = 0; w < 16; w++) {
+        for (u64 b = g->bits[k][w]; b; b &= b - 1) {
+            spot p = spot_at(s, 64 * w + (twin_size)__builtin_ctzll(b));
+            if (o ? drops_box(g->q[k], p, o) : dot(g->q[k], z, p) <= 0) return 1;
+        }
+    }
+    return 0;
+}
+
+static void crowd_node(const sheet *s, twin_size j, crowd *g)
+{
+    const twin_word *a = s->w + 5 * s->n + 7 * j;
+    spot none = {0, 0};
+    twin_size k = 0;
+    while (k < g->c && ruled_out(s, g, k, a + 3, none)) k++;
+    if (k == g->c) return;
+    g->opened++;
+    for (twin_word c = a[1]; c < a[1] + a[2]; c++) {
+        if (a[0]) { crowd_node(s, (twin_size)c, g); continue; }
+        twin_size i = (twin_size)s->w[3 * s->n + (twin_size)c];
+        spot z = spot_at(s, i);
+        for (k = 0; k < g->c; k++) if (!ruled_out(s, g, k, 0, z)) g->bits[k][i / 64] |= 1ull << (i % 64);
+    }
+}
+
+twin_run_answer twin_run(const twin_word *pw, twin_size plen, const twin_word *qw, twin_size qlen, twin_size v, twin_pair *slots, twin_size room)
+{
+    twin_run_answer r = {0, 0, 0}, bad = {0, 0, 0};
+    if ((bad.number = twin_open(pw, plen)) || (bad.number = twin_open(qw, qlen))) return bad;
+    sheet p = sheet_of(pw, plen), q = sheet_of(qw, qlen);
+    const twin_word *a = q.w + 5 * q.n + 7 * v;
+    bad.number = 19;
+    if (v >= q.m || a[0]) return bad;
+    crowd g = {.c = (twin_size)a[2], .opened = 0};
+    const twin_word *at = q.w + 3 * q.n + a[1];
+    for (twin_size k = 0; k < g.c; k++) g.q[k] = spot_at(&q, (twin_size)at[k]);
+    for (twin_size k = 0; k < 16; k++) for (int w = 0; w < 16; w++) g.bits[k][w] = 0;
+    if (p.m) crowd_node(&p, p.m - 1, &g);
+    r.opened = g.opened;
+    for (twin_size k = 0; k < g.c; k++)
+        for (twin_size w = 0; w < 16; w++)
+            for (u64 b = g.bits[k][w]; b; b &= b - 1) {
+                twin_size i = 64 * w + (twin_size)__builtin_ctzll(b);
+                spot z = spot_at(&p, i);
+                u64 opened = 0;
+                if (ring_node(&q, g.q[k], z, (twin_size)at[k], q.m - 1, &opened) || ring_node(&p, g.q[k], z, i, p.m - 1, &opened)) g.bits[k][w] &= ~(1ull << (i % 64));
+                else r.count++;
+                r.opened += opened;
+            }
+    bad.number = 16;
+    if (r.count > room) return bad;
+    twin_size n = 0;
+    for (twin_size k = 0; k < g.c; k++)
+        for (twin_size w = 0; w < 16; w++)
+            for (u64 b = g.bits[k][w]; b; b &= b - 1) {
+                twin_pair x = {(unsigned)q.w[3 * at[k]], (unsigned)p.w[3 * (64 * w + (twin_size)__builtin_ctzll(b))]};
+                slots[n++] = x;
+            }
+    return r;
+}
+
 twin_size twin_brute(const twin_word *pw, twin_size plen, const twin_word *qw, twin_size qlen, twin_pair *out, twin_size room)
 {
     sheet p = sheet_of(pw, plen), q = sheet_of(qw, qlen);
