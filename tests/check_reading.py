@@ -26,6 +26,11 @@ def examples():
     for key, size, pairs, end in (((0, 0), 2, [(5, 1), (5, 2)], False), ((5, 2), 2, [(6, 2)], True), ((6, 2), 2, [], True), ((5, 3), 2, [(6, 2)], True)):
         number, page, _ = reading.page_call(P, Q, key, size)
         assert (number, page.pairs, page.end) == (0, pairs, end)
+    houses = reading.Sheet(reading.pack([(1, 5, 0), (2, 6, 0)], [0, 1], 7))
+    assert reading.leaf_walk(houses, [(0, 0)]) == ([[0]], 1)
+    assert reading.leaf_walk(houses, [(0, 0), (3, 0)]) == ([[], [0]], 1)
+    assert reading.leaf_walk(houses, [(0, 0), (0, 0)]) == ([[], []], 0)
+    assert reading.leaf_walk(houses, [(0, 0), (5, 1), (5, -1), (9, 0)]) == ([[0], [0], [0], [0, 1]], 1)
     for n, m in ((0, 0), (16, 1), (17, 3), (1000, 68)):
         assert len(reading.runs_of_sixteen(n)) == m
 
@@ -40,6 +45,16 @@ def walks_mean_the_rule(p_words, q_words):
             ring = reading.is_ring_pair(p.points, q.points, j, i)
             assert ring == (answer == reading.CLEAR)
             assert i in kept or not ring
+
+
+def runs_are_the_list(p_words, q_words):
+    """The runs of all leaves together are the list, each pair once; a pair that a run's walks find is of its list, and the other way round. Answers the run
+    of each node that is a leaf."""
+    p, q = reading.Sheet(p_words), reading.Sheet(q_words)
+    runs = {leaf: reading.leaf_list(p, q, leaf) for leaf in range(q.m) if q.nodes[leaf][0] == 0}
+    assert all(reading.leaf_opened(p, q, leaf)[1] == run for leaf, run in runs.items())
+    assert sorted(pair for run in runs.values() for pair in run) == reading.ring_list(p.points, q.points)
+    return runs
 
 
 def book_of_lost_pages(rng, pairs):
@@ -64,6 +79,8 @@ def main():
     rng = Chance("reading")
     for k in range(60):
         places = towns.PLACES[k % len(towns.PLACES)]
-        walks_mean_the_rule(towns.sheet(rng, places, rng.randint(1, 24))[1], towns.sheet(rng, places, rng.randint(1, 24))[1])
+        p, q = towns.sheet(rng, places, rng.randint(1, 24))[1], towns.sheet(rng, places, rng.randint(1, 24))[1]
+        walks_mean_the_rule(p, q)
+        runs_are_the_list(p, q)
     for count in (0, 1, 16, 40):
         book_of_lost_pages(rng, sorted({(rng.randint(1, 9), rng.randint(1, 40)) for _ in range(count)}))

@@ -460,6 +460,100 @@ def page_call(p_words, q_words, key, size, pairs=None):
     return 0, page, opened
 
 
+# ---------------------------------------------------------------- one run per leaf
+
+# "For one leaf of Q, named by node number", "of its points by place"
+def leaf_chambers(q, leaf):
+    """The positions of a leaf's chambers, by place."""
+    first, count = q.nodes[leaf][1:3]
+    return [q.order[place] for place in range(first, first + count)]
+
+
+# "give the ring pairs of its points by place, then p id"
+def leaf_list(p, q, leaf):
+    """The list of a run. No walk is in it."""
+    pairs = []
+    for j in leaf_chambers(q, leaf):
+        for partner in range(p.n):
+            if is_ring_pair(p.points, q.points, j, partner):
+                pairs.append((q.points[j][0], p.points[partner][0]))
+    return pairs
+
+
+# "Follow the bulk filter and symmetric rule of source document 004 (4.1, 4.2): one walk of P serves all points of the leaf, in table order as in 01, and
+# another chamber of the leaf rules out a partner just as a kept pump house does. A box is skipped exactly when each chamber of the leaf skips it."
+def leaf_walk(sheet, chambers):
+    """Of chambers that stand at these places: the kept positions of each, ascending, and the nodes opened."""
+    kept = [[] for _ in chambers]
+    opened = 0
+
+    def ruling(c):
+        """The places of what rules out a partner of chamber c."""
+        pumps = [sheet.place(i) for i in kept[c]]
+        others = [place for k, place in enumerate(chambers) if k != c]
+        return pumps + others
+
+    def skips_box(c, box):
+        return any(all(behind(chambers[c], place, corner) for corner in corners(box)) for place in ruling(c))
+
+    def skips_point(c, x):
+        return any(behind(chambers[c], place, x) for place in ruling(c))
+
+    def visit(j):
+        nonlocal opened
+        level, first, count = sheet.nodes[j][:3]
+        box = sheet.nodes[j][3:]
+        if all(skips_box(c, box) for c in range(len(chambers))):
+            return
+        opened += 1
+        for below in range(first, first + count):
+            if level > 0:
+                visit(below)
+            else:
+                position = sheet.order[below]
+                for c in range(len(chambers)):
+                    if not skips_point(c, sheet.place(position)):
+                        kept[c].append(position)
+
+    if sheet.m > 0:
+        visit(sheet.m - 1)
+    assert opened <= sheet.m
+    return [sorted(positions) for positions in kept], opened
+
+
+# "Its count is that walk's opened nodes plus those of each kept partner's ring walk."
+def leaf_opened(p, q, leaf):
+    """The nodes opened, and the pairs found on the way."""
+    chambers = leaf_chambers(q, leaf)
+    partners, opened = leaf_walk(p, [q.place(j) for j in chambers])
+    found = []
+    for j, kept in zip(chambers, partners):
+        for partner in kept:
+            answer, more = pair_walk(p, q, j, partner)
+            opened += more
+            if answer == CLEAR:
+                found.append((q.points[j][0], p.points[partner][0]))
+    return opened, found
+
+
+# "in a lent slice of pairs; the rest of the slice isn't touched." "Refusals: 19 no such leaf, then 16 exactly when the pairs outnumber the slots", after
+# "1 to 8 for P, then for Q". A refusal "leaves lent memory [..] as they stood"
+def run_call(p_words, q_words, leaf, slots):
+    """(number, how many pairs, opened, the slots from now on) of a run."""
+    number = open_number(p_words) or open_number(q_words)
+    if number:
+        return number, 0, 0, slots
+    p, q = Sheet(p_words), Sheet(q_words)
+    if leaf >= q.m or q.nodes[leaf][0] != 0:
+        return 19, 0, 0, slots
+    run = leaf_list(p, q, leaf)
+    if len(run) > len(slots):
+        return 16, 0, 0, slots
+    opened, found = leaf_opened(p, q, leaf)
+    assert found == run
+    return 0, len(run), opened, run + slots[len(run):]
+
+
 # ---------------------------------------------------------------- the book
 
 class Book:

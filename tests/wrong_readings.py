@@ -121,8 +121,62 @@ PAGES = [
     ("page = page_of(pairs, (p.edition, q.edition), key, size)", "page = page_of(pairs, (q.edition, p.edition), key, size)"),
 ]
 
+SHEETS_OF_RUN = '''of a run."""
+    number = open_number(p_words) or open_number(q_words)'''
+NO_LEAF = "    if leaf >= q.m or q.nodes[leaf][0] != 0:\n        return 19, 0, 0, slots\n"
+OUTNUMBERED = "    if len(run) > len(slots):\n        return 16, 0, 0, slots\n"
+BOX_SKIPPED = "        if all(skips_box(c, box) for c in range(len(chambers))):\n"
+POINT_KEPT = "                    if not skips_point(c, sheet.place(position)):\n"
+RING_WALKED = "            opened += more\n            if answer == CLEAR:\n                found.append((q.points[j][0], p.points[partner][0]))\n    return opened, found\n"
+
+RUNS = [
+    # the symmetric rule: the other chambers do not rule out; not for boxes; not for points; the chamber itself rules out too
+    ("        return pumps + others\n", "        return pumps\n"),
+    ("corner in corners(box)) for place in ruling(c))", "corner in corners(box)) for place in [sheet.place(i) for i in kept[c]])"),
+    ("any(behind(chambers[c], place, x) for place in ruling(c))", "any(behind(chambers[c], place, x) for place in [sheet.place(i) for i in kept[c]])"),
+    ("enumerate(chambers) if k != c]", "enumerate(chambers)]"),
+    # the others are those of another place
+    ("enumerate(chambers) if k != c]", "enumerate(chambers) if place != chambers[c]]"),
+    # what is kept for one chamber rules out for all; is kept for all; rules out nothing
+    ("    kept = [[] for _ in chambers]\n", "    kept = [[]] * len(chambers)\n"),
+    (POINT_KEPT, "                    if not all(skips_point(k, sheet.place(position)) for k in range(len(chambers))):\n"),
+    ("        return pumps + others\n", "        return others\n"),
+    # a box is skipped when one chamber skips it; when the first does; never; not the root's; when three corners are behind; only when strictly behind
+    (BOX_SKIPPED, BOX_SKIPPED.replace("all(", "any(")),
+    (BOX_SKIPPED, BOX_SKIPPED.replace("range(len(chambers))", "range(1)")),
+    (BOX_SKIPPED, "        if False:\n"),
+    (BOX_SKIPPED, "        if j < sheet.m - 1 and all(skips_box(c, box) for c in range(len(chambers))):\n"),
+    ("any(all(behind(chambers[c], place, corner) for corner in corners(box)) for place", "any(sum(behind(chambers[c], place, corner) for corner in corners(box)) >= 3 for place"),
+    ("(x[1] - p[1]) <= 0", "(x[1] - p[1]) < 0"),
+    # not in table order; by id and not by place; by the partner's place and not its id
+    ("        for below in range(first, first + count):\n", "        for below in reversed(range(first, first + count)):\n"),
+    ("    return [q.order[place] for place in range(first, first + count)]\n", "    return sorted(q.order[place] for place in range(first, first + count))\n"),
+    ("        for partner in range(p.n):\n", "        for partner in p.order:\n"),
+    # the count: without the filter's nodes; without the ring walks'; of the ring pairs alone; with one filter walk a chamber
+    (RING_WALKED, RING_WALKED.replace("return opened,", "return opened - leaf_walk(p, [q.place(j) for j in chambers])[1],")),
+    (RING_WALKED, RING_WALKED.replace("            opened += more\n", "")),
+    (RING_WALKED, RING_WALKED.replace("            opened += more\n            if answer == CLEAR:\n", "            if answer == CLEAR:\n                opened += more\n")),
+    (RING_WALKED, RING_WALKED.replace("return opened, found", "return opened + sum(filter_walk(p, q.place(j))[1] for j in chambers[1:]), found")),
+    # the numbers: Q's before P's; Q's not at all; the leaf's before the sheets'
+    (SHEETS_OF_RUN, SHEETS_OF_RUN.replace("(p_words)", "(words)").replace("(q_words)", "(p_words)").replace("(words)", "(q_words)")),
+    (SHEETS_OF_RUN, SHEETS_OF_RUN.replace(" or open_number(q_words)", "")),
+    (SHEETS_OF_RUN, SHEETS_OF_RUN + "\n    if leaf >= 400:\n        return 19, 0, 0, slots"),
+    # 19 only past the table; not for its length; 16 before it
+    (NO_LEAF, NO_LEAF.replace(" or q.nodes[leaf][0] != 0", "")),
+    (NO_LEAF, NO_LEAF.replace("leaf >= q.m or", "leaf > q.m or")),
+    (NO_LEAF, NO_LEAF.replace("return 19,", "return 19 if slots else 16,")),
+    # 16 also when exactly enough; only when two are too many; where there is no slot at all
+    (OUTNUMBERED, OUTNUMBERED.replace(">", ">=")),
+    (OUTNUMBERED, OUTNUMBERED.replace("len(slots):", "len(slots) + 1:")),
+    (OUTNUMBERED, OUTNUMBERED.replace("len(slots):", "len(slots) or not slots:")),
+    # the slots: those past the pairs cleared; what fits stored although refused; the pairs at the end
+    ("opened, run + slots[len(run):]", "opened, run + [(0, 0)] * (len(slots) - len(run))"),
+    (OUTNUMBERED, OUTNUMBERED.replace("0, 0, slots", "0, 0, run[:len(slots)]")),
+    ("opened, run + slots[len(run):]", "opened, slots[:len(slots) - len(run)] + run"),
+]
+
 STEP = 100
-WRONG = {"try_sheets": SHEETS, "try_walks": WALKS, "try_pages": PAGES}
+WRONG = {"try_sheets": SHEETS, "try_walks": WALKS, "try_pages": PAGES, "try_runs": RUNS}
 
 
 def misread(old, new):

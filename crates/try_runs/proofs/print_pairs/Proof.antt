@@ -1,0 +1,50 @@
+-- `try_runs::print_pairs` is safe and ends. Assumes nothing.
+use Prim.Native.Nat.{_-_, _≤_}
+use borrow.Author.Needs.{needs}
+use Rattle.try_runs.proofs.print_pairs.Statement.{statement}
+use Rattle.try_runs.proofs.print_pairs.Tie as tie
+
+abbrev Inv-loop : tie.InvT-loop
+Inv-loop count slots k₀ k = k ≤ 256
+
+abbrev μ-loop : tie.MeasureT-loop
+μ-loop count slots k₀ k = 256 - k
+
+loop-holds : tie.Need-loop-holds Inv-loop μ-loop
+loop-holds c = search needs
+
+mul-print-pair : tie.Need-mul-print-pair Inv-loop μ-loop
+mul-print-pair c = search needs
+
+array-copy-out-print-pair : tie.Need-array-copy-out-print-pair Inv-loop μ-loop
+array-copy-out-print-pair c = search needs
+
+print-pair-requires : tie.Need-print-pair-requires Inv-loop μ-loop
+print-pair-requires c κs = search needs
+
+add-k : tie.Need-add-k Inv-loop μ-loop
+add-k c = search needs
+
+loop-less : tie.Need-loop-less Inv-loop μ-loop
+loop-less c = search needs
+
+loop-again : tie.Need-loop-again Inv-loop μ-loop
+loop-again c = search needs
+
+returns : tie.Need-returns Inv-loop μ-loop
+returns c = search needs
+
+pub print-pairs-spec : {M : Type 1} → statement M
+print-pairs-spec =
+    tie.close
+    (tie.spec
+    Inv-loop
+    μ-loop
+    loop-holds
+    mul-print-pair
+    array-copy-out-print-pair
+    print-pair-requires
+    add-k
+    loop-less
+    loop-again
+    returns)
