@@ -1,11 +1,11 @@
 #!/usr/bin/env python3
-"""The cases of crates/try_runs: pairs of sheets with runs of leaves of Q over them: pairs, their number, nodes opened, slots touched.
+"""The cases of crates/try_runs: pairs of sheets with runs of leaves of Q over them: pairs, their number, nodes opened, slots not touched.
 
     make_runs.py          writes crates/try_runs/stdin and stdout
 
 The input, in words: 1, the lengths of P's and Q's sheet, the number of runs, P's words, Q's words, and for each run the node and how many of 256 slots are
 lent; 0 ends it. A negative word stands for the largest number that a call can be given. Each slot holds a mark before the call. A line has the node and the
-slots lent, the number of refusal, the number of pairs, the nodes opened, how many slots past the pairs no longer hold their mark, and the pairs.
+slots lent, the number of refusal, the number of pairs, the nodes opened, how many of the 256 slots still hold their mark, and the pairs.
 """
 import collections
 import math
@@ -28,9 +28,8 @@ def number(word):
 
 def run_line(rules, p, q, leaf, lent):
     refused, count, opened, slots = rules.run_call(p, q, leaf, MARKS[:lent])
-    slots = slots + MARKS[lent:]
-    touched = sum(slot != mark for slot, mark in zip(slots[count:], MARKS[count:]))
-    fields = [refused, count, opened, touched] + [word for pair in slots[:count] for word in pair]
+    marked = sum(slot == mark for slot, mark in zip(slots + MARKS[lent:], MARKS))
+    fields = [refused, count, opened, marked] + [word for pair in slots[:count] for word in pair]
     return "run %d %d: %s" % (leaf, lent, " ".join(map(str, fields)))
 
 
@@ -44,8 +43,8 @@ class Runs:
         words = [1, len(p), len(q), len(requests)] + p + q + [word for request in requests for word in request]
         lines = self.cases.add(label, words, [(run_line, p, q, number(leaf), number(lent)) for leaf, lent in requests])
         for (leaf, lent), line in zip(requests, lines):
-            refused, count, _, touched = map(int, line.split(": ")[1].split()[:4])
-            assert touched == 0
+            refused, count, _, marked = map(int, line.split(": ")[1].split()[:4])
+            assert marked == SLOTS - count
             self.seen[refused] += 1
             if refused == 0:
                 chambers = reading.Sheet(q).nodes[leaf][2]

@@ -41,15 +41,13 @@ fn is_marked(v: Pair, k: usize) -> bool
     (v.q == mark.q) & (v.p == mark.p)
 }
 
-// How many slots from `count` on no longer hold their mark.
-fn touched(slots: [Pair; 256], count: usize) -> u64 {
+// How many slots hold their mark.
+fn marks(slots: [Pair; 256]) -> u64 {
     let mut n: u64 = 0;
     let mut k: usize = 0;
     while k < 256 {
-        if count <= k {
-            if !is_marked(slots[k], k) {
-                n = std::num::wrapping_add_u64(n, 1);
-            }
+        if is_marked(slots[k], k) {
+            n = std::num::wrapping_add_u64(n, 1);
         }
         k += 1;
     }
@@ -86,7 +84,7 @@ fn run_case(p: &[i32], q: &[i32]) {
     print(run.number as u64);
     print(run.count as u64);
     print(run.opened);
-    print(touched(slots, run.count));
+    print(marks(slots));
     print_pairs(slots, run.count);
     end_line();
 }

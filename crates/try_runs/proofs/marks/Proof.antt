@@ -1,14 +1,14 @@
--- `try_runs::touched` is safe and ends. Assumes nothing.
+-- `try_runs::marks` is safe and ends. Assumes nothing.
 use Prim.Native.Nat.{_-_, _≤_}
 use borrow.Author.Needs.{needs}
-use Rattle.try_runs.proofs.touched.Statement.{statement}
-use Rattle.try_runs.proofs.touched.Tie as tie
+use Rattle.try_runs.proofs.marks.Statement.{statement}
+use Rattle.try_runs.proofs.marks.Tie as tie
 
 abbrev Inv-loop : tie.InvT-loop
-Inv-loop count slots n₀ k₀ n k = k ≤ 256
+Inv-loop slots n₀ k₀ n k = k ≤ 256
 
 abbrev μ-loop : tie.MeasureT-loop
-μ-loop count slots n₀ k₀ n k = 256 - k
+μ-loop slots n₀ k₀ n k = 256 - k
 
 loop-holds : tie.Need-loop-holds Inv-loop μ-loop
 loop-holds c = search needs
@@ -37,8 +37,8 @@ loop-again c = search needs
 returns : tie.Need-returns Inv-loop μ-loop
 returns c = search needs
 
-pub touched-spec : {M : Type 1} → statement M
-touched-spec =
+pub marks-spec : {M : Type 1} → statement M
+marks-spec =
     tie.close
     (tie.spec
     Inv-loop
