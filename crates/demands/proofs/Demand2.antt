@@ -10,7 +10,7 @@
 --     list-exact         two records are listed exactly if they are a ring pair.  list-only, list-once: nothing else is, and nothing twice
 --     list-by-points     sheets with the same points give the same list, and the same pairs, number and end mark of every page
 --     opened-at-most-m   one walk of one sheet opens at most its nodes
---     run-pairs          a leaf's run stores the ring pairs of its chambers, by place, then p id, and touches no other slot.  run-exact, run-only: these and no others
+--     run-pairs          a leaf's run stores the ring pairs of its chambers, by place, then p id, and touches no other slot.  run-exact, run-only: these and no others.  run-order: in this order
 --     run-opened         the count beside it is that of the defined walks.  run-at-most-m: its walk of P opens at most the nodes of P
 --     runs-list          a pair is listed exactly if the run of one leaf has it, and then no other leaf's has it.  stored-once: no run has it twice
 --     return-trip        pack, then open, gives the same points back
@@ -26,7 +26,7 @@ use lib.ListN.{length, getD, take, drop}
 use borrow.Author.Tests.{eq-eqb}
 use Rattle.words.specs.Range.{lastId}
 use Rattle.words.proofs.TabLaws.{at-tab}
-use Rattle.plane.specs.Point.{Point, pointAt}
+use Rattle.plane.specs.Point.{Point, pointAt, idAt}
 use Rattle.sheet.specs.Limits.{form1}
 use Rattle.sheet.specs.Layout.{points, nodes, edition}
 use Rattle.sheet.specs.Nodes.{levelOf, countOf}
@@ -40,6 +40,7 @@ use Rattle.list.specs.declared.Pair.{Pair}
 use Rattle.list.specs.declared.Page.{Page}
 use Rattle.list.specs.Pairs.{start, none}
 use Rattle.list.specs.Pages.{pageOf, followed}
+use Rattle.list.specs.Rows.{Rising}
 use Rattle.list.specs.RingList.{ringPair, pairAt, ringList}
 use Rattle.list.proofs.RowLaws.{Placed, ring-iff, ring-only, ring-once}
 use Rattle.walk.specs.declared.Blocker.{Blocker}
@@ -71,7 +72,7 @@ use Rattle.pack.specs.Claims.{Returned}
 use Rattle.pack.proofs.ReturnTrip as of-pack
 use Rattle.leaf.specs.LeafWalk.{chamberAt, chamberSpot, leafKept}
 use Rattle.leaf.specs.LeafRun.{leafList, leafOpened}
-use Rattle.leaf.proofs.LeafLaws.{chamber-in, leaf-opened}
+use Rattle.leaf.proofs.LeafLaws.{chamber-in, leaf-few, leaf-opened}
 use Rattle.leaf.proofs.RunLaws as of-leaf
 use Rattle.runs.specs.declared.Run.{Run}
 use Rattle.runs.specs.Run.{leafNo, runNo, runGiven, runAnswer}
@@ -79,6 +80,7 @@ use Rattle.runs.proofs.DecideLaws.{leaf-here}
 use Rattle.runs.proofs.Meaning as of-run
 use Rattle.runs.proofs.Once as of-runs
 use Rattle.demands.specs.Promises.{OpenAnswers, PointAnswers, FilterAnswers, RingAnswers, PageAnswers, PackAnswers, RunAnswers}
+use Rattle.demands.proofs.ByRow.{InTurn, in-turn}
 
 -- the words are a sheet: "every well-formed sheet"
 abbrev pub WellFormed : List ℤ → Type 0
@@ -280,6 +282,16 @@ module _ (P Q : List ℤ) (p-opens : WellFormed P) (q-opens : WellFormed Q) wher
       stored-once b c h k e =
           of-leaf.run-once P Q (facts P p-opens) (facts Q q-opens) v (o .here) (o .level) b c h (omega (arith, k, count-is))
           (subst (λ (l : List Pair). getD l b none ≡ getD l c none) stored e)
+
+      -- "by place, then p id": of two stored pairs, the first is of a chamber at an earlier place of the leaf, or of the same chamber and has the lower p id
+      pub run-order : (b c : ℕ) → b < c → c < r .count → InTurn (λ k. idAt (pointsOf Q) (chamberAt Q v k)) (countOf Q (points Q) v) (getD (take (r .count) slots′) b none) (getD (take (r .count) slots′) c none)
+      unfolding leafList
+      run-order b c h k =
+          subst (λ (l : List Pair). InTurn (λ k. idAt (pointsOf Q) (chamberAt Q v k)) (countOf Q (points Q) v) (getD l b none) (getD l c none)) (sym stored)
+          (in-turn (λ k i. ringPair (pointsOf P) (pointsOf Q) (chamberAt Q v k) i) (λ k. idAt (pointsOf Q) (chamberAt Q v k)) (idAt (pointsOf P)) (points P) (countOf Q (points Q) v)
+          (omega (arith, leaf-few Q (facts Q q-opens) v (o .here) (o .level)))
+          (subst (Rising (idAt (pointsOf P))) (length-points P) (of-join.points-rise (facts P p-opens)))
+          b c h (omega (arith, k, count-is)))
 
       -- "Its count is that walk's opened nodes plus those of each kept partner's ring walk", the kept sets on sixteen words each
       pub run-opened : r .opened ≡ leafOpened 16 P Q v
