@@ -524,7 +524,7 @@ static void try_leaf(void) {
     static RingPair pairs[16000], lent[304], lent_was[304];
     size_t v, i, count = 0;
     uint32_t number = two_sheets(60, &v, &i);
-    if (!number && below(8)) v = below(nodes_of(&Q) + 1);
+    if (!number && below(8)) v = below((count_of(&Q) + 15) / 16 + 1);
     if (!number && (v >= nodes_of(&Q) || node_of(&Q, v)[0])) number = 19;
     if (!number) count = run_of(v, pairs);
     size_t len = below(2) || count > 300 ? below(301) : below(2) ? count : below(count + 1);
