@@ -262,31 +262,45 @@ def corners(box):
     return [(xmin, ymin), (xmin, ymax), (xmax, ymin), (xmax, ymax)]
 
 
-# "Filter walk for q over P: from the root, depth first, in table order, kept set empty at the start."
-def filter_walk(sheet, q):
-    """The kept positions, ascending, and the nodes opened."""
-    kept = []
+# "from the root, depth first, in table order"
+def walk_down(sheet, skipped, take):
+    """Opens each node whose box is not skipped, and takes each position that stands in an opened leaf. The nodes opened."""
     opened = 0
 
     def visit(j):
         nonlocal opened
         level, first, count = sheet.nodes[j][:3]
-        box = sheet.nodes[j][3:]
-        for i in kept:
-            if all(behind(q, sheet.place(i), corner) for corner in corners(box)):
-                return
+        if skipped(j, sheet.nodes[j][3:]):
+            return
         opened += 1
-        for k in range(first, first + count):
+        for below in range(first, first + count):
             if level > 0:
-                visit(k)
+                visit(below)
             else:
-                position = sheet.order[k]
-                if not any(behind(q, sheet.place(i), sheet.place(position)) for i in kept):
-                    kept.append(position)
+                take(sheet.order[below])
 
     if sheet.m > 0:
         visit(sheet.m - 1)
     assert opened <= sheet.m
+    return opened
+
+
+# "Filter walk for q over P: from the root, depth first, in table order, kept set empty at the start."
+def filter_walk(sheet, q):
+    """The kept positions, ascending, and the nodes opened."""
+    kept = []
+
+    def skipped(j, box):
+        for i in kept:
+            if all(behind(q, sheet.place(i), corner) for corner in corners(box)):
+                return True
+        return False
+
+    def take(position):
+        if not any(behind(q, sheet.place(i), sheet.place(position)) for i in kept):
+            kept.append(position)
+
+    opened = walk_down(sheet, skipped, take)
     return sorted(kept), opened
 
 
@@ -485,7 +499,6 @@ def leaf_list(p, q, leaf):
 def leaf_walk(sheet, chambers):
     """Of chambers that stand at these places: the kept positions of each, ascending, and the nodes opened."""
     kept = [[] for _ in chambers]
-    opened = 0
 
     def ruling(c):
         """The places of what rules out a partner of chamber c."""
@@ -499,25 +512,15 @@ def leaf_walk(sheet, chambers):
     def skips_point(c, x):
         return any(behind(chambers[c], place, x) for place in ruling(c))
 
-    def visit(j):
-        nonlocal opened
-        level, first, count = sheet.nodes[j][:3]
-        box = sheet.nodes[j][3:]
-        if all(skips_box(c, box) for c in range(len(chambers))):
-            return
-        opened += 1
-        for below in range(first, first + count):
-            if level > 0:
-                visit(below)
-            else:
-                position = sheet.order[below]
-                for c in range(len(chambers)):
-                    if not skips_point(c, sheet.place(position)):
-                        kept[c].append(position)
+    def skipped(j, box):
+        return all(skips_box(c, box) for c in range(len(chambers)))
 
-    if sheet.m > 0:
-        visit(sheet.m - 1)
-    assert opened <= sheet.m
+    def take(position):
+        for c in range(len(chambers)):
+            if not skips_point(c, sheet.place(position)):
+                kept[c].append(position)
+
+    opened = walk_down(sheet, skipped, take)
     return [sorted(positions) for positions in kept], opened
 
 

@@ -125,8 +125,8 @@ SHEETS_OF_RUN = '''of a run."""
     number = open_number(p_words) or open_number(q_words)'''
 NO_LEAF = "    if leaf >= q.m or q.nodes[leaf][0] != 0:\n        return 19, 0, 0, slots\n"
 OUTNUMBERED = "    if len(run) > len(slots):\n        return 16, 0, 0, slots\n"
-BOX_SKIPPED = "        if all(skips_box(c, box) for c in range(len(chambers))):\n"
-POINT_KEPT = "                    if not skips_point(c, sheet.place(position)):\n"
+BOX_SKIPPED = "        return all(skips_box(c, box) for c in range(len(chambers)))\n"
+POINT_KEPT = "            if not skips_point(c, sheet.place(position)):\n"
 RING_WALKED = "            opened += more\n            if answer == CLEAR:\n                found.append((q.points[j][0], p.points[partner][0]))\n    return opened, found\n"
 
 RUNS = [
@@ -139,13 +139,13 @@ RUNS = [
     ("enumerate(chambers) if k != c]", "enumerate(chambers) if place != chambers[c]]"),
     # what is kept for one chamber rules out for all; is kept for all; rules out nothing
     ("    kept = [[] for _ in chambers]\n", "    kept = [[]] * len(chambers)\n"),
-    (POINT_KEPT, "                    if not all(skips_point(k, sheet.place(position)) for k in range(len(chambers))):\n"),
+    (POINT_KEPT, "            if not all(skips_point(k, sheet.place(position)) for k in range(len(chambers))):\n"),
     ("        return pumps + others\n", "        return others\n"),
     # a box is skipped when one chamber skips it; when the first does; never; not the root's; when three corners are behind; only when strictly behind
     (BOX_SKIPPED, BOX_SKIPPED.replace("all(", "any(")),
     (BOX_SKIPPED, BOX_SKIPPED.replace("range(len(chambers))", "range(1)")),
-    (BOX_SKIPPED, "        if False:\n"),
-    (BOX_SKIPPED, "        if j < sheet.m - 1 and all(skips_box(c, box) for c in range(len(chambers))):\n"),
+    (BOX_SKIPPED, "        return False\n"),
+    (BOX_SKIPPED, "        return j < sheet.m - 1 and all(skips_box(c, box) for c in range(len(chambers)))\n"),
     ("any(all(behind(chambers[c], place, corner) for corner in corners(box)) for place", "any(sum(behind(chambers[c], place, corner) for corner in corners(box)) >= 3 for place"),
     ("(x[1] - p[1]) <= 0", "(x[1] - p[1]) < 0"),
     # not in table order; by id and not by place; by the partner's place and not its id

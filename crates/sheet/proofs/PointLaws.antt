@@ -17,18 +17,6 @@ use Rattle.words.specs.Range.{idWord, coordWord}
 use Rattle.sheet.specs.declared.Limits.{Limits}
 use Rattle.sheet.specs.Points.{idAt, xAt, yAt, fieldsOk, risesOk, pointOk, idBefore, pointIs}
 
--- the lower end of a range from -c to c
-pub low-end : (c : ℤ) → pos 0 -ℤ c ≡ negℤ c
-low-end c = Neq (pos 0 -ℤ c) (negℤ c) (omega (arith, diff (pos 0) c, pp-neg c, nn-neg c))
-
-pub low-fits : (c : ℤ) → SFits w32 c → ltZ c (pos 0) ≡ false → SFits w32 (pos 0 -ℤ c)
-low-fits c f g = subst (SFits w32) (sym (low-end c)) (go c f g)
-  where
-    go : (c : ℤ) → SFits w32 c → ltZ c (pos 0) ≡ false → SFits w32 (negℤ c)
-    go (pos zero) f g = f
-    go (pos (suc k)) f g = record { sfits = omega (arith, f .sfits) }
-    go (negsuc k) f g = absurd (true≢false g)
-
 -- an id is above 0
 above-none : (z : ℤ) (b c : Bool) → (idWord z && b && c && before (pos 0) z) ≡ (idWord z && b && c && true)
 unfolding idWord within before

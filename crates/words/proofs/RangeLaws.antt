@@ -5,13 +5,13 @@ use mathlib.Core.Bool.{Bool, true, false, not, _&&_, true≢false}
 use Prim.Native.Nat.{ℕ, zero, suc, _+_, _≤_, _<_}
 use native.Mathlib.Omega.{arith}
 use lib.Dec.{T, leb, ltb}
-use lib.IntN.{ℤ, pos, negsuc, negℤ, natAbs, _+ℤ_}
+use lib.IntN.{ℤ, pos, negsuc, negℤ, natAbs, _-ℤ_}
 use lib.Signed.{leZ, ltZ, nonNeg, mag, _≤ℤ_}
 use mir.Syntax.{w32}
 use mir.Val.{Fits, SFits}
 use borrow.Author.Tests.{leb-true, le-leb, ltb-true}
 use Rattle.integers.specs.Bools.{and-left, and-right, and-both, test-iff}
-use Rattle.integers.specs.Order.{zl, pp, nn, sum, pp-neg, nn-neg, Within, in-between}
+use Rattle.integers.specs.Order.{zl, pp, nn, diff, Neq, pp-neg, nn-neg, Within, in-between}
 use Rattle.words.specs.Word.{within, num}
 use Rattle.words.specs.Range.{lastId, lastEdition, idWord, editionWord, coordWord, idOk, editionOk}
 
@@ -94,7 +94,7 @@ unfolding within
 upto-abs (pos n) y k e t = rw (e, le-leb 0 n (omega arith))
 upto-abs (negsuc n) y k e t = let t′ : true ≡ false = rw e at t in absurd (true≢false t′)
 
--- from -c to c, by the signs of both
+-- from -c to c: none, where c is negative
 pub range-none : (c x : ℤ) → ltZ c (pos 0) ≡ true → false ≡ coordWord c x
 unfolding coordWord within
 range-none c x h = test-iff _ _ (λ e. absurd (true≢false (sym e))) (λ e. absurd (no (and-left (leZ (negℤ c) x) (leZ x c) e) (and-right (leZ (negℤ c) x) (leZ x c) e)))
@@ -102,32 +102,14 @@ range-none c x h = test-iff _ _ (λ e. absurd (true≢false (sym e))) (λ e. abs
     no : leZ (negℤ c) x ≡ true → leZ x c ≡ true → ⊥
     no s t = omega (zl, pp-neg c, nn-neg c)
 
-pub range-low : (c x : ℤ) → ltZ c (pos 0) ≡ false → ltZ x (pos 0) ≡ true → leZ (pos 0) (x +ℤ c) ≡ coordWord c x
-unfolding coordWord within
-range-low c x g h = test-iff _ _ (λ e. and-both (leZ (negℤ c) x) (leZ x c) (low e) (high e)) (λ e. back (and-left (leZ (negℤ c) x) (leZ x c) e))
+-- the lower end of a range from -c to c
+pub low-end : (c : ℤ) → pos 0 -ℤ c ≡ negℤ c
+low-end c = Neq (pos 0 -ℤ c) (negℤ c) (omega (arith, diff (pos 0) c, pp-neg c, nn-neg c))
+
+pub low-fits : (c : ℤ) → SFits w32 c → ltZ c (pos 0) ≡ false → SFits w32 (pos 0 -ℤ c)
+low-fits c f g = subst (SFits w32) (sym (low-end c)) (go c f g)
   where
-    low : leZ (pos 0) (x +ℤ c) ≡ true → leZ (negℤ c) x ≡ true
-    low e = omega (zl, pp-neg c, nn-neg c, sum x c)
-
-    high : leZ (pos 0) (x +ℤ c) ≡ true → leZ x c ≡ true
-    high e = omega (zl, sum x c)
-
-    back : leZ (negℤ c) x ≡ true → leZ (pos 0) (x +ℤ c) ≡ true
-    back e = omega (zl, pp-neg c, nn-neg c, sum x c)
-
-pub range-high : (c x : ℤ) → ltZ c (pos 0) ≡ false → ltZ x (pos 0) ≡ false → leZ x c ≡ coordWord c x
-unfolding coordWord within
-range-high c x g h = test-iff _ _ (λ e. and-both (leZ (negℤ c) x) (leZ x c) low e) (λ e. and-right (leZ (negℤ c) x) (leZ x c) e)
-  where
-    low : leZ (negℤ c) x ≡ true
-    low = omega (zl, pp-neg c, nn-neg c)
-
--- the sum of a negative word and one that is not fits
-pub range-fits : (c x : ℤ) → SFits w32 c → SFits w32 x → ltZ c (pos 0) ≡ false → ltZ x (pos 0) ≡ true → SFits w32 (x +ℤ c)
-range-fits (pos c) (pos x) f g h k = let l = ltb-true x 0 k in absurd (omega arith)
-range-fits (pos c) (negsuc x) f g h k = go (negsuc x +ℤ pos c) (sum (negsuc x) (pos c))
-  where
-    go : (z : ℤ) → pp z + suc x + 0 ≡ nn z + 0 + c → SFits w32 z
-    go (pos z) e = record { sfits = omega (arith, f .sfits) }
-    go (negsuc z) e = record { sfits = omega (arith, g .sfits) }
-range-fits (negsuc c) x f g h k = absurd (true≢false h)
+    go : (c : ℤ) → SFits w32 c → ltZ c (pos 0) ≡ false → SFits w32 (negℤ c)
+    go (pos zero) f g = f
+    go (pos (suc k)) f g = record { sfits = omega (arith, f .sfits) }
+    go (negsuc k) f g = absurd (true≢false g)
