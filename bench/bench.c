@@ -126,7 +126,7 @@ static unsigned long list_proved(const packed *p, const packed *q, unsigned long
         RingPaged r = ring_page(p->words, p->len, q->words, q->len, key, size);
         if (r.number) return ~0ul;
         mine_opened += r.opened;
-        for (unsigned long k = 0; k < r.page.count; k++) { mine[count].q = r.page.pairs[k].q; mine[count].p = r.page.pairs[k].p; count++; }
+        for (unsigned long k = 0; k < r.page.count; k++) { mine[count].q = r.page.pairs[k].q; mine[count].p = r.page.pairs[k].p; mine[count].size = r.page.pairs[k].size; count++; }
         if (r.page.end) return count;
         key.q = mine[count - 1].q; key.p = mine[count - 1].p;
     }
@@ -134,7 +134,7 @@ static unsigned long list_proved(const packed *p, const packed *q, unsigned long
 
 static unsigned long list_twin(const packed *p, const packed *q, unsigned long size)
 {
-    twin_pair key = {0, 0};
+    twin_key key = {0, 0};
     unsigned long count = 0;
     theirs_opened = 0;
     for (;;) {
@@ -143,13 +143,13 @@ static unsigned long list_twin(const packed *p, const packed *q, unsigned long s
         theirs_opened += r.opened;
         for (unsigned long k = 0; k < r.count; k++) theirs[count++] = r.pairs[k];
         if (r.end) return count;
-        key = theirs[count - 1];
+        key.q = theirs[count - 1].q; key.p = theirs[count - 1].p;
     }
 }
 
 static int same(const twin_pair *a, const twin_pair *b, unsigned long n)
 {
-    for (unsigned long i = 0; i < n; i++) if (a[i].q != b[i].q || a[i].p != b[i].p) return 0;
+    for (unsigned long i = 0; i < n; i++) if (a[i].q != b[i].q || a[i].p != b[i].p || a[i].size != b[i].size) return 0;
     return 1;
 }
 
@@ -164,12 +164,12 @@ static unsigned long listing(const char *kind, int n, const packed *p, const pac
     BEST(n >= 1000 ? 3 : runs, 1, brute, c = twin_brute(p->words, p->len, q->words, q->len, brutes, PAIRS));
     tell("list-brute", kind, n, proved, brute, a == c && same(mine, brutes, a));
     RingKey key = {a ? mine[a / 2].q : 0, a ? mine[a / 2].p : 0};
-    twin_pair twin_key = {key.q, key.p};
+    twin_key asked = {key.q, key.p};
     static RingPaged r; static twin_page_answer t;
     BEST(10, 5, proved, r = ring_page(p->words, p->len, q->words, q->len, key, 16));
-    BEST(10, 5, twin, t = twin_page(p->words, p->len, q->words, q->len, twin_key, 16));
+    BEST(10, 5, twin, t = twin_page(p->words, p->len, q->words, q->len, asked, 16));
     int agree = r.number == 0 && t.number == 0 && r.opened == t.opened && r.page.count == t.count && !r.page.end == !t.end;
-    for (unsigned long k = 0; k < t.count && agree; k++) agree = r.page.pairs[k].q == t.pairs[k].q && r.page.pairs[k].p == t.pairs[k].p;
+    for (unsigned long k = 0; k < t.count && agree; k++) agree = r.page.pairs[k].q == t.pairs[k].q && r.page.pairs[k].p == t.pairs[k].p && r.page.pairs[k].size == t.pairs[k].size;
     tell("page", kind, n, proved, twin, agree);
     return a;
 }

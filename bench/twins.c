@@ -213,7 +213,7 @@ static sheet sheet_of(const twin_word *w, twin_size len)
     return s;
 }
 
-twin_page_answer twin_page(const twin_word *pw, twin_size plen, const twin_word *qw, twin_size qlen, twin_pair key, twin_size size)
+twin_page_answer twin_page(const twin_word *pw, twin_size plen, const twin_word *qw, twin_size qlen, twin_key key, twin_size size)
 {
     twin_page_answer r = {0};
     if ((r.number = twin_open(pw, plen)) || (r.number = twin_open(qw, qlen))) return r;
@@ -236,7 +236,7 @@ twin_page_answer twin_page(const twin_word *pw, twin_size plen, const twin_word 
                 r.opened += opened;
                 if (hit) continue;
                 if (r.count == size) return r;
-                twin_pair v = {qid, pid};
+                twin_pair v = {qid, pid, (u64)dot(a, a, z)};
                 r.pairs[r.count++] = v;
             }
         }
@@ -309,7 +309,8 @@ twin_run_answer twin_run(const twin_word *pw, twin_size plen, const twin_word *q
     for (twin_size k = 0; k < g.c; k++)
         for (twin_size w = 0; w < 16; w++)
             for (u64 b = g.bits[k][w]; b; b &= b - 1) {
-                twin_pair x = {(unsigned)q.w[3 * at[k]], (unsigned)p.w[3 * (64 * w + (twin_size)__builtin_ctzll(b))]};
+                twin_size i = 64 * w + (twin_size)__builtin_ctzll(b);
+                twin_pair x = {(unsigned)q.w[3 * at[k]], (unsigned)p.w[3 * i], (u64)dot(g.q[k], g.q[k], spot_at(&p, i))};
                 slots[n++] = x;
             }
     return r;
@@ -327,7 +328,7 @@ twin_size twin_brute(const twin_word *pw, twin_size plen, const twin_word *qw, t
             for (twin_size k = 0; k < q.n && !hit; k++) hit = k != j && dot(a, b, spot_at(&q, k)) <= 0;
             for (twin_size k = 0; k < p.n && !hit; k++) hit = k != i && dot(a, b, spot_at(&p, k)) <= 0;
             if (hit) continue;
-            if (count < room) { out[count].q = (unsigned)q.w[3 * j]; out[count].p = (unsigned)p.w[3 * i]; }
+            if (count < room) { out[count].q = (unsigned)q.w[3 * j]; out[count].p = (unsigned)p.w[3 * i]; out[count].size = (u64)dot(a, a, b); }
             count++;
         }
     }

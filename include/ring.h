@@ -37,10 +37,12 @@ typedef struct RingKey {
     uint32_t p;
 } RingKey;
 
-/* A ring pair: a chamber's id and a pump house's. */
+/* A ring pair: a chamber's id and a pump house's, and its size, the squared distance of the two, which is the squared diameter of the circle on them: at most
+ * 8,000,000,000,000. */
 typedef struct RingPair {
     uint32_t q;
     uint32_t p;
+    uint64_t size;
 } RingPair;
 
 /* What list a page or a book is of: the editions of both sheets. */
@@ -49,7 +51,7 @@ typedef struct RingSource {
     uint32_t q_edition;
 } RingSource;
 
-/* One page of a list. Of `pairs` the first `count` are used, the others are (0, 0). `end` is set exactly when no pair follows the last one shown, or
+/* One page of a list. Of `pairs` the first `count` are used, the others are three zeros. `end` is set exactly when no pair follows the last one shown, or
  * follows the key if none is shown. */
 typedef struct RingPage {
     RingSource source;
@@ -202,7 +204,8 @@ RingNext ring_book_next_key(RingBook book, const RingPair *slots, size_t slots_l
  * Input    the book, its slots, and a page.
  * Answer   0 and the book from now on. Slots that were held before, and slots past those held after, are not written.
  * Refused  11 the book holds more than there are slots; 12 it is closed; 13 the page is of other editions; 14 its key is not the book's next key;
- *          15 it has over 16 pairs, an id outside 1 to 2,000,000,000, pairs not ascending strictly after the key, or no pair and no end mark;
+ *          15 it has over 16 pairs, an id outside 1 to 2,000,000,000, a size over 8,000,000,000,000, pairs not ascending strictly after the key, or no pair
+ *          and no end mark;
  *          16 it has more pairs than slots are left. In this order, and no slot is written. */
 RingTaken ring_book_take(RingBook book, RingPair *slots, size_t slots_len, RingPage page);
 
@@ -234,7 +237,7 @@ RingRun ring_leaf_run(const int32_t *p, size_t p_len, const int32_t *q, size_t q
  *   12  book closed
  *   13  page of other editions
  *   14  page key is not the book's next key
- *   15  over 16 pairs; an id outside 1 to 2,000,000,000; pairs not ascending strictly after the key; no pair and no end mark
+ *   15  over 16 pairs; an id outside 1 to 2,000,000,000; a size over 8,000,000,000,000; pairs not ascending strictly after the key; no pair and no end mark
  *   16  more pairs than slots left
  *   17  lent output not exactly the sheet's length
  *   18  point words not 3n, or order list not n long

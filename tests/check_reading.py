@@ -1,4 +1,6 @@
 """The reading held to the rules' own examples, and to itself: walks against brute force, pages against the list, a book that loses pages."""
+import types
+
 import reading
 import towns
 from chance import Chance
@@ -22,8 +24,8 @@ def examples():
     assert not reading.side_inside(a, b, (2, 2, 5, 5)) and not reading.far(a, b, (2, 2, 5, 5))
     assert reading.far(a, b, (4, 1, 6, 6))
     assert reading.open_number(P) == 0 and reading.open_number(Q) == 0
-    assert reading.ring_list(reading.Sheet(P).points, reading.Sheet(Q).points) == [(5, 1), (5, 2), (6, 2)]
-    for key, size, pairs, end in (((0, 0), 2, [(5, 1), (5, 2)], False), ((5, 2), 2, [(6, 2)], True), ((6, 2), 2, [], True), ((5, 3), 2, [(6, 2)], True)):
+    assert reading.ring_list(reading.Sheet(P).points, reading.Sheet(Q).points) == [(5, 1, 16), (5, 2, 36), (6, 2, 37)]
+    for key, size, pairs, end in (((0, 0), 2, [(5, 1, 16), (5, 2, 36)], False), ((5, 2), 2, [(6, 2, 37)], True), ((6, 2), 2, [], True), ((5, 3), 2, [(6, 2, 37)], True)):
         number, page, _ = reading.page_call(P, Q, key, size)
         assert (number, page.pairs, page.end) == (0, pairs, end)
     houses = reading.Sheet(reading.pack([(1, 5, 0), (2, 6, 0)], [0, 1], 7))
@@ -61,21 +63,43 @@ def book_of_lost_pages(rng, pairs):
     """Pages lost, repeated and late: the book holds the first so many pairs, and all of them once it is closed."""
     editions = (3, 4)
     _, book = reading.begin(editions)
-    slots, made = [(9, 9)] * len(pairs), []
+    slots, made = [(9, 9, 9)] * len(pairs), []
     for _ in range(400):
-        key = reading.next_key(book, slots)[1] if rng.random() < 0.7 else rng.choice(pairs + [(0, 0)])
+        key = reading.next_key(book, slots)[1] if rng.random() < 0.7 else reading.key_of(rng.choice(pairs + [reading.UNUSED]))
         made.append(reading.page_of(pairs, editions, key, rng.randint(1, 16)))
         page = rng.choice(made[-3:])
         before = (book.held, book.closed, list(slots))
         number = reading.take(book, slots, page)
         assert number in (0, 12, 14) and (number == 0 or before == (book.held, book.closed, slots))
-        assert slots[:book.held] == pairs[:book.held] and slots[book.held:] == [(9, 9)] * (len(pairs) - book.held)
+        assert slots[:book.held] == pairs[:book.held] and slots[book.held:] == [(9, 9, 9)] * (len(pairs) - book.held)
         assert not book.closed or book.held == len(pairs)
     assert book.closed
 
 
+def taken(rules, pairs, count, unused):
+    """The number by which an empty book takes a page of these pairs, with others behind those that it counts."""
+    _, book = rules.begin((3, 4))
+    slots = [(9, 9, 9)] * 20
+    number = rules.take(book, slots, rules.Page((3, 4), (0, 0), pairs + unused, True), count)
+    return number, book.held, slots[:2]
+
+
+def book():
+    """Pages at the bounds of number 15, and what a book must answer: cases for the wrong readings of it."""
+    most = reading.DIAMETER
+    asked = [(taken, [(5, 1, size)], 1, []) for size in (0, 1, most - 1, most, most + 1, 2 * most, 2 ** 64 - 1)]
+    asked += [(taken, [(5, 1, 0), (5, 2, size)], 2, []) for size in (most, most + 1)]
+    asked += [(taken, [(5, 1, 4)], 1, [(5, 2, most + 1)])]
+    asked += [(taken, [(one, other, 4)], 1, []) for one in (0, 1, reading.ID, reading.ID + 1) for other in (0, 1, reading.ID, reading.ID + 1)]
+    asked += [(taken, [(5, 2, 4), (5, other, 4)], 2, []) for other in (1, 2, 3)]
+    lines = [ask(reading, *given) for ask, *given in asked]
+    assert [line[0] for line in lines[:10]] == [0, 0, 0, 0, 15, 15, 15, 0, 15, 0]
+    return types.SimpleNamespace(program="the book", asked=asked, lines=lines)
+
+
 def main():
     examples()
+    book()
     rng = Chance("reading")
     for k in range(60):
         places = towns.PLACES[k % len(towns.PLACES)]
@@ -83,4 +107,5 @@ def main():
         walks_mean_the_rule(p, q)
         runs_are_the_list(p, q)
     for count in (0, 1, 16, 40):
-        book_of_lost_pages(rng, sorted({(rng.randint(1, 9), rng.randint(1, 40)) for _ in range(count)}))
+        keys = sorted({(rng.randint(1, 9), rng.randint(1, 40)) for _ in range(count)})
+        book_of_lost_pages(rng, [key + (rng.randint(0, reading.DIAMETER),) for key in keys])

@@ -5,7 +5,7 @@
 
 The input, in words: 1, the lengths of P's and Q's sheet, the number of requests, P's words, Q's words, and for each request the key's q id and p id and
 the size; 0 ends it. A negative word stands for the largest number that a call can be given. A line has the request, its number of refusal, the nodes
-opened, and the page whole: both editions, the key, the number of pairs, the end mark, sixteen pairs.
+opened, and the page whole: both editions, the key, the number of pairs, the end mark, sixteen pairs with their sizes.
 """
 import collections
 
@@ -24,7 +24,7 @@ def page_line(rules, p, q, key, size, listed):
     number, page, opened = rules.page_call(p, q, key, size, listed)
     if number:
         page = rules.Page((0, 0), (0, 0), [], False)
-    shown = page.pairs + [(0, 0)] * (16 - len(page.pairs))
+    shown = page.pairs + [rules.UNUSED] * (16 - len(page.pairs))
     fields = [number, opened, *page.editions, *page.key, len(page.pairs), int(page.end)] + [word for pair in shown for word in pair]
     return "page %d %d %d: %s" % (key + (size, " ".join(map(str, fields))))
 
@@ -60,7 +60,7 @@ def followed(rng, listed, sizes):
         requests.append(key + (size,))
         page = reading.page_of(listed, (0, 0), key, size)
         seen += page.pairs
-        key = page.pairs[-1] if page.pairs else key
+        key = reading.key_of(page.pairs[-1]) if page.pairs else key
         if page.end:
             assert seen == listed
             return requests + [key + (rng.choice(sizes),)]
@@ -72,7 +72,7 @@ def some_keys(rng, p, q, listed, count):
     out = []
     for _ in range(count):
         if listed and rng.random() < 0.4:
-            one, other = rng.choice(listed)
+            one, other = reading.key_of(rng.choice(listed))
             one, other = max(0, one + rng.choice([0, 0, 0, -1, 1])), max(0, other + rng.randint(-1, 1))
         else:
             one = rng.choice(q_ids + [rng.randint(0, reading.ID)])
@@ -95,15 +95,25 @@ def documents_listing(out):
     p = [1, 0, 0, 2, 10, 0, 0, 1, 0, 1, 0, 0, 2, 0, 0, 10, 0, 17, 7, 2, 1, 7, 1]
     q = [5, 4, 0, 6, 16, 1, 0, 1, 0, 1, 0, 0, 2, 4, 0, 16, 1, 17, 7, 2, 1, 9, 1]
     listed = reading.ring_list(reading.Sheet(p).points, reading.Sheet(q).points)
-    assert listed == [(5, 1), (5, 2), (6, 2)]
+    assert listed == [(5, 1, 16), (5, 2, 36), (6, 2, 37)]
     page = reading.page_call(p, q, (0, 0), 2)[1]
-    assert (page.pairs, page.end) == ([(5, 1), (5, 2)], False)
+    assert (page.pairs, page.end) == ([(5, 1, 16), (5, 2, 36)], False)
     page = reading.page_call(p, q, (5, 2), 2)[1]
-    assert (page.pairs, page.end) == ([(6, 2)], True)
+    assert (page.pairs, page.end) == ([(6, 2, 37)], True)
     page = reading.page_call(p, q, (6, 2), 2)[1]
     assert (page.pairs, page.end) == ([], True)
-    assert reading.page_call(p, q, (5, 3), 2)[1].pairs == [(6, 2)]
+    assert reading.page_call(p, q, (5, 3), 2)[1].pairs == [(6, 2, 37)]
     out.add("the listing", p, q, [(0, 0, 2), (5, 2, 2), (6, 2, 2), (5, 3, 2), (0, 0, 3), (0, 0, 16), (5, 1, 1), (5, 1, 2)] + ENDS + OUTSIDE)
+
+
+def farthest(out):
+    """Two places as far apart as a sheet has them, on one spot, and a step from each: the sizes at both ends of their range."""
+    far = reading.COORDINATE
+    for one, other, size in (((-far, -far), (far, far), reading.DIAMETER), ((far, -far), (-far, far), reading.DIAMETER), ((far, far), (far, far), 0),
+                             ((-far, far), (far, 1 - far), reading.DIAMETER - 4 * far + 1), ((-far, 0), (far, 0), 4 * far * far), ((3, 4), (4, 4), 1)):
+        p, q = reading.pack([(8,) + one], [0], 3), reading.pack([(9,) + other], [0], 4)
+        assert reading.ring_list(reading.Sheet(p).points, reading.Sheet(q).points) == [(9, 8, size)]
+        out.add("one pair, size %d" % size, p, q, [(0, 0, 1), (0, 0, 16), (9, 7, 1), (9, 8, 1)])
 
 
 def small_pairs(out, rng):
@@ -132,7 +142,7 @@ def one_sheet(out, rng):
         points = [(number,) + place for number, place in zip(trees.ids(rng, n), spots)]
         words = trees.sheet(points, trees.near(rng, points), towns.tree(rng, n)[1], 21)
         listed, requests = requests_of(rng, words, words, [5, 15, 16], 2)
-        assert listed == [(point[0], point[0]) for point in points]
+        assert listed == [(point[0], point[0], 0) for point in points]
         out.add("one sheet as both, %d spots" % n, words, words, requests, listed)
     _, words = towns.sheet(rng, towns.spots, 12)
     listed, requests = requests_of(rng, words, words, [2, 16], 2)
@@ -166,9 +176,9 @@ def large_pairs(out, rng):
     points = [[(n,) + place for n, place in zip(trees.ids(rng, 1000, reading.ID), towns.land(rng, 1000))] for _ in range(2)]
     p, q = [trees.sheet(these, trees.near(rng, these), reading.runs_of_sixteen(1000), 30 + k) for k, these in enumerate(points)]
     last = range(995, 1000)
-    listed = sorted((points[1][j][0], points[0][i][0]) for j in last for i in range(1000) if reading.is_ring_pair(points[0], points[1], j, i))
+    listed = sorted(reading.pair_of(points[0], points[1], j, i) for j in last for i in range(1000) if reading.is_ring_pair(points[0], points[1], j, i))
     key = points[1][994][0]
-    requests = [(key, reading.ID, 5), (key, reading.ID, 16), listed[len(listed) // 2] + (2,), listed[-1] + (1,), listed[-2] + (1,)]
+    requests = [(key, reading.ID, 5), (key, reading.ID, 16), reading.key_of(listed[len(listed) // 2]) + (2,), reading.key_of(listed[-1]) + (1,), reading.key_of(listed[-2]) + (1,)]
     out.add("1,000 points", p, q, requests, listed)
 
 
@@ -176,6 +186,7 @@ def cases():
     rng = Chance("pages")
     out = Pages()
     documents_listing(out)
+    farthest(out)
     small_pairs(out, rng)
     more_pairs(out, rng)
     one_sheet(out, rng)

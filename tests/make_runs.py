@@ -5,7 +5,7 @@
 
 The input, in words: 1, the lengths of P's and Q's sheet, the number of runs, P's words, Q's words, and for each run the node and how many of 256 slots are
 lent; 0 ends it. A negative word stands for the largest number that a call can be given. Each slot holds a mark before the call. A line has the node and the
-slots lent, the number of refusal, the number of pairs, the nodes opened, how many of the 256 slots still hold their mark, and the pairs.
+slots lent, the number of refusal, the number of pairs, the nodes opened, how many of the 256 slots still hold their mark, and the pairs with their sizes.
 """
 import collections
 import math
@@ -19,7 +19,7 @@ from stored import Cases
 
 LARGEST = 2 ** 64 - 1
 SLOTS = 256
-MARKS = [(4_000_000_000, k) for k in range(SLOTS)]
+MARKS = [(4_000_000_000, k, 9_000_000_000_000) for k in range(SLOTS)]
 
 
 def number(word):
@@ -74,12 +74,21 @@ def requests_of(rng, p, q, leaves=None):
 def documents_listing(out):
     p = [1, 0, 0, 2, 10, 0, 0, 1, 0, 1, 0, 0, 2, 0, 0, 10, 0, 17, 7, 2, 1, 7, 1]
     q = [5, 4, 0, 6, 16, 1, 0, 1, 0, 1, 0, 0, 2, 4, 0, 16, 1, 17, 7, 2, 1, 9, 1]
-    assert reading.run_call(p, q, 0, MARKS[:3])[3] == [(5, 1), (5, 2), (6, 2)]
+    assert reading.run_call(p, q, 0, MARKS[:3])[3] == [(5, 1, 16), (5, 2, 36), (6, 2, 37)]
     out.add("the listing", p, q, [(0, k) for k in range(6)] + [(0, 255), (0, 256), (0, 257), (0, -1), (1, 3), (2, 3), (-1, 3), (1, 0), (-1, -1), (2 ** 31 - 1, 0)])
     # the chambers in the other order: by place, and not by id
     turned = trees.sheet([(5, 4, 0), (6, 16, 1)], [1, 0], [(0, 0, 2)], 9)
-    assert reading.run_call(p, turned, 0, MARKS[:3])[3] == [(6, 2), (5, 1), (5, 2)]
+    assert reading.run_call(p, turned, 0, MARKS[:3])[3] == [(6, 2, 37), (5, 1, 16), (5, 2, 36)]
     out.add("the listing, the chambers in the other order", p, turned, [(0, 2), (0, 3), (0, 4), (1, 4)])
+
+
+def farthest(out):
+    """Two places as far apart as a sheet has them, and on one spot: the sizes at both ends of their range."""
+    far = reading.COORDINATE
+    for one, other, size in (((-far, -far), (far, far), reading.DIAMETER), ((far, -far), (-far, far), reading.DIAMETER), ((far, far), (far, far), 0)):
+        p, q = reading.pack([(8,) + one], [0], 3), reading.pack([(9,) + other], [0], 4)
+        assert reading.run_call(p, q, 0, MARKS[:1])[3] == [(9, 8, size)]
+        out.add("one pair, size %d" % size, p, q, [(0, 1), (0, 2), (0, 0)])
 
 
 def small_pairs(out, rng):
@@ -174,6 +183,7 @@ def cases():
     rng = Chance("runs")
     out = Runs()
     documents_listing(out)
+    farthest(out)
     small_pairs(out, rng)
     shaped_pairs(out, rng)
     more_pairs(out, rng)

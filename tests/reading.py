@@ -3,7 +3,7 @@
 It is written from the sentences of the rules, which stand above each function, and shares nothing with the Rattle code: the generators beside it take
 from here what every call must answer. It is slow and says each thing the long way.
 
-A point is (id, x, y), a place is (x, y). 0 is P, 1 is Q. Positions go q's first, then p's.
+A point is (id, x, y), a place is (x, y), a pair is (q id, p id, squared diameter), a key is (q id, p id). 0 is P, 1 is Q. Positions go q's first, then p's.
 """
 
 COORDINATE = 1_000_000
@@ -14,6 +14,7 @@ NODES = 400
 LEVEL = 7
 COVERED = 16
 SIZE = 16
+DIAMETER = 8_000_000_000_000
 
 
 # ---------------------------------------------------------------- the sheet
@@ -239,13 +240,27 @@ def is_ring_pair(p_points, q_points, j, i):
     return True
 
 
+# "Each pair in pages, books and leaf runs now has its squared diameter beside the ids."
+def pair_of(p_points, q_points, j, i):
+    q, p = q_points[j], p_points[i]
+    return q[0], p[0], (q[1] - p[1]) ** 2 + (q[2] - p[2]) ** 2
+
+
+# "Unused pairs are three zeros."
+UNUSED = (0, 0, 0)
+
+
+def key_of(pair):
+    return pair[:2]
+
+
 # "The list runs by q id, then p id."
 def ring_list(p_points, q_points):
     pairs = []
     for j in range(len(q_points)):
         for i in range(len(p_points)):
             if is_ring_pair(p_points, q_points, j, i):
-                pairs.append((q_points[j][0], p_points[i][0]))
+                pairs.append(pair_of(p_points, q_points, j, i))
     return sorted(pairs)
 
 
@@ -427,7 +442,7 @@ class Page:
 # "an end mark, set exactly when no ring pair follows the last one shown, or follows the key if none is shown"
 def page_of(pairs, editions, key, size):
     """The page of a list of ring pairs. No tree is in it."""
-    following = [pair for pair in pairs if pair > key]
+    following = [pair for pair in pairs if key_of(pair) > key]
     return Page(editions, key, following[:size], len(following) <= size)
 
 
@@ -443,8 +458,8 @@ def page_opened(p, q, key, size):
         kept, more = filter_walk(p, q.place(j))
         opened += more
         for i in kept:
-            pair = (q_id, p.points[i][0])
-            if pair <= key:
+            pair = pair_of(p.points, q.points, j, i)
+            if key_of(pair) <= key:
                 continue
             answer, more = pair_walk(p, q, j, i)
             opened += more
@@ -490,7 +505,7 @@ def leaf_list(p, q, leaf):
     for j in leaf_chambers(q, leaf):
         for partner in range(p.n):
             if is_ring_pair(p.points, q.points, j, partner):
-                pairs.append((q.points[j][0], p.points[partner][0]))
+                pairs.append(pair_of(p.points, q.points, j, partner))
     return pairs
 
 
@@ -535,7 +550,7 @@ def leaf_opened(p, q, leaf):
             answer, more = pair_walk(p, q, j, partner)
             opened += more
             if answer == CLEAR:
-                found.append((q.points[j][0], p.points[partner][0]))
+                found.append(pair_of(p.points, q.points, j, partner))
     return opened, found
 
 
@@ -579,7 +594,7 @@ def next_key(book, slots):
         return 11, None
     if book.held == 0:
         return 0, (0, 0)
-    return 0, slots[book.held - 1]
+    return 0, key_of(slots[book.held - 1])
 
 
 # "Taking a page appends its pairs and closes the book if the end mark is set." `page_count` is the number that the page gives of its pairs.
@@ -598,14 +613,17 @@ def take(book, slots, page, page_count=None):
     # 14: page key is not the book's next key
     if page.key != next_key(book, slots)[1]:
         return 14
-    # 15: over 16 pairs; an id outside 1 to 2,000,000,000; pairs not ascending strictly after the key; no pair and no end mark
+    # 15: over 16 pairs; an id outside 1 to 2,000,000,000; pairs not ascending strictly after the key; no pair and no end mark; "15 is also given when a size
+    # lies outside 0 to 8,000,000,000,000"
     if count > SIZE:
         return 15
     last = page.key
     for pair in page.pairs[:count]:
-        if pair[0] < 1 or pair[0] > ID or pair[1] < 1 or pair[1] > ID or pair <= last:
+        if pair[0] < 1 or pair[0] > ID or pair[1] < 1 or pair[1] > ID or key_of(pair) <= last:
             return 15
-        last = pair
+        if pair[2] < 0 or pair[2] > DIAMETER:
+            return 15
+        last = key_of(pair)
     if count == 0 and not page.end:
         return 15
     # 16: more pairs than slots left

@@ -100,16 +100,30 @@ WALKS = [
     ("over P.\"\"\"\n    number = open_number(p_words) or open_number(q_words)", "over P.\"\"\"\n    number = open_number(p_words)"),
 ]
 
-PAGES = [
+SQUARED = "(q[1] - p[1]) ** 2 + (q[2] - p[2]) ** 2"
+
+# the size: not squared; of one axis; along the axes; of the radius; of the two places turned; of q's place alone
+SIZES = [
+    (SQUARED, "int((%s) ** 0.5)" % SQUARED),
+    (SQUARED, "(q[1] - p[1]) ** 2"),
+    (SQUARED, "(abs(q[1] - p[1]) + abs(q[2] - p[2])) ** 2"),
+    (SQUARED, "(%s) // 4" % SQUARED),
+    (SQUARED, "(q[1] - p[2]) ** 2 + (q[2] - p[1]) ** 2"),
+    (SQUARED, "q[1] ** 2 + q[2] ** 2"),
+]
+
+PAGES = SIZES + [
+    # unused pairs that are not zeros
+    ("UNUSED = (0, 0, 0)", "UNUSED = (0, 0, 1)"),
     # "Setting the end mark only when the page is not full"
     ("following[:size], len(following) <= size)", "following[:size], len(following) < size)"),
     # "a page maker honest on the first page and then closing with an empty one"
-    ("[pair for pair in pairs if pair > key]", "[pair for pair in pairs if pair > key and key == (0, 0)]"),
-    ("[pair for pair in pairs if pair > key]", "[pair for pair in pairs if pair >= key]"),
-    ("[pair for pair in pairs if pair > key]", "[pair for pair in pairs if pair[0] > key[0] or pair in pairs and pair[1] > key[1]]"),
+    ("[pair for pair in pairs if key_of(pair) > key]", "[pair for pair in pairs if key_of(pair) > key and key == (0, 0)]"),
+    ("[pair for pair in pairs if key_of(pair) > key]", "[pair for pair in pairs if key_of(pair) >= key]"),
+    ("[pair for pair in pairs if key_of(pair) > key]", "[pair for pair in pairs if pair[0] > key[0] or pair in pairs and pair[1] > key[1]]"),
     ("        if q_id < key[0]:\n", "        if q_id <= key[0]:\n"),
-    ("            if pair <= key:\n                continue\n            answer, more = pair_walk(p, q, j, i)\n            opened += more\n",
-     "            answer, more = pair_walk(p, q, j, i)\n            opened += more\n            if pair <= key:\n                continue\n"),
+    ("            if key_of(pair) <= key:\n                continue\n            answer, more = pair_walk(p, q, j, i)\n            opened += more\n",
+     "            answer, more = pair_walk(p, q, j, i)\n            opened += more\n            if key_of(pair) <= key:\n                continue\n"),
     ("            answer, more = pair_walk(p, q, j, i)\n", "            if len(found) == size:\n                return opened, found\n            answer, more = pair_walk(p, q, j, i)\n"),
     ("                found.append(pair)\n", "                found.append(pair)\n        if len(found) == size:\n            return opened, found\n"),
     ("SIZE = 16", "SIZE = 15"),
@@ -127,9 +141,9 @@ NO_LEAF = "    if leaf >= q.m or q.nodes[leaf][0] != 0:\n        return 19, 0, 0
 OUTNUMBERED = "    if len(run) > len(slots):\n        return 16, 0, 0, slots\n"
 BOX_SKIPPED = "        return all(skips_box(c, box) for c in range(len(chambers)))\n"
 POINT_KEPT = "            if not skips_point(c, sheet.place(position)):\n"
-RING_WALKED = "            opened += more\n            if answer == CLEAR:\n                found.append((q.points[j][0], p.points[partner][0]))\n    return opened, found\n"
+RING_WALKED = "            opened += more\n            if answer == CLEAR:\n                found.append(pair_of(p.points, q.points, j, partner))\n    return opened, found\n"
 
-RUNS = [
+RUNS = SIZES + [
     # the symmetric rule: the other chambers do not rule out; not for boxes; not for points; the chamber itself rules out too
     ("        return pumps + others\n", "        return pumps\n"),
     ("corner in corners(box)) for place in ruling(c))", "corner in corners(box)) for place in [sheet.place(i) for i in kept[c]])"),
@@ -170,13 +184,26 @@ RUNS = [
     (OUTNUMBERED, OUTNUMBERED.replace("len(slots):", "len(slots) + 1:")),
     (OUTNUMBERED, OUTNUMBERED.replace("len(slots):", "len(slots) or not slots:")),
     # the slots: those past the pairs cleared; what fits stored although refused; the pairs at the end
-    ("opened, run + slots[len(run):]", "opened, run + [(0, 0)] * (len(slots) - len(run))"),
+    ("opened, run + slots[len(run):]", "opened, run + [UNUSED] * (len(slots) - len(run))"),
     (OUTNUMBERED, OUTNUMBERED.replace("0, 0, slots", "0, 0, run[:len(slots)]")),
     ("opened, run + slots[len(run):]", "opened, slots[:len(slots) - len(run)] + run"),
 ]
 
+BOOK = [
+    ("DIAMETER = 8_000_000_000_000", "DIAMETER = 7_999_999_999_999"),
+    ("DIAMETER = 8_000_000_000_000", "DIAMETER = 8_000_000_000_001"),
+    # 0 is no size; no size is looked at; only the first; those past the count too
+    ("        if pair[2] < 0 or", "        if pair[2] <= 0 or"),
+    ("        if pair[2] < 0 or pair[2] > DIAMETER:", "        if False:"),
+    ("        if pair[2] < 0 or pair[2] > DIAMETER:", "        if page.pairs[0][2] > DIAMETER:"),
+    ("        if pair[2] < 0 or pair[2] > DIAMETER:", "        if any(other[2] > DIAMETER for other in page.pairs):"),
+    ("ID = 2_000_000_000", "ID = 2_000_000_001"),
+    ("        if pair[0] < 1 or pair[0] > ID or pair[1] < 1", "        if pair[0] < 1 or pair[0] > ID or pair[1] < 0"),
+    ("or key_of(pair) <= last:", "or key_of(pair) < last:"),
+]
+
 STEP = 100
-WRONG = {"try_sheets": SHEETS, "try_walks": WALKS, "try_pages": PAGES, "try_runs": RUNS}
+WRONG = {"try_sheets": SHEETS, "try_walks": WALKS, "try_pages": PAGES, "try_runs": RUNS, "the book": BOOK}
 
 
 def misread(old, new):

@@ -57,7 +57,7 @@ static void print_order(size_t k, RingPair pair) {
     RingPoint p = by_id(pumps, LEN(pumps), pair.p);
     RingMarker marker = ring_marker(q.x, q.y, p.x, p.y);
     if (refused("point", q.number) || refused("point", p.number) || refused("marker", marker.number)) return;
-    printf("order %zu: chamber %u with pump house %u, marker (%.1f, %.1f)\n", k + 1, pair.q, pair.p, marker.x, marker.y);
+    printf("order %zu: chamber %u with pump house %u, marker (%.1f, %.1f), squared distance %llu\n", k + 1, pair.q, pair.p, marker.x, marker.y, (unsigned long long)pair.size);
 }
 
 int main(void) {

@@ -175,6 +175,14 @@ static bool is_pair(size_t j, size_t i) {
     return true;
 }
 
+/* the pair of two positions, with the squared distance of the two */
+static RingPair pair_of(size_t j, size_t i) {
+    const int32_t *q = Q.words + 3 * j, *p = P.words + 3 * i;
+    int64_t x = (int64_t)q[1] - p[1], y = (int64_t)q[2] - p[2];
+    RingPair v = {(uint32_t)q[0], (uint32_t)p[0], (uint64_t)(x * x + y * y)};
+    return v;
+}
+
 static bool after(RingKey k, RingPair v) { return k.q < v.q || (k.q == v.q && k.p < v.p); }
 
 static bool id_ok(uint32_t id) { return in(1, id, 2000000000); }
@@ -189,7 +197,7 @@ static bool page_bad(const RingPage *g) {
     RingKey last = g->key;
     for (size_t k = 0; k < g->count; k++) {
         RingPair v = g->pairs[k];
-        if (!id_ok(v.q) || !id_ok(v.p) || !after(last, v)) return true;
+        if (!id_ok(v.q) || !id_ok(v.p) || v.size > 8000000000000 || !after(last, v)) return true;
         last.q = v.q, last.p = v.p;
     }
     return g->count == 0 && !g->end;
@@ -333,7 +341,7 @@ static RingPage page_of(RingKey key, size_t size) {
     g.key = key, g.end = true;
     for (size_t j = 0; j < count_of(&Q) && g.end; j++)
         for (size_t i = 0; i < count_of(&P) && g.end; i++) {
-            RingPair v = {(uint32_t)Q.words[3 * j], (uint32_t)P.words[3 * i]};
+            RingPair v = pair_of(j, i);
             if (!after(key, v) || !is_pair(j, i)) continue;
             if (g.count < size) g.pairs[g.count++] = v;
             else g.end = false;
@@ -381,7 +389,7 @@ static RingPair *const slots = room + 2;
 
 static size_t make_slots(RingBook *b) {
     size_t len = below(20);
-    for (size_t k = 0; k < 24; k++) room[k].q = 7 + (uint32_t)(k / 3), room[k].p = 1 + (uint32_t)(k % 3) + (uint32_t)below(9) * 3;
+    for (size_t k = 0; k < 24; k++) room[k].q = 7 + (uint32_t)(k / 3), room[k].p = 1 + (uint32_t)(k % 3) + (uint32_t)below(9) * 3, room[k].size = wild_size();
     for (size_t k = 1; k < 24; k++)
         if (room[k].q == room[k - 1].q && room[k].p <= room[k - 1].p) room[k].p = room[k - 1].p + 1;
     b->held = below(8) ? below(len + 1) : below(2) ? len + 1 + below(3) : wild_size();
@@ -405,11 +413,12 @@ static RingPage make_page(const RingBook *b, size_t len) {
     RingPage g;
     memset(&g, 0, sizeof g);
     g.source = b->source, g.key = key_of(slots, b->held > len ? 0 : b->held), g.count = below(3) ? below(5) : below(17), g.end = below(2);
-    RingPair v = {g.key.q, g.key.p};
+    RingPair v = {g.key.q, g.key.p, 0};
     for (size_t k = 0; k < 16; k++) {
         if (below(2)) v.p++;
         else v.q += 1 + (uint32_t)below(3), v.p = 1 + (uint32_t)below(9);
         if (v.q == 0) v.q = 1;
+        v.size = below(4) ? below(1000) : 8000000000000 - below(2);
         g.pairs[k] = v;
     }
     return g;
@@ -417,7 +426,7 @@ static RingPage make_page(const RingBook *b, size_t len) {
 
 /* one thing wrong with a page, or nothing */
 static void spoil_page(RingPage *g) {
-    switch (below(20)) {
+    switch (below(22)) {
     case 0: g->source.p_edition = wild(); break;
     case 1: g->source.q_edition++; break;
     case 2: g->key.q = wild(); break;
@@ -428,6 +437,8 @@ static void spoil_page(RingPage *g) {
     case 7: g->pairs[1] = g->pairs[0]; break;
     case 8: g->count = 0; break;
     case 9: g->key.p = wild(); break;
+    case 10: g->pairs[below(3)].size = 8000000000001; break;
+    case 11: g->pairs[below(16)].size = wild_size(); break;
     }
 }
 
@@ -513,9 +524,8 @@ static size_t run_of(size_t v, RingPair *pairs) {
     if (nodes_of(&P)) walk_node(nodes_of(&P) - 1);
     for (size_t k = 0; k < leaf.chambers; k++)
         for (size_t i = 0; i < count_of(&P); i++) {
-            RingPair pair = {(uint32_t)chamber(k)[0], (uint32_t)P.words[3 * i]};
             if (leaf.kept[k][i]) leaf.opened += ring_pair_walk(P.words, P.len, Q.words, Q.len, leaf.at[k], i).opened;
-            if (is_pair(leaf.at[k], i)) pairs[count++] = pair;
+            if (is_pair(leaf.at[k], i)) pairs[count++] = pair_of(leaf.at[k], i);
         }
     return count;
 }
@@ -529,7 +539,7 @@ static void try_leaf(void) {
     if (!number) count = run_of(v, pairs);
     size_t len = below(2) || count > 300 ? below(301) : below(2) ? count : below(count + 1);
     if (!number && count > len) number = 16;
-    for (size_t k = 0; k < 304; k++) lent[k].q = wild(), lent[k].p = wild();
+    for (size_t k = 0; k < 304; k++) lent[k].q = wild(), lent[k].p = wild(), lent[k].size = wild_size();
     memcpy(lent_was, lent, sizeof lent);
     RingRun r = ring_leaf_run(at(&P), P.len, at(&Q), Q.len, v, len ? lent + 2 : NULL, len);
     saw(r.number), hold_saved();

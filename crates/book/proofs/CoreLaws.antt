@@ -12,7 +12,6 @@ use lib.ListN.{length, take, drop, getD, length-append, length-drop}
 use lib.Seq.{drop-cons, paste, length-take-le}
 use borrow.Author.Tests.{ltb-false, lt-ltb, le-ltb, not-true, not-false}
 use Rattle.integers.specs.Bools.{decide}
-use Rattle.words.specs.Range.{idOk}
 use Rattle.list.specs.declared.Key.{Key}
 use Rattle.list.specs.declared.Pair.{Pair}
 use Rattle.list.specs.declared.Page.{Page}
@@ -22,22 +21,23 @@ use Rattle.book.specs.declared.Book.{Book}
 use Rattle.book.specs.declared.Decided.{Decided}
 use Rattle.book.specs.declared.Taken.{Taken}
 use Rattle.book.specs.declared.TakenArray.{TakenArray}
-use Rattle.book.specs.Rules.{lastKey, lastSlot, idsOk, sameKey, pageMost, pageBad, firstNo, takeNoAt, takeNo, accepted, refused, decidedAt, decided, taken, takenSlots, askedAt, asked, lentOf, withSlots, takenArray}
+use Rattle.book.specs.Rules.{lastKey, lastSlot, pairOk, pairsOk, sameKey, pageMost, pageBad, firstNo, takeNoAt, takeNo, accepted, refused, decidedAt, decided, taken, takenSlots, askedAt, asked, lentOf, withSlots, takenArray}
 use Rattle.book.proofs.TakeLaws.{no-refusal-at, by-zero, by-number, same-key, passed, or-zero}
+use Rattle.book.proofs.Rows.{width}
 
 -- ---- the loop over a page's pairs
 
 abbrev rises : Key → List Pair → Bool
-rises k l = idsOk l && ascends k l
+rises k l = pairsOk l && ascends k l
 
 swapped : (x i f a : Bool) → ((x && i) && (f && a)) ≡ ((x && f) && (i && a))
 swapped false i f a = refl
 swapped true false f a = sym (and-false f)
 swapped true true f a = refl
 
-rises-cons : (k : Key) (v : Pair) (l : List Pair) → rises k (v ∷ l) ≡ ((idOk (v .q) && idOk (v .p) && follows k (keyOf v)) && rises (keyOf v) l)
-unfolding idsOk ascends
-rises-cons k v l = swapped (idOk (v .q) && idOk (v .p)) (idsOk l) (follows k (keyOf v)) (ascends (keyOf v) l)
+rises-cons : (k : Key) (v : Pair) (l : List Pair) → rises k (v ∷ l) ≡ ((pairOk v && follows k (keyOf v)) && rises (keyOf v) l)
+unfolding pairsOk ascends
+rises-cons k v l = swapped (pairOk v) (pairsOk l) (follows k (keyOf v)) (ascends (keyOf v) l)
 
 left-cons : (l : List Pair) (n k : ℕ) → k < n → n ≤ length l → take (n - k) (drop k l) ≡ getD l k none ∷ take (n - (k + 1)) (drop (k + 1) l)
 left-cons l n k h g =
@@ -54,25 +54,25 @@ pub testing-start : (key : Key) (l : List Pair) (n : ℕ) → Testing key l n ke
 testing-start key l n = let z : n - 0 ≡ n = omega arith in record { most = omega arith; left = ap (λ (a : ℕ). rises key (take a l)) z }
 
 module _ (key : Key) (l : List Pair) (n : ℕ) (last : Key) (k : ℕ) (h : k < n) (few : n ≤ 16) (long : length l ≡ 16) (t : Testing key l n last k) (v : Key)
-    (ev : v ≡ keyOf (getD l k none)) (a b f : Bool) (ea : a ≡ idOk (v .q)) (eb : b ≡ idOk (v .p)) (ef : f ≡ follows last v) where
-  one-more : ((a && b && f) && rises v (take (n - (k + 1)) (drop (k + 1) l))) ≡ rises key (take n l)
+    (ev : v ≡ keyOf (getD l k none)) (a f : Bool) (ea : a ≡ pairOk (getD l k none)) (ef : f ≡ follows last v) where
+  one-more : ((a && f) && rises v (take (n - (k + 1)) (drop (k + 1) l))) ≡ rises key (take n l)
   one-more =
-      (rw (ea, eb, ef, ev))
+      (rw (ea, ef, ev))
       ∙ sym (ap (rises last) (left-cons l n k h (omega arith)) ∙ rises-cons last (getD l k none) (take (n - (k + 1)) (drop (k + 1) l)))
       ∙ t .left
 
-  pub testing-stop : not (a && b && f) ≡ true → false ≡ rises key (take n l)
-  testing-stop e = sym (ap (λ (x : Bool). x && rises v (take (n - (k + 1)) (drop (k + 1) l))) (not-true (a && b && f) e)) ∙ one-more
+  pub testing-stop : not (a && f) ≡ true → false ≡ rises key (take n l)
+  testing-stop e = sym (ap (λ (x : Bool). x && rises v (take (n - (k + 1)) (drop (k + 1) l))) (not-true (a && f) e)) ∙ one-more
 
-  pub testing-on : not (a && b && f) ≡ false → Testing key l n v (k + 1)
+  pub testing-on : not (a && f) ≡ false → Testing key l n v (k + 1)
   testing-on e =
       record {
         most = omega arith;
-        left = sym (ap (λ (x : Bool). x && rises v (take (n - (k + 1)) (drop (k + 1) l))) (not-false (a && b && f) e)) ∙ one-more;
+        left = sym (ap (λ (x : Bool). x && rises v (take (n - (k + 1)) (drop (k + 1) l))) (not-false (a && f) e)) ∙ one-more;
       }
 
 pub testing-end : (key : Key) (l : List Pair) (n : ℕ) (last : Key) (k : ℕ) → n ≤ k → Testing key l n last k → true ≡ rises key (take n l)
-unfolding idsOk ascends
+unfolding pairsOk ascends
 testing-end key l n last k h t = let z : n - k ≡ 0 = omega arith in sym (ap (λ (a : ℕ). rises last (take a (drop k l))) z) ∙ t .left
 
 -- ---- the last held slot
@@ -128,7 +128,7 @@ pub bad-is : (g : Page) (r : Bool) → g .count ≤ pageMost → r ≡ rises (g 
 unfolding pageBad pagePairs
 bad-is g r h e =
     let x4 = eqb (g .count) 0 && not (g .end) in
-    let i = idsOk (take (g .count) (g .pairs)) in
+    let i = pairsOk (take (g .count) (g .pairs)) in
     let a = ascends (g .key) (take (g .count) (g .pairs)) in
     ap (λ (y : Bool). not y || x4) e ∙ either i a x4 ∙ sym (ap (λ (y : Bool). y || not i || not a || x4) (le-ltb pageMost (g .count) h))
 
@@ -238,7 +238,7 @@ lent-few len m e =
     (λ (t : ltb 64 len ≡ false). let z : m ≡ len = e ∙ (rw t) in omega (arith, ltb-false 64 len t))
     (decide (ltb 64 len))
 
-pub lent-room : (len m : ℕ) → m ≡ lentOf len → (m < 2 ^ 64) × (m * 8 < 2 ^ 63)
+pub lent-room : (len m : ℕ) → m ≡ lentOf len → (m < 2 ^ 64) × (m * width < 2 ^ 63)
 lent-room len m e = let h = lent-few len m e in (omega arith, omega arith)
 
 pub front-long : (l : List Pair) (len m : ℕ) → length l ≡ 64 → m ≡ lentOf len → length (take m l) ≡ m

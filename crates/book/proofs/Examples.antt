@@ -10,11 +10,11 @@ use Rattle.list.specs.declared.Source.{Source}
 use Rattle.list.specs.declared.Page.{Page}
 use Rattle.list.specs.Pairs.{start, none, keyOf, follows, ascends}
 use Rattle.list.specs.Pages.{sourceNo, pagePairs}
-use Rattle.words.specs.Range.{idOk, editionOk}
+use Rattle.words.specs.Range.{idOk, editionOk, sizeOk}
 use Rattle.book.specs.declared.Book.{Book}
 use Rattle.book.specs.declared.Begun.the-variants as begun
 use Rattle.book.specs.declared.Next.the-variants as next
-use Rattle.book.specs.Rules.{beginNo, begunBook, begunBy, begunFor, lastKey, nextNo, nextBy, askedAt, asked, idsOk, sameKey, pageBad, firstNo, takeNoAt, takeNo, advanced, accepted, decidedBy, decided, taken, takenSlots}
+use Rattle.book.specs.Rules.{beginNo, begunBook, begunBy, begunFor, lastKey, nextNo, nextBy, askedAt, asked, pairOk, pairsOk, sameKey, pageBad, firstNo, takeNoAt, takeNo, advanced, accepted, decidedBy, decided, taken, takenSlots}
 
 -- editions 7 and 9, whose list is (5, 1), (5, 2), (6, 2)
 abbrev ours : Source
@@ -24,7 +24,10 @@ abbrev others : Source
 others = record { «p_edition» = 8; «q_edition» = 9 }
 
 abbrev at : ℕ → ℕ → Pair
-at q p = record { q = q; p = p }
+at q p = record { q = q; p = p; size = 16 }
+
+abbrev wide : ℕ → Pair
+wide n = record { q = 6; p = 1; size = n }
 
 abbrev book : ℕ → Bool → Book
 book n shut = record { held = n; closed = shut; source = ours }
@@ -64,11 +67,11 @@ number b g n = takeNo b slots g ≡ n
 
 -- a page is taken: two pairs stand in the first two slots, and the others are as they were
 takes : taken (book 0 false) (at 9 9 ∷ at 8 8 ∷ at 7 7 ∷ []) (page ours none false two) ≡ record { number = 0; book = book 2 false }
-unfolding taken decided decidedBy accepted advanced takeNo takeNoAt firstNo sourceNo sameKey pageBad idsOk idOk ascends follows pagePairs lastKey
+unfolding taken decided decidedBy accepted advanced takeNo takeNoAt firstNo sourceNo sameKey pageBad pairsOk pairOk idOk sizeOk ascends follows pagePairs lastKey
 takes = refl
 
 takes-slots : takenSlots (book 0 false) (at 9 9 ∷ at 8 8 ∷ at 7 7 ∷ []) (page ours none false two) ≡ at 5 1 ∷ at 5 2 ∷ at 7 7 ∷ []
-unfolding takenSlots decided decidedBy accepted advanced takeNo takeNoAt firstNo sourceNo sameKey pageBad idsOk idOk ascends follows pagePairs lastKey
+unfolding takenSlots decided decidedBy accepted advanced takeNo takeNoAt firstNo sourceNo sameKey pageBad pairsOk pairOk idOk sizeOk ascends follows pagePairs lastKey
 takes-slots = refl
 
 -- of two faults the earlier number: more held than there are slots, and closed
@@ -93,15 +96,24 @@ fourteen = refl
 
 -- a pair that does not follow the key, and more pairs than slots left
 fifteen : number (book 2 false) (page ours (at 5 2) true (at 5 2 ∷ at 6 1 ∷ at 6 2 ∷ [])) 15
-unfolding takeNo takeNoAt firstNo sourceNo sameKey lastKey pageBad idsOk idOk ascends follows pagePairs
+unfolding takeNo takeNoAt firstNo sourceNo sameKey lastKey pageBad pairsOk pairOk idOk sizeOk ascends follows pagePairs
 fifteen = refl
+
+-- "15 is also given when a size lies outside 0 to 8,000,000,000,000"
+far : number (book 2 false) (page ours (at 5 2) true (wide 8000000000000 ∷ [])) 0
+unfolding takeNo takeNoAt firstNo sourceNo sameKey lastKey pageBad pairsOk pairOk idOk sizeOk ascends follows pagePairs
+far = refl
+
+too-far : number (book 2 false) (page ours (at 5 2) true (wide 8000000000001 ∷ [])) 15
+unfolding takeNo takeNoAt firstNo sourceNo sameKey lastKey pageBad pairsOk pairOk idOk sizeOk ascends follows pagePairs
+too-far = refl
 
 -- more pairs than slots left
 sixteen : number (book 2 false) (page ours (at 5 2) true (at 6 1 ∷ at 6 2 ∷ at 6 3 ∷ [])) 16
-unfolding takeNo takeNoAt firstNo sourceNo sameKey lastKey pageBad idsOk idOk ascends follows pagePairs
+unfolding takeNo takeNoAt firstNo sourceNo sameKey lastKey pageBad pairsOk pairOk idOk sizeOk ascends follows pagePairs
 sixteen = refl
 
 -- "A full book still takes an empty page with the end mark."
 full : taken (book 4 false) slots (page ours (at 1 2) true []) ≡ record { number = 0; book = book 4 true }
-unfolding taken decided decidedBy accepted advanced takeNo takeNoAt firstNo sourceNo sameKey pageBad idsOk idOk ascends follows pagePairs lastKey
+unfolding taken decided decidedBy accepted advanced takeNo takeNoAt firstNo sourceNo sameKey pageBad pairsOk pairOk idOk sizeOk ascends follows pagePairs lastKey
 full = refl

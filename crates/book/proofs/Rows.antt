@@ -1,6 +1,6 @@
 -- What the walks by hand share: the book's types as rows and as machine values, the bytes of a pair, and what they know of `last_slot` and `lent_of`.
 --     width        the bytes of a pair in memory.        scaled       a slot's offset in bytes fits
---     none-is      (0, 0) is a pair.        slot-said, lent-said     of a callee's `ensured`, the clause alone
+--     none-is      three zeros are a pair.        slot-said, lent-said     of a callee's `ensured`, the clause alone
 -- Assumes nothing.
 use mathlib.Core.Path.{_≡_, refl}
 use Prim.Native.Nat.{ℕ, _*_, _<_, _^_}
@@ -55,13 +55,13 @@ abbrev pub bval : Book → Val
 bval = LL.val B.the-type B′.the-laws
 
 abbrev pub width : ℕ
-width = 8
+width = 16
 
 pub scaled : (n m : ℕ) → n < m → m * width < 2 ^ 63 → n * width < 2 ^ 64
 scaled n m l r = omega arith
 
 pub none-is : Is P none (pv none)
-none-is = LL.owes T.the-type T′.the-laws none ((refl, lit< tt), ((refl, lit< tt), tt))
+none-is = LL.owes T.the-type T′.the-laws none ((refl, lit< tt), ((refl, lit< tt), ((refl, lit< tt), tt)))
 
 module _ {M : Type 1} (𝓤 : URA M) (H : Heap 𝓤) (A : Atoms 𝓤) (mem : Memory → SProp 𝓤) (run : Routine → Fun 𝓤) where
   abbrev pub Slot : Contract 𝓤

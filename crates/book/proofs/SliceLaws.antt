@@ -21,7 +21,7 @@ use Rattle.list.proofs.SourceLaws.{source-same, source-13}
 use Rattle.book.specs.declared.Book.{Book}
 use Rattle.book.specs.declared.Next.the-variants as next
 use Rattle.book.specs.declared.Decided.{Decided}
-use Rattle.book.specs.Rules.{lastKey, nextNo, nextBy, askedAt, asked, idsOk, sameKey, pageBad, firstNo, takeNoAt, takeNo, advanced, accepted, refused, decided, taken, takenSlots}
+use Rattle.book.specs.Rules.{lastKey, nextNo, nextBy, askedAt, asked, pairsOk, sameKey, pageBad, firstNo, takeNoAt, takeNo, advanced, accepted, refused, decided, taken, takenSlots}
 use Rattle.book.proofs.TakeLaws.{no-cond, cond-no, first-no, by-zero, by-number, refused-slots, taken-slots, no-refusal}
 use Rattle.book.proofs.CoreLaws.{is-11}
 
@@ -62,7 +62,7 @@ short-take b s g h =
 -- ---- "A full book still takes an empty page with the end mark."
 
 empty-good : (g : Page) → g .count ≡ 0 → g .end ≡ true → pageBad g ≡ false
-unfolding pageBad pagePairs idsOk ascends
+unfolding pageBad pagePairs pairsOk ascends
 empty-good g c e = rw (c, e)
 
 pub full-end : (b : Book) (s : List Pair) (g : Page) → b .held ≡ length s → b .closed ≡ false → b .source ≡ g .source → g .key ≡ lastKey (b .held) s → g .count ≡ 0 → g .end ≡ true

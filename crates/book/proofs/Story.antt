@@ -13,7 +13,7 @@ use lib.Dec.{eqb, ltb}
 use borrow.Author.Tests.{ltb-true, ltb-false, le-ltb, ne-eqb, not-true}
 use Rattle.integers.specs.Bools.{decide, and-left, and-right, and-both, or-both-false}
 use Rattle.plane.specs.Point.{Point}
-use Rattle.words.specs.Range.{idOk}
+use Rattle.words.specs.Range.{idOk, sizeOk}
 use Rattle.list.specs.declared.Key.{Key}
 use Rattle.list.specs.declared.Pair.{Pair}
 use Rattle.list.specs.declared.Source.{Source}
@@ -24,39 +24,43 @@ use Rattle.list.specs.RingList.{ringList}
 use Rattle.list.proofs.Order.{asc-left, after-asc, after-last}
 use Rattle.list.proofs.PageLaws.{page-shows, shown-count, length-padded, end-mark}
 use Rattle.list.proofs.SourceLaws.{source-same}
-use Rattle.list.proofs.RowLaws.{ring-ascends, ring-ids}
+use Rattle.list.proofs.RowLaws.{ring-ascends, ring-ids, ring-sizes}
 use Rattle.book.specs.declared.Book.{Book}
 use Rattle.book.specs.declared.Begun.the-variants as begun
-use Rattle.book.specs.Rules.{beginNo, begunBy, begunBook, begunFor, lastKey, idsOk, pageMost, pageBad, takeNo, advanced, taken, takenSlots}
+use Rattle.book.specs.Rules.{beginNo, begunBy, begunBook, begunFor, lastKey, pairOk, pairsOk, pageMost, pageBad, takeNo, advanced, taken, takenSlots}
 use Rattle.book.specs.World.{World, listOf, Honest, Reached, began, took, lent, ownPage, served}
 use Rattle.book.proofs.TakeLaws.{Passed, passed, taken-book, taken-slots, refused-book, refused-slots, or-zero, no-refusal, same-length, closed-no, same-book-source}
 use Rattle.book.proofs.SliceLaws.{last-held}
 
--- ---- the ids of a list
+-- ---- the ids and sizes of a list
 
-ids-of : (l : List Pair) → ((v : Pair) → List·Memᴰ v l → (idOk (v .q) && idOk (v .p)) ≡ true) → idsOk l ≡ true
-unfolding idsOk
-ids-of [] f = refl
-ids-of (v ∷ l) f = and-both (idOk (v .q) && idOk (v .p)) (idsOk l) (f v (List·Memᴰ·head refl)) (ids-of l (λ u m. f u (List·Memᴰ·tail m)))
+pair-ok : (v : Pair) → idOk (v .q) ≡ true → idOk (v .p) ≡ true → sizeOk (v .size) ≡ true → pairOk v ≡ true
+unfolding pairOk
+pair-ok v a b c = and-both (idOk (v .q) && idOk (v .p)) (sizeOk (v .size)) (and-both (idOk (v .q)) (idOk (v .p)) a b) c
 
-ids-after : (k : Key) (l : List Pair) → idsOk l ≡ true → idsOk (after k l) ≡ true
-unfolding idsOk after
-ids-after k [] e = refl
-ids-after k (v ∷ l) e =
-    let x = idOk (v .q) && idOk (v .p) in
-    let r = ids-after k l (and-right x (idsOk l) e) in
+ok-of : (l : List Pair) → ((v : Pair) → List·Memᴰ v l → pairOk v ≡ true) → pairsOk l ≡ true
+unfolding pairsOk
+ok-of [] f = refl
+ok-of (v ∷ l) f = and-both (pairOk v) (pairsOk l) (f v (List·Memᴰ·head refl)) (ok-of l (λ u m. f u (List·Memᴰ·tail m)))
+
+ok-after : (k : Key) (l : List Pair) → pairsOk l ≡ true → pairsOk (after k l) ≡ true
+unfolding pairsOk after
+ok-after k [] e = refl
+ok-after k (v ∷ l) e =
+    let x = pairOk v in
+    let r = ok-after k l (and-right x (pairsOk l) e) in
     ⊎-elim
-    (λ (f : follows k (keyOf v) ≡ true). rw f (and-both x (idsOk (after k l)) (and-left x (idsOk l) e) r))
+    (λ (f : follows k (keyOf v) ≡ true). rw f (and-both x (pairsOk (after k l)) (and-left x (pairsOk l) e) r))
     (λ (f : follows k (keyOf v) ≡ false). rw f r)
     (decide (follows k (keyOf v)))
 
-ids-take : (n : ℕ) (l : List Pair) → idsOk l ≡ true → idsOk (take n l) ≡ true
-unfolding idsOk
-ids-take zero l e = refl
-ids-take (suc n) [] e = refl
-ids-take (suc n) (v ∷ l) e =
-    let x = idOk (v .q) && idOk (v .p) in
-    and-both x (idsOk (take n l)) (and-left x (idsOk l) e) (ids-take n l (and-right x (idsOk l) e))
+ok-take : (n : ℕ) (l : List Pair) → pairsOk l ≡ true → pairsOk (take n l) ≡ true
+unfolding pairsOk
+ok-take zero l e = refl
+ok-take (suc n) [] e = refl
+ok-take (suc n) (v ∷ l) e =
+    let x = pairOk v in
+    and-both x (pairsOk (take n l)) (and-left x (pairsOk l) e) (ok-take n l (and-right x (pairsOk l) e))
 
 -- ---- a book that holds the first pairs of a list
 
@@ -138,7 +142,7 @@ module _ (l : List Pair) (asc : ascends start l ≡ true) where
       (or-zero (takeNo b s g))
 
   -- a page that answers the book's own next request
-  module _ (ids : idsOk l ≡ true) (b : Book) (s : List Pair) (k : Keeps l b s) (still : b .closed ≡ false) (room : length l ≤ length s) (size : ℕ) (some : 0 < size) (most : size ≤ 16) where
+  module _ (ok : pairsOk l ≡ true) (b : Book) (s : List Pair) (k : Keeps l b s) (still : b .closed ≡ false) (room : length l ≤ length s) (size : ℕ) (some : 0 < size) (most : size ≤ 16) where
     abbrev due : Key
     due = lastKey (b .held) s
 
@@ -164,9 +168,9 @@ module _ (l : List Pair) (asc : ascends start l ≡ true) where
     unfolding own pageOf
     own-key = refl
 
-    own-ids : idsOk (pagePairs own) ≡ true
+    own-ok : pairsOk (pagePairs own) ≡ true
     unfolding shown
-    own-ids = ap idsOk own-pairs ∙ ids-take size (after due l) (ids-after due l ids)
+    own-ok = ap pairsOk own-pairs ∙ ok-take size (after due l) (ok-after due l ok)
 
     own-rises : ascends (own .key) (pagePairs own) ≡ true
     unfolding shown
@@ -186,12 +190,12 @@ module _ (l : List Pair) (asc : ascends start l ≡ true) where
     unfolding pageBad
     own-good =
         let x1 = ltb pageMost (own .count) in
-        let x2 = not (idsOk (pagePairs own)) in
+        let x2 = not (pairsOk (pagePairs own)) in
         let x3 = not (ascends (own .key) (pagePairs own)) in
         let x4 = eqb (own .count) 0 && not (own .end) in
         or-both-false (x1 || x2 || x3) x4
         (or-both-false (x1 || x2) x3
-        (or-both-false x1 x2 (le-ltb pageMost (own .count) (omega (arith, own-count, length-take size (drop (b .held) l)))) (ap not own-ids))
+        (or-both-false x1 x2 (le-ltb pageMost (own .count) (omega (arith, own-count, length-take size (drop (b .held) l)))) (ap not own-ok))
         (ap not own-rises))
         (⊎-elim
         (λ (e : 0 < own .count). ap (λ (t : Bool). t && not (own .end)) (ne-eqb (own .count) 0 (λ z. omega arith)))
@@ -228,15 +232,15 @@ begun-is s b e = by-begun (beginNo s) (begunBook s) b e
 
 module _ (w : World) where
   list-asc : (s : Source) → ascends start (listOf w s) ≡ true
-  list-asc s = ring-ascends (w .pumps (s .«p_edition»)) (w .chambers (s .«q_edition»)) (w .pumps-rise (s .«p_edition»)) (w .chambers-rise (s .«q_edition»))
+  list-asc s = ring-ascends (w .pumps (s .«p_edition»)) (w .chambers (s .«q_edition»)) (w .pumps-sound (s .«p_edition») .rising) (w .chambers-sound (s .«q_edition») .rising)
 
-  list-ids : (s : Source) → idsOk (listOf w s) ≡ true
-  list-ids s =
+  list-ok : (s : Source) → pairsOk (listOf w s) ≡ true
+  list-ok s =
       let P = w .pumps (s .«p_edition») in
       let Q = w .chambers (s .«q_edition») in
-      let rp = w .pumps-rise (s .«p_edition») in
-      let rq = w .chambers-rise (s .«q_edition») in
-      ids-of (listOf w s) (λ v m. let z = ring-ids P Q rp rq v m in and-both (idOk (v .q)) (idOk (v .p)) (z .0) (z .1))
+      let sp = w .pumps-sound (s .«p_edition») in
+      let sq = w .chambers-sound (s .«q_edition») in
+      ok-of (listOf w s) (λ v m. let z = ring-ids P Q (sp .rising) (sq .rising) v m in pair-ok v (z .0) (z .1) (ring-sizes P Q sp sq v m))
 
   -- what a page request answers on two sheets with these points is honest, where the points are those of their editions
   pub honest-from : (s : Source) (k : Key) (size : ℕ) (P Q : List Point) (g : Page) → 0 < size → size ≤ 16 → w .pumps (s .«p_edition») ≡ P → w .chambers (s .«q_edition») ≡ Q
@@ -285,8 +289,8 @@ module _ (w : World) where
   progress {b} {s} r still room size some most =
       let k = story r in
       let asc = list-asc (b .source) in
-      let ids = list-ids (b .source) in
-      (own-taken (bookList b) asc ids b s k still room size some most, own-moves (bookList b) asc ids b s k still room size some most)
+      let ok = list-ok (b .source) in
+      (own-taken (bookList b) asc ok b s k still room size some most, own-moves (bookList b) asc ok b s k still room size some most)
 
   -- what its own request brings is honest
   own-honest : (b : Book) (s : List Pair) (size : ℕ) → 0 < size → size ≤ 16 → Honest w (ownPage w b s size)

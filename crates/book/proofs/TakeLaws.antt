@@ -19,7 +19,7 @@ use Rattle.list.specs.Pages.{sourceNo, pagePairs}
 use Rattle.list.proofs.SourceLaws.{same-source}
 use Rattle.book.specs.declared.Book.{Book}
 use Rattle.book.specs.declared.Decided.{Decided}
-use Rattle.book.specs.Rules.{lastKey, idsOk, sameKey, pageMost, pageBad, firstNo, takeNoAt, takeNo, advanced, accepted, refused, decidedBy, decided, taken, takenSlots}
+use Rattle.book.specs.Rules.{lastKey, pairsOk, sameKey, pageMost, pageBad, firstNo, takeNoAt, takeNo, advanced, accepted, refused, decidedBy, decided, taken, takenSlots}
 
 -- ---- the first number that applies
 
@@ -63,7 +63,7 @@ pub record Passed (b : Book) (len : ℕ) (k : Key) (g : Page) : Type 0 where
   pub asked-next : g .key ≡ k
   pub few : g .count ≤ pageMost
   pub rising : ascends (g .key) (pagePairs g) ≡ true
-  pub ids : idsOk (pagePairs g) ≡ true
+  pub in-range : pairsOk (pagePairs g) ≡ true
   pub fits : b .held + g .count ≤ len
 
 pub passed-at : (b : Book) (len : ℕ) (k : Key) (g : Page) → takeNoAt b len k g ≡ 0 → Passed b len k g
@@ -74,7 +74,7 @@ passed-at b len k g e =
     let e3 = no-first (sourceNo (b .source) (g .source)) _ (e2 .1) in
     let e4 = no-cond (not (sameKey (g .key) k)) 14 _ 0 (λ z. omega arith) (e3 .1) in
     let x1 = ltb pageMost (g .count) in
-    let x2 = not (idsOk (pagePairs g)) in
+    let x2 = not (pairsOk (pagePairs g)) in
     let x3 = not (ascends (g .key) (pagePairs g)) in
     let x4 = eqb (g .count) 0 && not (g .end) in
     let e5 = no-cond (x1 || x2 || x3 || x4) 15 _ 0 (λ z. omega arith) (e4 .1) in
@@ -87,7 +87,7 @@ passed-at b len k g e =
       asked-next = same-key (g .key) k (not-false (sameKey (g .key) k) (e4 .0));
       few = ltb-false pageMost (g .count) (or-false-left x1 x2 (or-false-left (x1 || x2) x3 (or-false-left (x1 || x2 || x3) x4 (e5 .0))));
       rising = not-false (ascends (g .key) (pagePairs g)) (or-false-right (x1 || x2) x3 (or-false-left (x1 || x2 || x3) x4 (e5 .0)));
-      ids = not-false (idsOk (pagePairs g)) (or-false-right x1 x2 (or-false-left (x1 || x2) x3 (or-false-left (x1 || x2 || x3) x4 (e5 .0))));
+      in-range = not-false (pairsOk (pagePairs g)) (or-false-right x1 x2 (or-false-left (x1 || x2) x3 (or-false-left (x1 || x2 || x3) x4 (e5 .0))));
       fits = omega (arith, ltb-false (len - b .held) (g .count) (e6 .0), h);
     }
 

@@ -5,7 +5,7 @@ use Prim.Native.Nat.{ℕ, zero, suc, _+_, _-_}
 use lib.Dec.{eqb, ltb}
 use lib.Seq.{paste}
 use lib.ListN.{length, take, drop, getD}
-use Rattle.words.specs.Range.{idOk, editionOk}
+use Rattle.words.specs.Range.{idOk, editionOk, sizeOk}
 use Rattle.list.specs.declared.Key.{Key}
 use Rattle.list.specs.declared.Pair.{Pair}
 use Rattle.list.specs.declared.Source.{Source}
@@ -82,10 +82,13 @@ asked b slots = askedAt b (length slots) (lastKey (b .held) slots)
 
 -- ---- take
 
--- every id is 1 to 2,000,000,000
-unfoldable pub idsOk : List Pair → Bool
-idsOk [] = true
-idsOk (v ∷ l) = idOk (v .q) && idOk (v .p) && idsOk l
+-- the ids are 1 to 2,000,000,000, and the size 0 to 8,000,000,000,000
+unfoldable pub pairOk : Pair → Bool
+pairOk v = idOk (v .q) && idOk (v .p) && sizeOk (v .size)
+
+unfoldable pub pairsOk : List Pair → Bool
+pairsOk [] = true
+pairsOk (v ∷ l) = pairOk v && pairsOk l
 
 unfoldable pub sameKey : Key → Key → Bool
 sameKey a b = eqb (a .q) (b .q) && eqb (a .p) (b .p)
@@ -94,10 +97,11 @@ sameKey a b = eqb (a .q) (b .q) && eqb (a .p) (b .p)
 abbrev pub pageMost : ℕ
 pageMost = 16
 
--- 15: "over 16 pairs; an id outside 1 to 2,000,000,000; pairs not ascending strictly after the key; no pair and no end mark"
+-- 15: "over 16 pairs; an id outside 1 to 2,000,000,000; pairs not ascending strictly after the key; no pair and no end mark"; "15 is also given when a size lies outside
+-- 0 to 8,000,000,000,000". Only the pairs that the page counts are looked at.
 unfoldable pub pageBad : Page → Bool
 pageBad g =
-    ltb pageMost (g .count) || not (idsOk (pagePairs g)) || not (ascends (g .key) (pagePairs g)) || (eqb (g .count) 0 && not (g .end))
+    ltb pageMost (g .count) || not (pairsOk (pagePairs g)) || not (ascends (g .key) (pagePairs g)) || (eqb (g .count) 0 && not (g .end))
 
 -- "The first that applies, in the order listed": a number, or what comes after it where it is 0
 unfoldable pub firstNo : ℕ → ℕ → ℕ

@@ -3,24 +3,23 @@ use mathlib.Core.Path.{_≡_}
 use mathlib.Core.List.{List}
 use Prim.Native.Nat.{ℕ, zero, suc, _≤_, _<_}
 use lib.ListN.{length, take}
-use Rattle.plane.specs.Point.{Point, idAt}
+use Rattle.plane.specs.Point.{Point}
 use Rattle.list.specs.declared.Key.{Key}
 use Rattle.list.specs.declared.Pair.{Pair}
 use Rattle.list.specs.declared.Source.{Source}
 use Rattle.list.specs.declared.Page.{Page}
 use Rattle.list.specs.Pages.{pageOf}
-use Rattle.list.specs.Rows.{Rising}
-use Rattle.list.specs.RingList.{ringList}
+use Rattle.list.specs.RingList.{ringList, Sound}
 use Rattle.book.specs.declared.Book.{Book}
 use Rattle.book.specs.declared.Begun.the-variants as begun
 use Rattle.book.specs.Rules.{begunFor, lastKey, taken, takenSlots}
 
--- each edition number has one list of points for P and one for Q, their ids ascending strictly
+-- each edition number has one list of points for P and one for Q, such as sheets hold: their ids ascend strictly, and they stand within 1,000,000
 pub record World : Type 0 where
   pub pumps : ℕ → List Point
   pub chambers : ℕ → List Point
-  pub pumps-rise : (e : ℕ) → Rising (idAt (pumps e)) (length (pumps e))
-  pub chambers-rise : (e : ℕ) → Rising (idAt (chambers e)) (length (chambers e))
+  pub pumps-sound : (e : ℕ) → Sound (pumps e)
+  pub chambers-sound : (e : ℕ) → Sound (chambers e)
 
 module _ (w : World) where
   -- the list of a page or a book

@@ -8,7 +8,7 @@ ghost use mathlib.Core.Bool.{_&&_};
 ghost use Prim.Native.Nat.{_≤_, _<_};
 ghost use lib.ListN.{getD, take as taking};
 ghost use Rattle.list.specs.Pairs.{none, keyOf, ascends};
-ghost use Rattle.book.specs.Rules.{begunFor, askedAt, asked, lastSlot, idsOk, sameKey, pageBad, takeNoAt, decidedAt, taken, takenSlots, lentOf, withSlots, takenArray};
+ghost use Rattle.book.specs.Rules.{begunFor, askedAt, asked, lastSlot, pairOk, pairsOk, sameKey, pageBad, takeNoAt, decidedAt, taken, takenSlots, lentOf, withSlots, takenArray};
 
 // How many pairs are held, whether all are, and of what list.
 #[repr(C)]
@@ -55,19 +55,27 @@ fn is_same(a: Key, b: Key) -> bool
     (a.q == b.q) & (a.p == b.p)
 }
 
-// Whether the first n pairs of a page have ids in range and ascend strictly after a key.
+// Whether the ids and the size of a pair are in range.
+fn is_pair(v: Pair) -> bool
+    ensures { λ r. ⌜ r ≡ pairOk v ⌝ }
+{
+    words::is_id(v.q) & words::is_id(v.p) & words::is_size(v.size)
+}
+
+// Whether the first n pairs of a page have ids and sizes in range and ascend strictly after a key.
 fn pairs_rise(key: Key, g: Page, n: usize) -> bool
     requires { ⌜ n ≤ 16 ⌝ }
-    ensures { λ r. ⌜ r ≡ (idsOk (taking n (g .pairs)) && ascends key (taking n (g .pairs))) ⌝ }
+    ensures { λ r. ⌜ r ≡ (pairsOk (taking n (g .pairs)) && ascends key (taking n (g .pairs))) ⌝ }
 {
     let mut last = key;
     let mut k: usize = 0;
     while k < n {
-        let v = list::key_of(g.pairs[k]);
-        if !(words::is_id(v.q) & words::is_id(v.p) & list::is_after(last, v)) {
+        let v = g.pairs[k];
+        let at = list::key_of(v);
+        if !(is_pair(v) & list::is_after(last, at)) {
             return false;
         }
-        last = v;
+        last = at;
         k += 1;
     }
     true
@@ -200,7 +208,11 @@ impl Book {
     {
         let len = slots.len();
         let at = last_slot(self.held, len);
-        let mut last = Pair { q: 0, p: 0 };
+        let mut last = Pair {
+            q: 0,
+            p: 0,
+            size: 0,
+        };
         if at < len {
             last = slots[at];
         }
@@ -213,7 +225,11 @@ impl Book {
     {
         let len = slots.len();
         let last_at = last_slot(self.held, len);
-        let mut last = Pair { q: 0, p: 0 };
+        let mut last = Pair {
+            q: 0,
+            p: 0,
+            size: 0,
+        };
         if last_at < len {
             last = slots[last_at];
         }

@@ -3,7 +3,7 @@ use mathlib.Core.Path.{_≡_}
 use mathlib.Core.Bool.{Bool, true, false, cond, not, _&&_, _||_}
 use mathlib.Core.List.{List}
 use Prim.Native.Nat.{ℕ, _+_, _*_, _/_, _≤_, _<_}
-use lib.Dec.{eqb, leb}
+use lib.Dec.{eqb, leb, ltb}
 use lib.IntN.{ℤ, pos, negℤ, natAbs, _+ℤ_, _-ℤ_, _*ℤ_}
 use lib.ListN.{length, getD}
 use lib.Signed.{leZ}
@@ -45,6 +45,13 @@ empty s a b end = allB (size s) (clear s a b end)
 -- q at position j and p at position i are a pair
 unfoldable pub pairs : List ℤ → List ℤ → ℕ → ℕ → Bool
 pairs p q j i = empty q (placeAt q j) (placeAt p i) j && empty p (placeAt q j) (placeAt p i) i
+
+-- the squared distance of the two ends of a pair, and 0 where an end is past its set
+unfoldable pub sizeOf : List ℤ → List ℤ → Found → ℕ
+sizeOf p q v =
+    cond (ltb (v .q) (size q) && ltb (v .p) (size p))
+    (across (placeAt q (v .q) .x) (placeAt p (v .p) .x) + across (placeAt q (v .q) .y) (placeAt p (v .p) .y))
+    0
 
 -- `r` is the first position of P from `i` on that is a pair with position j of Q, or past them all where there is none
 pub record FirstOf (p q : List ℤ) (j i r : ℕ) : Type 0 where

@@ -6,7 +6,7 @@ ghost use Prim.Native.Nat.{ℕ, _≤_, _<_};
 ghost use lib.IntN.{natAbs, _-ℤ_};
 ghost use lib.ListN.{length, getD};
 ghost use Rattle.integers.specs.Order.{Within};
-ghost use Rattle.brute.specs.Brute.{clip, placeAt, covers, clear, empty, pairs, FirstOf, Next};
+ghost use Rattle.brute.specs.Brute.{clip, placeAt, covers, clear, empty, pairs, sizeOf, FirstOf, Next};
 
 pub struct Place {
     pub x: i64,
@@ -147,6 +147,21 @@ fn first_from(p: &[i32], q: &[i32], j: usize, i: usize) -> usize
         k += 1;
     }
     k
+}
+
+// The squared distance of the two ends of a pair; 0 where an end is past its set.
+pub fn size_of(p: &[i32], q: &[i32], v: Found) -> u64
+    ensures { λ r. ⌜ r ≡ sizeOf (now (p .entry)) (now (q .entry)) v ⌝ }
+{
+    if v.q >= q.len() / 3 {
+        return 0;
+    }
+    if v.p >= p.len() / 3 {
+        return 0;
+    }
+    let a = place_at(q, v.q);
+    let b = place_at(p, v.p);
+    across(a.x, b.x) + across(a.y, b.y)
 }
 
 // The first pair from position j of Q and position i of P on, in the list's order: by q, then by p.

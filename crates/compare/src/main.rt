@@ -221,19 +221,21 @@ fn id_at(points: &[i32], k: usize) -> u32 {
     0
 }
 
-// One of the sixteen pairs of a page: the next one of the second join, or (0, 0) where the page is full or the list has ended.
+// One of the sixteen pairs of a page: the next one of the second join, or three zeros where the page is full or the list has ended.
 fn paired(p: &[i32], q: &[i32], size: usize, t: Turn, shown: Pair) -> Turn {
     let at = t.at;
     let mut u = t;
     if (t.count < size) & (at.q < q.len() / 3) {
-        let same = (shown.q == id_at(q, at.q)) & (shown.p == id_at(p, at.p));
+        let same = (shown.q == id_at(q, at.q))
+            & (shown.p == id_at(p, at.p))
+            & (shown.size == brute::size_of(p, q, at));
         u.at = brute::next(p, q, at.q, std::num::wrapping_add_usize(at.p, 1));
         u.count = std::num::wrapping_add_usize(t.count, 1);
         u.last = list::key_of(shown);
         u.good = t.good & same;
         return u;
     }
-    u.good = t.good & (shown.q == 0) & (shown.p == 0);
+    u.good = t.good & (shown.q == 0) & (shown.p == 0) & (shown.size == 0);
     u
 }
 

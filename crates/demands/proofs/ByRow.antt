@@ -33,16 +33,16 @@ map-at f [] k h = absurd (omega arith)
 map-at f (x ∷ l) zero h = refl
 map-at f (x ∷ l) (suc k) h = map-at f l k (omega arith)
 
-module _ (rule : ℕ → ℕ → Bool) (name pid : ℕ → ℕ) where
+module _ (rule : ℕ → ℕ → Bool) (name pid : ℕ → ℕ) (wide : ℕ → ℕ → ℕ) where
   -- the pair of row j and position i: by the row's name, and by its number from 1 on
   abbrev named : ℕ → ℕ → Pair
-  named j i = record { q = name j; p = pid i }
+  named j i = record { q = name j; p = pid i; size = wide j i }
 
   abbrev numbered : ℕ → ℕ → Pair
-  numbered j i = record { q = j + 1; p = pid i }
+  numbered j i = record { q = j + 1; p = pid i; size = wide j i }
 
   abbrev naming : Pair → Pair
-  naming x = record { q = name (x .q - 1); p = x .p }
+  naming x = record { q = name (x .q - 1); p = x .p; size = x .size }
 
   row-named : (j k i : ℕ) → row rule named j k i ≡ map naming (row rule numbered j k i)
   unfolding row
@@ -51,7 +51,7 @@ module _ (rule : ℕ → ℕ → Bool) (name pid : ℕ → ℕ) where
     where
       go : (t : Bool) → row rule named j k (i + 1) ≡ map naming (row rule numbered j k (i + 1))
           → cond t (named j i ∷ row rule named j k (i + 1)) (row rule named j k (i + 1)) ≡ map naming (cond t (numbered j i ∷ row rule numbered j k (i + 1)) (row rule numbered j k (i + 1)))
-      go true e = let z : j ≡ j + 1 - 1 = omega arith in ap₂ (λ (u : ℕ) (l : List Pair). record { q = name u; p = pid i } ∷ l) z e
+      go true e = let z : j ≡ j + 1 - 1 = omega arith in ap₂ (λ (u : ℕ) (l : List Pair). record { q = name u; p = pid i; size = wide j i } ∷ l) z e
       go false e = e
 
   rows-named : (n k j : ℕ) → rows rule named n k j ≡ map naming (rows rule numbered n k j)

@@ -6,11 +6,12 @@
 --     clear-iff          the ring walk is clear exactly for a ring pair; point-blocks, side-blocks: what it names does block
 --     pair-exact         a ring pair is a kept position whose ring walk is clear, and no other
 --     page-pairs         a page is that of the list: pairs, number, end mark.  page-opened: the count beside it is that of the defined walks
+--     pair-size          each pair that a page shows has the squared diameter of the places of its two records
 --     pages-list         following the pages from (0, 0) gives the list
 --     list-exact         two records are listed exactly if they are a ring pair.  list-only, list-once: nothing else is, and nothing twice
 --     list-by-points     sheets with the same points give the same list, and the same pairs, number and end mark of every page
 --     opened-at-most-m   one walk of one sheet opens at most its nodes
---     run-pairs          a leaf's run stores the ring pairs of its chambers, by place, then p id, and touches no other slot.  run-exact, run-only: these and no others.  run-order: in this order
+--     run-pairs          a leaf's run stores the ring pairs of its chambers, by place, then p id, and touches no other slot.  run-exact, run-only: these and no others.  run-order: in this order.  run-size: each with its squared diameter
 --     run-opened         the count beside it is that of the defined walks.  run-at-most-m: its walk of P opens at most the nodes of P
 --     runs-list          a pair is listed exactly if the run of one leaf has it, and then no other leaf's has it.  stored-once: no run has it twice
 --     return-trip        pack, then open, gives the same points back
@@ -26,23 +27,24 @@ use lib.ListN.{length, getD, take, drop}
 use borrow.Author.Tests.{eq-eqb}
 use Rattle.words.specs.Range.{lastId}
 use Rattle.words.proofs.TabLaws.{at-tab}
-use Rattle.plane.specs.Point.{Point, pointAt, idAt}
+use Rattle.plane.specs.Point.{Point, pointAt, idAt, spotAt}
 use Rattle.sheet.specs.Limits.{form1}
 use Rattle.sheet.specs.Layout.{points, nodes, edition}
 use Rattle.sheet.specs.Nodes.{levelOf, countOf}
 use Rattle.sheet.specs.Places.{spotOf, pointOf, pointsOf}
 use Rattle.sheet.specs.Open.{openNo, Opens}
 use Rattle.sheet.proofs.SheetLaws.{open-facts, open-trailer, form1-fair}
-use Rattle.sheet.proofs.PointsLaws.{length-points, point-at}
+use Rattle.sheet.proofs.PointsLaws.{length-points, point-at, spot-of}
 use Rattle.bits.specs.Set.{at, kept, cardIn}
 use Rattle.list.specs.declared.Key.{Key}
 use Rattle.list.specs.declared.Pair.{Pair}
 use Rattle.list.specs.declared.Page.{Page}
 use Rattle.list.specs.Pairs.{start, none}
-use Rattle.list.specs.Pages.{pageOf, followed}
+use Rattle.list.specs.Pages.{pageOf, pagePairs, shown, followed}
 use Rattle.list.specs.Rows.{Rising}
-use Rattle.list.specs.RingList.{ringPair, pairAt, ringList}
-use Rattle.list.proofs.RowLaws.{Placed, ring-iff, ring-only, ring-once}
+use Rattle.list.specs.RingList.{ringPair, sizeOf, pairAt, ringList}
+use Rattle.list.proofs.PageLaws.{page-shows, shown-member}
+use Rattle.list.proofs.RowLaws.{Placed, ring-iff, ring-only, ring-size, ring-once}
 use Rattle.walk.specs.declared.Blocker.{Blocker}
 use Rattle.walk.specs.declared.Hit.the-variants.{Point as PointHit, Side}
 use Rattle.walk.specs.declared.Answer.{Answer}
@@ -178,11 +180,26 @@ module _ (P Q : List ℤ) (p-opens : WellFormed P) (q-opens : WellFormed Q) wher
   page-is key size r h a = a .promised ∙ of-page.page-served P Q key size sheets (h .q-in) (h .p-in) (h .some) (h .most)
 
   -- "The page holds both editions, the key, the first `size` ring pairs strictly after the key (fewer if fewer follow), their number and an end mark, set exactly
-  -- when no ring pair follows the last one shown, or follows the key if none is shown. Unused pairs are (0, 0)."
+  -- when no ring pair follows the last one shown, or follows the key if none is shown." "Unused pairs are three zeros."
   pub page-pairs : (key : Key) (size : ℕ) (r : Paged) → InRange key size → PageAnswers P Q key size r
       → (r .number ≡ 0) × (r .page ≡ pageOf (sourceOf P Q) (ringList (pointsOf P) (pointsOf Q)) key size)
   unfolding pageGiven
   page-pairs key size r h a = let e = page-is key size r h a in (ap (λ (x : Paged). x .number) e, ap (λ (x : Paged). x .page) e)
+
+  -- the size of a listed pair, by the words of the sheets
+  listed-size : (v : Pair) → List·Memᴰ v (ringList (pointsOf P) (pointsOf Q))
+      → (j i : ℕ) → j < points Q → i < points P → idAt (pointsOf Q) j ≡ v .q → idAt (pointsOf P) i ≡ v .p → v .size ≡ sizeOf (spotOf Q j) (spotOf P i)
+  listed-size v m j i j-in i-in e f =
+      ring-size (pointsOf P) (pointsOf Q) (of-join.points-rise (facts P p-opens)) (of-join.points-rise (facts Q q-opens)) v m j i (omega (arith, length-points Q)) (omega (arith, length-points P)) e f
+      ∙ ap₂ sizeOf (spot-of Q j j-in) (spot-of P i i-in)
+
+  -- "Each pair in pages [..] now has its squared diameter beside the ids": that of the places of the two records with these ids.
+  pub pair-size : (key : Key) (size : ℕ) (r : Paged) → InRange key size → PageAnswers P Q key size r → (v : Pair) → List·Memᴰ v (pagePairs (r .page))
+      → (j i : ℕ) → j < points Q → i < points P → idAt (pointsOf Q) j ≡ v .q → idAt (pointsOf P) i ≡ v .p → v .size ≡ sizeOf (spotOf Q j) (spotOf P i)
+  pair-size key size r h a v m =
+      let l = ringList (pointsOf P) (pointsOf Q) in
+      let s : pagePairs (r .page) ≡ shown l key size = ap pagePairs (page-pairs key size r h a .1) ∙ page-shows key (sourceOf P Q) l size in
+      listed-size v (shown-member l key size v (subst (List·Memᴰ v) s m))
 
   -- "Beside the page stands its count of nodes opened": that of the walks as they are defined, the filter walks' kept sets on sixteen words.
   pub page-opened : (key : Key) (size : ℕ) (r : Paged) → InRange key size → PageAnswers P Q key size r
@@ -283,12 +300,17 @@ module _ (P Q : List ℤ) (p-opens : WellFormed P) (q-opens : WellFormed Q) wher
           of-leaf.run-once P Q (facts P p-opens) (facts Q q-opens) v (o .here) (o .level) b c h (omega (arith, k, count-is))
           (subst (λ (l : List Pair). getD l b none ≡ getD l c none) stored e)
 
+      -- "Each pair in [..] leaf runs now has its squared diameter beside the ids": that of the places of the two records with these ids
+      pub run-size : (x : Pair) → List·Memᴰ x (take (r .count) slots′)
+          → (j i : ℕ) → j < points Q → i < points P → idAt (pointsOf Q) j ≡ x .q → idAt (pointsOf P) i ≡ x .p → x .size ≡ sizeOf (spotOf Q j) (spotOf P i)
+      run-size x m = listed-size x (of-leaf.run-listed P Q (facts P p-opens) (facts Q q-opens) v (o .here) (o .level) x (subst (List·Memᴰ x) stored m))
+
       -- "by place, then p id": of two stored pairs, the first is of a chamber at an earlier place of the leaf, or of the same chamber and has the lower p id
       pub run-order : (b c : ℕ) → b < c → c < r .count → InTurn (λ k. idAt (pointsOf Q) (chamberAt Q v k)) (countOf Q (points Q) v) (getD (take (r .count) slots′) b none) (getD (take (r .count) slots′) c none)
       unfolding leafList
       run-order b c h k =
           subst (λ (l : List Pair). InTurn (λ k. idAt (pointsOf Q) (chamberAt Q v k)) (countOf Q (points Q) v) (getD l b none) (getD l c none)) (sym stored)
-          (in-turn (λ k i. ringPair (pointsOf P) (pointsOf Q) (chamberAt Q v k) i) (λ k. idAt (pointsOf Q) (chamberAt Q v k)) (idAt (pointsOf P)) (points P) (countOf Q (points Q) v)
+          (in-turn (λ k i. ringPair (pointsOf P) (pointsOf Q) (chamberAt Q v k) i) (λ k. idAt (pointsOf Q) (chamberAt Q v k)) (idAt (pointsOf P)) (λ k i. sizeOf (spotAt (pointsOf Q) (chamberAt Q v k)) (spotAt (pointsOf P) i)) (points P) (countOf Q (points Q) v)
           (omega (arith, leaf-few Q (facts Q q-opens) v (o .here) (o .level)))
           (subst (Rising (idAt (pointsOf P))) (length-points P) (of-join.points-rise (facts P p-opens)))
           b c h (omega (arith, k, count-is)))

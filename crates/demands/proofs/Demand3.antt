@@ -6,6 +6,7 @@
 -- call admits (`Book::begin`, `ring::page::page`, `Book::take`). `bookList w b` is the ring list of the book's two editions.
 --
 --     held-prefix     it holds the first so many pairs of its list
+--     held-size       each with the squared diameter of the places of its two records
 --     closed-all      it is closed only when it holds all
 --     progress        its own page is given, is taken, and adds a pair or closes it
 --     closes          so a book that goes on asking is closed after at most one request more than pairs are missing
@@ -22,21 +23,19 @@ use lib.IntN.{ℤ}
 use lib.ListN.{length, take, drop, take-append-drop}
 use Rattle.integers.specs.Bools.{decide}
 use Rattle.words.specs.Range.{lastId}
-use Rattle.plane.specs.Point.{Point}
-use Rattle.sheet.specs.Limits.{form1}
+use Rattle.plane.specs.Point.{Point, idAt, spotAt}
 use Rattle.sheet.specs.Places.{pointsOf}
-use Rattle.sheet.proofs.SheetLaws.{open-facts, form1-fair}
 use Rattle.list.specs.declared.Key.{Key}
 use Rattle.list.specs.declared.Pair.{Pair}
 use Rattle.list.specs.declared.Source.{Source}
 use Rattle.list.specs.declared.Page.{Page}
 use Rattle.list.specs.Pairs.{start, lastOr}
 use Rattle.list.specs.Pages.{shown, pageOf}
-use Rattle.list.specs.RingList.{ringList}
+use Rattle.list.specs.RingList.{sizeOf, ringList}
 use Rattle.list.proofs.Order.{last-holds}
 use Rattle.list.proofs.PageLaws.{shown-count, length-padded}
-use Rattle.list.proofs.RowLaws.{ring-keys}
-use Rattle.join.proofs.Meaning.{points-rise}
+use Rattle.list.proofs.RowLaws.{ring-size, ring-keys}
+use Rattle.join.proofs.Meaning.{points-sound}
 use Rattle.ring.specs.Numbers.{sheetsNo}
 use Rattle.ring.specs.Page.{askedNo, pageNo, sourceOf, pageGiven, pageAnswer}
 use Rattle.ring.specs.declared.Paged.{Paged}
@@ -58,14 +57,14 @@ use Rattle.demands.proofs.Demand1 as demand1
 use Rattle.demands.proofs.Demand2 as demand2
 
 module _ (w : Editions) where
-  -- ids ascend, since the sheets open
+  -- ids ascend and points stand within 1,000,000, since the sheets open
   abbrev worldOf : World
   worldOf =
       record {
         pumps = λ e. pointsOf (w .pumps e);
         chambers = λ e. pointsOf (w .chambers e);
-        pumps-rise = λ e. points-rise (open-facts form1 form1-fair (w .pumps e) (w .pumps-open e));
-        chambers-rise = λ e. points-rise (open-facts form1 form1-fair (w .chambers e) (w .chambers-open e));
+        pumps-sound = λ e. points-sound (w .pumps e) (w .pumps-open e);
+        chambers-sound = λ e. points-sound (w .chambers e) (w .chambers-open e);
       }
 
   -- the list of two sheets of this world is that of their editions
@@ -96,6 +95,20 @@ module _ (w : Editions) where
       → (b .held ≤ length s) × (b .held ≤ length (bookList w b)) × (take (b .held) s ≡ take (b .held) (bookList w b))
   held-prefix h = of-story.held-prefix worldOf (reached h)
 
+  -- "What a book holds is still the first so many of the list, sizes included": of each pair that it holds, the size is the squared diameter of the places of its two records
+  pub held-size : {b : Book} {s : List Pair} → History w b s → (v : Pair) → List·Memᴰ v (take (b .held) s)
+      → (j i : ℕ) → j < length (worldOf .chambers (b .source .«q_edition»)) → i < length (worldOf .pumps (b .source .«p_edition»))
+      → idAt (worldOf .chambers (b .source .«q_edition»)) j ≡ v .q → idAt (worldOf .pumps (b .source .«p_edition»)) i ≡ v .p
+      → v .size ≡ sizeOf (spotAt (worldOf .chambers (b .source .«q_edition»)) j) (spotAt (worldOf .pumps (b .source .«p_edition»)) i)
+  held-size {b} h v m =
+      let l = bookList w b in
+      ring-size
+      (worldOf .pumps (b .source .«p_edition»))
+      (worldOf .chambers (b .source .«q_edition»))
+      (worldOf .pumps-sound (b .source .«p_edition») .rising)
+      (worldOf .chambers-sound (b .source .«q_edition») .rising)
+      v (subst (List·Memᴰ v) (take-append-drop (b .held) l) (Memᴰ·append-left (drop (b .held) l) (subst (List·Memᴰ v) (held-prefix h .2) m)))
+
   -- "calls itself closed only when it holds all"
   pub closed-all : {b : Book} {s : List Pair} → History w b s → b .closed ≡ true
       → (b .held ≡ length (bookList w b)) × (take (b .held) s ≡ bookList w b)
@@ -113,8 +126,8 @@ module _ (w : Editions) where
       ring-keys
       (worldOf .pumps (b .source .«p_edition»))
       (worldOf .chambers (b .source .«q_edition»))
-      (worldOf .pumps-rise (b .source .«p_edition»))
-      (worldOf .chambers-rise (b .source .«q_edition»))
+      (worldOf .pumps-sound (b .source .«p_edition») .rising)
+      (worldOf .chambers-sound (b .source .«q_edition») .rising)
 
   module _ {b : Book} {s : List Pair} (h : History w b s) {g : Page} (o : OwnPage w b s g) where
     key-last : o .key ≡ lastOr start (take (b .held) s)

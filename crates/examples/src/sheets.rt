@@ -61,6 +61,7 @@ fn say_end() {
 fn say_pair(v: Pair) {
     say_count(v.q as u64);
     say_count(v.p as u64);
+    say_count(v.size);
 }
 
 // The first n of sixteen pairs.

@@ -25,6 +25,7 @@ use Rattle.walk.specs.FilterWalk.{filterKept}
 use Rattle.walk.specs.RingWalk.{clear, pairWalk}
 use Rattle.walk.proofs.Meaning.{filter-opened-at-most-m, pair-opened}
 use Rattle.list.specs.declared.Key.{Key}
+use Rattle.list.specs.declared.Pair.{Pair}
 use Rattle.list.specs.Pairs.{keyOf, follows}
 use Rattle.list.specs.RingList.{pairAt}
 use Rattle.join.specs.declared.Draft.{Draft}
@@ -54,34 +55,34 @@ module _ (qid : ℕ → ℕ) (key : Key) where
 
 -- ---- a kept partner
 
-module _ (P Q : List ℤ) (key : Key) (j i a b : ℕ) (ea : a ≡ idAt (pointsOf Q) j) (eb : b ≡ idAt (pointsOf P) i) (k : Key) (ek : k ≡ keyOf (record { q = a; p = b })) (t : Bool) (et : t ≡ follows key k) where
+module _ (P Q : List ℤ) (key : Key) (j i a b : ℕ) (ea : a ≡ idAt (pointsOf Q) j) (eb : b ≡ idAt (pointsOf P) i) (t : Bool) (et : t ≡ follows key (record { q = a; p = b })) where
   after-is : follows key (keyOf (pairAt (pointsOf P) (pointsOf Q) j i)) ≡ t
-  after-is = sym (et ∙ ap (follows key) (ek ∙ (λ s. record { q = ea s; p = eb s })))
+  after-is = sym (et ∙ ap (follows key) (λ s. record { q = ea s; p = eb s }))
 
-  pub tried-early : not t ≡ true → (words : ℕ) → record { pair = record { q = a; p = b }; finds = false; opened = 0 } ≡ tried (walksOf words P Q) key j i
+  pub tried-early : not t ≡ true → (words : ℕ) → record { finds = false; opened = 0 } ≡ tried (walksOf words P Q) key j i
   unfolding tried
   tried-early n words =
       let f : follows key (keyOf (pairAt (pointsOf P) (pointsOf Q) j i)) ≡ false = after-is ∙ not-true t n in
       let x : false ≡ (follows key (keyOf (pairAt (pointsOf P) (pointsOf Q) j i)) && clear (pairWalk P Q j i .hit)) = sym (ap (λ (y : Bool). y && clear (pairWalk P Q j i .hit)) f) in
       let z : 0 ≡ cond (follows key (keyOf (pairAt (pointsOf P) (pointsOf Q) j i))) (pairWalk P Q j i .opened) 0 = sym (ap (λ (y : Bool). cond y (pairWalk P Q j i .opened) 0) f) in
-      λ s. record { pair = record { q = ea s; p = eb s }; finds = x s; opened = z s }
+      λ s. record { finds = x s; opened = z s }
 
   pub tried-walked : not t ≡ false → (o : Answer) → o ≡ pairWalk P Q j i → (c : Bool) → c ≡ clear (o .hit) → (words : ℕ)
-      → record { pair = record { q = a; p = b }; finds = c; opened = o .opened } ≡ tried (walksOf words P Q) key j i
+      → record { finds = c; opened = o .opened } ≡ tried (walksOf words P Q) key j i
   unfolding tried
   tried-walked n o eo c ec words =
       let f : follows key (keyOf (pairAt (pointsOf P) (pointsOf Q) j i)) ≡ true = after-is ∙ not-false t n in
       let x : c ≡ (follows key (keyOf (pairAt (pointsOf P) (pointsOf Q) j i)) && clear (pairWalk P Q j i .hit)) = ec ∙ ap (λ (y : Answer). clear (y .hit)) eo ∙ sym (ap (λ (y : Bool). y && clear (pairWalk P Q j i .hit)) f) in
       let z : o .opened ≡ cond (follows key (keyOf (pairAt (pointsOf P) (pointsOf Q) j i))) (pairWalk P Q j i .opened) 0 = ap (λ (y : Answer). y .opened) eo ∙ sym (ap (λ (y : Bool). cond y (pairWalk P Q j i .opened) 0) f) in
-      λ s. record { pair = record { q = ea s; p = eb s }; finds = x s; opened = z s }
+      λ s. record { finds = x s; opened = z s }
 
-pub with-yes : (size : ℕ) (t u : Tried) (d r : Draft) → t ≡ u → t .finds ≡ true → r ≡ found size (t .pair) (spent (t .opened) d) → r ≡ withTried size u d
+pub with-yes : (size : ℕ) (v w : Pair) (t u : Tried) (d r : Draft) → v ≡ w → t ≡ u → t .finds ≡ true → r ≡ found size v (spent (t .opened) d) → r ≡ withTried size w u d
 unfolding withTried
-with-yes size t u d r e y f = rw (← e, y) f
+with-yes size v w t u d r x e y f = rw (← x, ← e, y) f
 
-pub with-no : (size : ℕ) (t u : Tried) (d : Draft) → t ≡ u → t .finds ≡ false → spent (t .opened) d ≡ withTried size u d
+pub with-no : (size : ℕ) (v : Pair) (t u : Tried) (d : Draft) → t ≡ u → t .finds ≡ false → spent (t .opened) d ≡ withTried size v u d
 unfolding withTried
-with-no size t u d e n = rw (← e, n)
+with-no size v t u d e n = rw (← e, n)
 
 -- ---- the words of the filter walk, and room
 

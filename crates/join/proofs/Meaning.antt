@@ -1,6 +1,7 @@
 -- What the page maker makes, for every two sheets that open, in any form: P of np points, Q of nq, the kept sets on words that have a position for each of np.
 --
 --     points-rise       the ids of a sheet's points ascend, from 1 to 2,000,000,000: what the laws of the list ask for
+--     points-sound      of a sheet of form 1 they also stand within 1,000,000: what demand 3 asks for
 --     page-pairs        the pairs, their number and the end mark are those of the page of `ringList (pointsOf P) (pointsOf Q)`
 --     page-opened       the count is that of the walks, `pageOpened`
 --     sheet-pages       following the pages from (0, 0), whatever their sizes, gives the list
@@ -10,13 +11,16 @@ use mathlib.Core.Path.{_≡_, sym, ap, subst, _∙_}
 use mathlib.Core.List.{List}
 use Prim.Native.Nat.{ℕ, _*_, _≤_, _<_}
 use native.Mathlib.Omega.{arith}
-use lib.IntN.{ℤ}
+use lib.IntN.{ℤ, pos}
 use lib.ListN.{length}
+use lib.Signed.{_≤ℤ_}
 use Rattle.plane.specs.Point.{Point, idAt}
+use Rattle.sheet.specs.declared.Limits.{Limits}
+use Rattle.sheet.specs.Limits.{form1}
 use Rattle.sheet.specs.Layout.{points}
 use Rattle.sheet.specs.Places.{pointsOf}
-use Rattle.sheet.specs.Open.{Opens}
-use Rattle.sheet.proofs.PointsLaws.{length-points, id-low, id-high, id-rises}
+use Rattle.sheet.specs.Open.{openNo, Opens}
+use Rattle.sheet.proofs.PointsLaws.{length-points, spot-of, id-low, id-high, id-rises}
 use Rattle.walk.proofs.Meaning.{pair-exact}
 use Rattle.list.specs.declared.Key.{Key}
 use Rattle.list.specs.declared.Pair.{Pair}
@@ -24,14 +28,15 @@ use Rattle.list.specs.declared.Source.{Source}
 use Rattle.list.specs.Pairs.{start}
 use Rattle.list.specs.Pages.{pageOf, followed}
 use Rattle.list.specs.Rows.{listBy, Rising}
-use Rattle.list.specs.RingList.{ringPair, pairAt, ringList}
+use Rattle.list.specs.RingList.{ringPair, pairAt, ringList, Sound}
 use Rattle.list.proofs.RowLaws.{named, ring-pages}
 use Rattle.join.specs.Work.{pageOpened}
 use Rattle.join.specs.Maker.{pageMade, pageFrom}
 use Rattle.join.specs.Sheets.{walksOf}
 use Rattle.join.proofs.MakerLaws.{Exact, maker-page}
 use Rattle.join.proofs.WorkLaws.{maker-opened}
-use Rattle.sheet.proofs.SheetLaws.{own}
+use Rattle.sheet.proofs.SheetLaws.{open-facts, open-lim, form1-fair, own}
+use Rattle.sheet.proofs.RangeLaws.{spot-within}
 
 module _ {w : List ℤ} {n m : ℕ} (o : Opens w n m) where
   pub points-rise : Rising (idAt (pointsOf w)) (length (pointsOf w))
@@ -39,6 +44,20 @@ module _ {w : List ℤ} {n m : ℕ} (o : Opens w n m) where
 
   ids-rise : Rising (idAt (pointsOf w)) n
   ids-rise = subst (Rising (idAt (pointsOf w))) (length-points w ∙ o .n-is) points-rise
+
+-- the points of a sheet of form 1 are sound: their ids ascend strictly, and they stand within 1,000,000
+pub points-sound : (w : List ℤ) → openNo form1 w ≡ 0 → Sound (pointsOf w)
+unfolding form1
+points-sound w e =
+    let o = open-facts form1 form1-fair w e in
+    let c : o .lim .coordinate ≤ℤ pos 1_000_000 = subst (λ (l : Limits). l .coordinate ≤ℤ pos 1_000_000) (sym (open-lim form1 form1-fair w e)) (record { le = tt }) in
+    record {
+      rising = points-rise o;
+      near = λ i h.
+          let k : i < points w = omega (arith, length-points w) in
+          let z = spot-within o 1_000_000 c i k in
+          rw (spot-of w i k) (record { x-near = z .0; y-near = z .1 });
+    }
 
 module _ {P Q : List ℤ} {np mp nq mq : ℕ} (o : Opens P np mp) (o′ : Opens Q nq mq) where
   list-is : listBy (ringPair (pointsOf P) (pointsOf Q)) (pairAt (pointsOf P) (pointsOf Q)) np nq ≡ ringList (pointsOf P) (pointsOf Q)

@@ -41,10 +41,10 @@ module _ (w : Walks) (key : Key) (size : ℕ) where
   found-opened v d =
       ⊎-elim (λ (e : ltb (d .count) size ≡ true). rw e) (λ (e : ltb (d .count) size ≡ false). rw e) (decide (ltb (d .count) size))
 
-  with-opened : (t : Tried) (d : Draft) → withTried size t d .opened ≡ d .opened + t .opened
+  with-opened : (v : Pair) (t : Tried) (d : Draft) → withTried size v t d .opened ≡ d .opened + t .opened
   unfolding withTried
-  with-opened t d =
-      ⊎-elim (λ (e : t .finds ≡ true). rw e (found-opened (t .pair) (spent (t .opened) d))) (λ (e : t .finds ≡ false). rw e) (decide (t .finds))
+  with-opened v t d =
+      ⊎-elim (λ (e : t .finds ≡ true). rw e (found-opened v (spent (t .opened) d))) (λ (e : t .finds ≡ false). rw e) (decide (t .finds))
 
   tried-cap : (a b : ℕ) → Capped w a b → (j i : ℕ) → tried w key j i .opened ≤ b
   unfolding tried
@@ -57,7 +57,7 @@ module _ (w : Walks) (key : Key) (size : ℕ) where
   pub tried-few : (a b : ℕ) → Capped w a b → (j i : ℕ) (t : Tried) → t ≡ tried w key j i → t .opened ≤ b
   tried-few a b c j i t e = rw e (tried-cap a b c j i)
 
-  partner-kept : (j i : ℕ) (d : Draft) → w .kept j i ≡ true → partner w key size j i d ≡ withTried size (tried w key j i) d
+  partner-kept : (j i : ℕ) (d : Draft) → w .kept j i ≡ true → partner w key size j i d ≡ withTried size (w .pair j i) (tried w key j i) d
   unfolding partner
   partner-kept j i d e = rw e
 
@@ -106,7 +106,7 @@ module _ (w : Walks) (key : Key) (size : ℕ) where
       let x = partners-cap a b c j k (i + 1) (partner w key size j i d) in
       let y : partner w key size j i d .opened ≤ d .opened + b =
       ⊎-elim
-      (λ (e : w .kept j i ≡ true). rw (partner-kept j i d e) (omega (arith, with-opened (tried w key j i) d, tried-cap a b c j i)))
+      (λ (e : w .kept j i ≡ true). rw (partner-kept j i d e) (omega (arith, with-opened (w .pair j i) (tried w key j i) d, tried-cap a b c j i)))
       (λ (e : w .kept j i ≡ false). rw (partner-not j i d e) (omega arith))
       (decide (w .kept j i)) in
       let z : k * b + b ≡ suc k * b = omega arith in
@@ -137,10 +137,10 @@ module _ (w : Walks) (key : Key) (size : ℕ) where
   tries-room b j n d r i l t = omega (arith, t .room, step-mul i n b l)
 
   pub tries-on : (a b : ℕ) → Capped w a b → (j n : ℕ) (d r : Draft) (ws : List ℕ) → Words w j ws → n ≤ 64 * length ws → (i : ℕ) → i < n → r .more ≡ false → Tries b j n d r i
-      → (r′ : Draft) → r′ ≡ withTried size (tried w key j i) r → (u : ℕ) → u ≡ nextFrom ws (i + 1) → Tries b j n d r′ u
+      → (r′ : Draft) → r′ ≡ withTried size (w .pair j i) (tried w key j i) r → (u : ℕ) → u ≡ nextFrom ws (i + 1) → Tries b j n d r′ u
   tries-on a b c j n d r ws s h i l m t r′ e u f =
       let up = from-le ws (i + 1) u f in
-      let cap : r′ .opened ≤ r .opened + b = rw e (omega (arith, with-opened (tried w key j i) r, tried-cap a b c j i)) in
+      let cap : r′ .opened ≤ r .opened + b = rw e (omega (arith, with-opened (w .pair j i) (tried w key j i) r, tried-cap a b c j i)) in
       record {
         left =
             sym (partners-next j n r′ ws s (i + 1) u f)

@@ -24,15 +24,14 @@ found size v d =
     (record { pairs = set (d .pairs) (d .count) v; count = d .count + 1; more = d .more; opened = d .opened })
     (record { pairs = d .pairs; count = d .count; more = true; opened = d .opened })
 
--- a kept partner was tried
-unfoldable pub withTried : ℕ → Tried → Draft → Draft
-withTried size t d = cond (t .finds) (found size (t .pair) (spent (t .opened) d)) (spent (t .opened) d)
+-- a kept partner was tried, with which q makes the pair v
+unfoldable pub withTried : ℕ → Pair → Tried → Draft → Draft
+withTried size v t d = cond (t .finds) (found size v (spent (t .opened) d)) (spent (t .opened) d)
 
 -- position i of P, kept for the q at j: ring-walked if it is after the key
 unfoldable pub tried : Walks → Key → ℕ → ℕ → Tried
 tried w key j i =
     record {
-      pair = w .pair j i;
       finds = follows key (keyOf (w .pair j i)) && w .clear j i;
       opened = cond (follows key (keyOf (w .pair j i))) (w .clearOpened j i) 0;
     }
@@ -40,7 +39,7 @@ tried w key j i =
 module _ (w : Walks) (key : Key) (size : ℕ) where
   -- position i of P, for the q at j
   unfoldable pub partner : ℕ → ℕ → Draft → Draft
-  partner j i d = cond (w .kept j i) (withTried size (tried w key j i) d) d
+  partner j i d = cond (w .kept j i) (withTried size (w .pair j i) (tried w key j i) d) d
 
   -- the k positions of P from i on, until a pair beyond the size is found
   unfoldable pub partners : ℕ → ℕ → ℕ → Draft → Draft

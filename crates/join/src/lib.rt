@@ -23,9 +23,8 @@ pub struct Draft {
     pub opened: u64,
 }
 
-// What trying a kept partner gave: its pair, whether that is a ring pair after the key, and the nodes opened.
+// What trying a kept partner gave: whether it makes a ring pair after the key, and the nodes opened.
 pub struct Tried {
-    pub pair: Pair,
     pub finds: bool,
     pub opened: u64,
 }
@@ -61,20 +60,18 @@ fn try_partner(
     requires { ⌜ Opens (now p) np mp × Opens (now q) nq mq × (j < nq) × (i < np) ⌝ }
     ensures { λ r. ⌜ ((words : ℕ) → r ≡ tried (walksOf words (now (p .entry)) (now (q .entry))) key j i) ⌝ }
 {
-    let v = Pair {
+    let v = Key {
         q: sheet::reads::id_at(q, nq, mq, j),
         p: sheet::reads::id_at(p, np, mp, i),
     };
-    if !list::is_after(key, list::key_of(v)) {
+    if !list::is_after(key, v) {
         return Tried {
-            pair: v,
             finds: false,
             opened: 0,
         };
     }
     let a = walk::ring::pair_walk(p, np, mp, q, nq, mq, j, i);
     Tried {
-        pair: v,
         finds: walk::clear_after(a),
         opened: a.opened,
     }
@@ -106,7 +103,7 @@ fn with_partners(
         let t = try_partner(p, np, mp, q, nq, mq, key, j, i);
         r.opened = r.opened + t.opened;
         if t.finds {
-            let v = t.pair;
+            let v = walk::pair::pair_at(p, np, mp, q, nq, mq, j, i);
             r = with_found(r, size, v);
         }
         i = bits::next_from(bits, i + 1);
@@ -169,7 +166,11 @@ pub fn made_on(
     ensures { λ r. ⌜ r ≡ pageMade (walksOf (length (now (bits .entry))) (now (p .entry)) (now (q .entry))) key size np nq ⌝ }
 {
     let mut r = Draft {
-        pairs: [Pair { q: 0, p: 0 }; 16],
+        pairs: [Pair {
+            q: 0,
+            p: 0,
+            size: 0,
+        }; 16],
         count: 0,
         more: false,
         opened: 0,

@@ -18,7 +18,6 @@ use Rattle.bits.proofs.NextLaws.{from-le, from-kept, from-skip}
 use Rattle.words.specs.All.{allB}
 use Rattle.plane.specs.declared.Spot.{Spot}
 use Rattle.plane.specs.Rule.{drops}
-use Rattle.plane.specs.Point.{idAt}
 use Rattle.sheet.specs.Layout.{points, nodes}
 use Rattle.sheet.specs.Order.{orderOf}
 use Rattle.sheet.specs.Nodes.{levelOf, firstOf, countOf}
@@ -744,8 +743,8 @@ module _ {P Q : List ℤ} {np mp nq mq v words : ℕ} (told : Told P np mp Q nq 
     pub next-few : x < 1024000
     next-few = omega (arith, next-fits, r .long, told .small)
 
-    pub next-pair : (first j q p : ℕ) → first ≡ firstOf Q nq v → j ≡ orderOf Q nq (first + x / (64 * words)) → q ≡ idAt (pointsOf Q) j → p ≡ idAt (pointsOf P) (x % (64 * words))
-        → leftFrom P Q v words b at ≡ record { q = q; p = p } ∷ leftFrom P Q v words b (x + 1)
-    next-pair first j q p f g h k =
+    pub next-pair : (first j : ℕ) (y : Pair) → first ≡ firstOf Q nq v → j ≡ orderOf Q nq (first + x / (64 * words)) → y ≡ pairAt (pointsOf P) (pointsOf Q) j (x % (64 * words))
+        → leftFrom P Q v words b at ≡ y ∷ leftFrom P Q v words b (x + 1)
+    next-pair first j y f g h =
         left-pair P Q v words b at x e next-fits
-        ∙ ap (λ (y : Pair). y ∷ leftFrom P Q v words b (x + 1)) (sym (λ i. record { q = (h ∙ ap (idAt (pointsOf Q)) (chamber-is first j x f g)) i; p = k i }))
+        ∙ ap (λ (z : Pair). z ∷ leftFrom P Q v words b (x + 1)) (sym (h ∙ ap (λ (k : ℕ). pairAt (pointsOf P) (pointsOf Q) k (x % (64 * words))) (chamber-is first j x f g)))

@@ -78,10 +78,7 @@ pub fn pair_from(
     let x = bits::next_from(bits, at);
     let first = sheet::reads::first_at(q, nq, mq, v);
     let j = sheet::reads::order_at(q, nq, mq, first + x / (64 * words));
-    let pair = Pair {
-        q: sheet::reads::id_at(q, nq, mq, j),
-        p: sheet::reads::id_at(p, np, mp, x % (64 * words)),
-    };
+    let pair = walk::pair::pair_at(p, np, mp, q, nq, mq, j, x % (64 * words));
     let next = x + 1;
     Step {
         pair: pair,

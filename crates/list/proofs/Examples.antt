@@ -21,8 +21,8 @@ use Rattle.list.specs.RingList.{unblocked, ringPair, ringList}
 abbrev at : ℕ → ℕ → ℕ → Point
 at i x y = record { id = i; spot = spot (pos x) (pos y) }
 
-abbrev to : ℕ → ℕ → Pair
-to q p = record { q = q; p = p }
+abbrev to : ℕ → ℕ → ℕ → Pair
+to q p size = record { q = q; p = p; size = size }
 
 abbrev key : ℕ → ℕ → Key
 key q p = record { q = q; p = p }
@@ -42,12 +42,12 @@ page k size = pageOf source (ringList pumps chambers) k size
 
 -- the page that shows one pair, (6, 2), with the end mark
 abbrev last : Key → Page
-last k = record { source = source; key = k; count = 1; end = true; pairs = to 6 2 ∷ replicate 15 none }
+last k = record { source = source; key = k; count = 1; end = true; pairs = to 6 2 37 ∷ replicate 15 none }
 
 pub record Listed : Type 0 where
-  listing : ringList pumps chambers ≡ to 5 1 ∷ to 5 2 ∷ to 6 2 ∷ []
+  listing : ringList pumps chambers ≡ to 5 1 16 ∷ to 5 2 36 ∷ to 6 2 37 ∷ []
   -- "Size 2 from (0,0) gives two pairs, no end mark; from (5,2) one pair with the mark; from (6,2) none, with the mark. Key (5,3) gives (6,2)."
-  first : page start 2 ≡ record { source = source; key = start; count = 2; end = false; pairs = to 5 1 ∷ to 5 2 ∷ replicate 14 none }
+  first : page start 2 ≡ record { source = source; key = start; count = 2; end = false; pairs = to 5 1 16 ∷ to 5 2 36 ∷ replicate 14 none }
   second : page (key 5 2) 2 ≡ last (key 5 2)
   third : page (key 6 2) 2 ≡ record { source = source; key = key 6 2; count = 0; end = true; pairs = replicate 16 none }
   between : page (key 5 3) 2 ≡ last (key 5 3)

@@ -10,18 +10,22 @@ use native.Mathlib.Numerals.{add-one}
 use native.Mathlib.Nat.{eq-or-lt-of-le, le-antisymm}
 use lib.Dec.{ltb}
 use borrow.Author.Tests.{ltb-true, ltb-false}
+use lib.IntN.{pos, natAbs}
 use lib.ListN.{length, getD}
 use Rattle.integers.specs.Bools.{decide, and-both}
-use Rattle.words.specs.Range.{lastId, idOk}
-use Rattle.words.proofs.RangeLaws.{id-make, id-bounds}
-use Rattle.plane.specs.Point.{Point, idAt}
+use Rattle.integers.specs.Order.{in-+, in--, in-*, in-up}
+use Rattle.words.specs.Range.{lastId, idOk, sizeOk}
+use Rattle.words.proofs.RangeLaws.{id-make, id-bounds, size-make}
+use Rattle.plane.specs.declared.Spot.{Spot}
+use Rattle.plane.specs.Rule.{size}
+use Rattle.plane.specs.Point.{Point, idAt, spotAt}
 use Rattle.list.specs.declared.Key.{Key}
 use Rattle.list.specs.declared.Pair.{Pair}
 use Rattle.list.specs.declared.Source.{Source}
 use Rattle.list.specs.Pairs.{start, none, keyOf, follows, ascends, lastOr}
 use Rattle.list.specs.Pages.{pageOf, followed}
 use Rattle.list.specs.Rows.{row, rows, listBy, Rising, Named}
-use Rattle.list.specs.RingList.{ringPair, pairAt, ringList}
+use Rattle.list.specs.RingList.{ringPair, sizeOf, pairAt, ringList, Near, Sound}
 use Rattle.list.proofs.Order.{by-q, by-p, asc-append, once}
 use Rattle.list.proofs.PageLaws.{pages-list}
 
@@ -165,6 +169,17 @@ module _ (rule : ℕ → ℕ → Bool) (pair : ℕ → ℕ → Pair) (qid pid : 
 pub named : (P Q : List Point) → Named (pairAt P Q) (idAt Q) (idAt P)
 named P Q = record { q-is = λ j i. refl; p-is = λ j i. refl }
 
+-- a pair that has the ids of two records and the squared diameter of their places is the pair of their positions
+pub pair-made : (P Q : List Point) (j i a b d : ℕ) (y z : Spot) → a ≡ idAt Q j → b ≡ idAt P i → y ≡ spotAt Q j → z ≡ spotAt P i → pos d ≡ size y z → _≡_ {A = Pair} (record { q = a; p = b; size = d }) (pairAt P Q j i)
+pair-made P Q j i a b d y z ea eb ey ez ed = λ t. record { q = ea t; p = eb t; size = (ap natAbs ed ∙ ap₂ sizeOf ey ez) t }
+
+-- the size of two places where points of sheets may stand is in range
+pub size-most : (a b : Spot) → Near a → Near b → sizeOk (sizeOf a b) ≡ true
+size-most a b h k =
+    let x = in-- (h .x-near) (k .x-near) in
+    let y = in-- (h .y-near) (k .y-near) in
+    size-make (sizeOf a b) (in-up (in-+ (in-* x x) (in-* y y)) tt .abs)
+
 id-in : (id : ℕ → ℕ) (n : ℕ) → Rising id n → (i : ℕ) → i < n → idOk (id i) ≡ true
 id-in id n r i h = id-make (id i) (r .low i h) (r .high i h)
 
@@ -193,6 +208,14 @@ module _ (P Q : List Point) (rp : Rising (idAt P) (length P)) (rq : Rising (idAt
   pub ring-keys : (v : Pair) → List·Memᴰ v (ringList P Q) → (v .q ≤ lastId) × (v .p ≤ lastId)
   ring-keys v m = let z = ring-ids v m in (id-bounds (v .q) (z .0) .1, id-bounds (v .p) (z .1) .1)
 
+  -- .. its size is the squared diameter of the places of its two records ..
+  pub ring-size : (v : Pair) → List·Memᴰ v (ringList P Q) → (j i : ℕ) → j < length Q → i < length P → idAt Q j ≡ v .q → idAt P i ≡ v .p → v .size ≡ sizeOf (spotAt Q j) (spotAt P i)
+  ring-size v m j i a b e f =
+      let z = ring-only v m in
+      let x : z .at-q ≡ j = by-id (idAt Q) (length Q) rq (z .at-q) j (z .q-in) a (sym (e ∙ ap (λ (u : Pair). u .q) (z .is))) in
+      let y : z .at-p ≡ i = by-id (idAt P) (length P) rp (z .at-p) i (z .p-in) b (sym (f ∙ ap (λ (u : Pair). u .p) (z .is))) in
+      ap (λ (u : Pair). u .size) (z .is) ∙ ap₂ (λ (s t : ℕ). sizeOf (spotAt Q s) (spotAt P t)) x y
+
   -- .. and each stands there once
   pub ring-once : (a b : ℕ) → a < b → b < length (ringList P Q) → getD (ringList P Q) a none ≡ getD (ringList P Q) b none → ⊥
   ring-once a b h g e = once start (ringList P Q) ring-ascends a b h g e
@@ -200,3 +223,9 @@ module _ (P Q : List Point) (rp : Rising (idAt P) (length P)) (rq : Rising (idAt
   -- the pages of it, followed from (0, 0), give it
   pub ring-pages : (sizes : ℕ → ℕ) (s : Source) → ((k : ℕ) → 0 < sizes k) → followed (length (ringList P Q)) sizes (pageOf s (ringList P Q)) start ≡ ringList P Q
   ring-pages sizes s some = pages-list sizes s (ringList P Q) some ring-ascends
+
+-- of sound sets of points, the size of each pair is in range too
+pub ring-sizes : (P Q : List Point) → Sound P → Sound Q → (v : Pair) → List·Memᴰ v (ringList P Q) → sizeOk (v .size) ≡ true
+ring-sizes P Q sp sq v m =
+    let z = ring-only P Q (sp .rising) (sq .rising) v m in
+    rw (z .is) (size-most (spotAt Q (z .at-q)) (spotAt P (z .at-p)) (sq .near (z .at-q) (z .q-in)) (sp .near (z .at-p) (z .p-in)))

@@ -2,7 +2,7 @@
 --     Pairs       keys and pairs, their order, what follows a key
 --     Pages       a page of a list; following the pages
 --     Rows        the list that any rule on positions makes
---     RingList    the ring rule on two sets of points, and its list
+--     RingList    the ring rule on two sets of points, and its list; sets of points as sheets hold them
 pub mod Pairs
 pub mod Pages
 pub mod Rows

@@ -14,7 +14,7 @@ use Rattle.list.specs.Pairs.{none, after, lastOr, isNone}
 unfoldable pub sourceNo : Source → Source → ℕ
 sourceNo a b = cond (eqb (a .«p_edition») (b .«p_edition») && eqb (a .«q_edition») (b .«q_edition»)) 0 13
 
--- sixteen pairs, the unused ones (0, 0)
+-- sixteen pairs, the unused ones three zeros
 unfoldable pub padded : List Pair → List Pair
 padded l = l ++ replicate (16 - length l) none
 
@@ -23,7 +23,7 @@ unfoldable pub shown : List Pair → Key → ℕ → List Pair
 shown l k size = take size (after k l)
 
 -- "The page holds both editions, the key, the first `size` ring pairs strictly after the key (fewer if fewer follow), their number and an end
--- mark, set exactly when no ring pair follows the last one shown, or follows the key if none is shown. Unused pairs are (0, 0)."
+-- mark, set exactly when no ring pair follows the last one shown, or follows the key if none is shown." "Unused pairs are three zeros."
 unfoldable pub pageOf : Source → List Pair → Key → ℕ → Page
 pageOf s l k size =
     record {

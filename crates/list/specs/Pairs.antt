@@ -10,9 +10,9 @@ use Rattle.list.specs.declared.Pair.{Pair}
 abbrev pub start : Key
 start = record { q = 0; p = 0 }
 
--- "Unused pairs are (0, 0)"
+-- "Unused pairs are three zeros"
 abbrev pub none : Pair
-none = record { q = 0; p = 0 }
+none = record { q = 0; p = 0; size = 0 }
 
 -- a pair's key: its two ids
 abbrev pub keyOf : Pair → Key

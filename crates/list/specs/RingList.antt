@@ -1,15 +1,17 @@
 -- The ring rule on two sets of points, and the list that it makes. P is the pump houses, Q the chambers.
 use mathlib.Core.Bool.{Bool, not, _&&_, _||_}
 use mathlib.Core.List.{List}
-use Prim.Native.Nat.{ℕ}
+use Prim.Native.Nat.{ℕ, _<_}
 use lib.Dec.{eqb}
+use lib.IntN.{natAbs}
 use lib.ListN.{length}
+use Rattle.integers.specs.Order.{Within}
 use Rattle.words.specs.All.{allB}
 use Rattle.plane.specs.declared.Spot.{Spot}
-use Rattle.plane.specs.Rule.{blocks}
+use Rattle.plane.specs.Rule.{blocks, size}
 use Rattle.plane.specs.Point.{Point, idAt, spotAt}
 use Rattle.list.specs.declared.Pair.{Pair}
-use Rattle.list.specs.Rows.{listBy}
+use Rattle.list.specs.Rows.{listBy, Rising}
 
 -- no record of a set blocks the pair a, b, but for the one at position `end`. "Every record of either set other than the two ends counts as
 -- another point, even at the same place as an end": an end is told by set and position, never by place.
@@ -20,10 +22,24 @@ unblocked s a b end = allB (length s) (λ k. eqb k end || not (blocks a b (spotA
 unfoldable pub ringPair : List Point → List Point → ℕ → ℕ → Bool
 ringPair P Q j i = unblocked Q (spotAt Q j) (spotAt P i) j && unblocked P (spotAt Q j) (spotAt P i) i
 
--- the pair of two positions
+-- the squared diameter of the circle on two places, which is never negative, as a number
+abbrev pub sizeOf : Spot → Spot → ℕ
+sizeOf a b = natAbs (size a b)
+
+-- the pair of two positions: "Each pair in pages, books and leaf runs now has its squared diameter beside the ids"
 abbrev pub pairAt : List Point → List Point → ℕ → ℕ → Pair
-pairAt P Q j i = record { q = idAt Q j; p = idAt P i }
+pairAt P Q j i = record { q = idAt Q j; p = idAt P i; size = sizeOf (spotAt Q j) (spotAt P i) }
 
 -- the ring pairs of P and Q: "The list runs by q id, then p id"
 unfoldable pub ringList : List Point → List Point → List Pair
 ringList P Q = listBy (ringPair P Q) (pairAt P Q) (length P) (length Q)
+
+-- a place where a point of a sheet may stand: "x and y from -1,000,000 to 1,000,000"
+pub record Near (z : Spot) : Type 0 where
+  pub x-near : Within 1_000_000 (z .x)
+  pub y-near : Within 1_000_000 (z .y)
+
+-- a set of points as a sheet holds them: ids ascending strictly, and each point where one may stand
+pub record Sound (s : List Point) : Type 0 where
+  pub rising : Rising (idAt s) (length s)
+  pub near : (i : ℕ) → i < length s → Near (spotAt s i)

@@ -10,11 +10,12 @@ pub struct Key {
     pub p: u32,
 }
 
-// A chamber and a pump house, by their ids.
+// A chamber and a pump house, by their ids, with the squared diameter of the circle on the two.
 #[repr(C)]
 pub struct Pair {
     pub q: u32,
     pub p: u32,
+    pub size: u64,
 }
 
 // What list a page or a book is of.

@@ -4,11 +4,11 @@ use mathlib.Core.Bool.{true}
 use mathlib.Core.List.{List, List·Memᴰ}
 use Prim.Native.Nat.{ℕ, suc, _≤_, _<_}
 use native.Mathlib.Omega.{arith}
-use borrow.Author.Tests.{eq-eqb}
+use borrow.Author.Tests.{eq-eqb, eqb-true}
 use lib.IntN.{ℤ}
 use lib.ListN.{length, take, getD}
 use lib.Seq.{getD-take}
-use Rattle.words.proofs.AllLaws.{first-in}
+use Rattle.words.proofs.AllLaws.{first-in, first-hit}
 use Rattle.plane.specs.Point.{Point, idAt}
 use Rattle.sheet.specs.Places.{pointsOf}
 use Rattle.list.specs.declared.Key.{Key}
@@ -17,22 +17,28 @@ use Rattle.list.specs.declared.Source.{Source}
 use Rattle.list.specs.declared.Page.{Page}
 use Rattle.list.specs.Pairs.{start, none, keyOf, ascends, after, lastOr, isNone}
 use Rattle.list.specs.Pages.{shown, pageOf, pagePairs}
+use Rattle.list.specs.RingList.{sizeOf}
 use Rattle.list.proofs.Order.{at-member, last-holds, last-at}
 use Rattle.list.proofs.PageLaws.{page-shows, shown-count, shown-member}
-use Rattle.list.proofs.RowLaws.{ring-ascends, ring-only, ring-keys}
+use Rattle.list.proofs.RowLaws.{ring-ascends, ring-only, ring-size, ring-keys}
 use Rattle.join.proofs.Meaning.{points-rise}
 use Rattle.ring.specs.declared.Head.{Head}
 use Rattle.ring.specs.declared.Paged.{Paged}
 use Rattle.ring.specs.Numbers.{sheetsNo}
 use Rattle.ring.specs.Page.{sourceOf, pageGiven, pageAnswer}
 use Rattle.ring.proofs.PageLaws.{page-served}
-use Rattle.lister.specs.Listing.{positionOf, Has, HasBoth}
+use Rattle.lister.specs.Listing.{positionOf, Has, standsAt, HasBoth}
 use Rattle.lister.specs.Outcome.{Both, InRange, pairsOf}
 use Rattle.lister.proofs.LineLaws.{isId}
 
 has : (s : List Point) (j : ℕ) → j < length s → Has s (idAt s j)
 unfolding positionOf
 has s j h = first-in (isId s (idAt s j)) (length s) j h (eq-eqb (idAt s j) (idAt s j) refl)
+
+-- the record at the position of an id has it
+named : (s : List Point) (id : ℕ) → Has s id → idAt s (positionOf s id) ≡ id
+unfolding positionOf
+named s id h = eqb-true (idAt s (positionOf s id)) id (first-hit (isId s id) (length s) h)
 
 -- ---- the last pair of a page
 
@@ -54,6 +60,12 @@ module _ {P Q : List ℤ} {hp hq : Head} (b : Both P hp Q hq) where
   member-has v m =
       let z = ring-only (pointsOf P) (pointsOf Q) (points-rise (b .p-opens)) (points-rise (b .q-opens)) v m in
       subst (HasBoth (pointsOf P) (pointsOf Q)) (sym (z .is)) (has (pointsOf Q) (z .at-q) (z .q-in), has (pointsOf P) (z .at-p) (z .p-in))
+
+  -- the size of a listed pair, which its line ends with, is the squared diameter of the places of its two records
+  pub line-size : (v : Pair) → List·Memᴰ v (pairsOf P Q) → v .size ≡ sizeOf (standsAt (pointsOf Q) (v .q)) (standsAt (pointsOf P) (v .p))
+  line-size v m =
+      let h = member-has v m in
+      ring-size (pointsOf P) (pointsOf Q) (points-rise (b .p-opens)) (points-rise (b .q-opens)) v m (positionOf (pointsOf Q) (v .q)) (positionOf (pointsOf P) (v .p)) (h .0) (h .1) (named (pointsOf Q) (v .q) (h .0)) (named (pointsOf P) (v .p) (h .1))
 
   -- a request for sixteen pairs after a key in range is answered
   pub page-is : (key : Key) → InRange key → (a : Paged) → a ≡ pageAnswer P Q key 16 → a .page ≡ pageOf (sourceOf P Q) (pairsOf P Q) key 16

@@ -3,11 +3,10 @@ use mathlib.Core.Bool.{cond}
 use mathlib.Core.List.{List, [], _∷_, _++_}
 use Prim.Native.Nat.{ℕ, zero, suc, _<_}
 use lib.Dec.{eqb}
-use lib.IntN.{natAbs, _+ℤ_}
+use lib.IntN.{_+ℤ_}
 use lib.ListN.{length}
 use Rattle.words.specs.All.{firstB}
 use Rattle.plane.specs.declared.Spot.{Spot}
-use Rattle.plane.specs.Rule.{size}
 use Rattle.plane.specs.Point.{Point, idAt, spotAt}
 use Rattle.list.specs.declared.Key.{Key}
 use Rattle.list.specs.declared.Pair.{Pair}
@@ -28,9 +27,10 @@ Has s id = positionOf s id < length s
 abbrev pub standsAt : List Point → ℕ → Spot
 standsAt s id = spotAt s (positionOf s id)
 
--- "q id, p id, twice the centre's x, twice its y, squared diameter": of a pair whose q stands at a and whose p stands at b
+-- "q id, p id, twice the centre's x, twice its y, squared diameter": of a pair whose q stands at a and whose p stands at b. The squared diameter is the size that the pair
+-- carries (`line-size` of proofs/ShowLaws).
 unfoldable pub lineAt : Pair → Spot → Spot → List ℕ
-lineAt v a b = lineText (v .q) (v .p) (a .x +ℤ b .x) (a .y +ℤ b .y) (natAbs (size a b))
+lineAt v a b = lineText (v .q) (v .p) (a .x +ℤ b .x) (a .y +ℤ b .y) (v .size)
 
 abbrev pub lineOf : List Point → List Point → Pair → List ℕ
 lineOf P Q v = lineAt v (standsAt Q (v .q)) (standsAt P (v .p))

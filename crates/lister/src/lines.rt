@@ -46,8 +46,7 @@ fn put_line(v: Pair, a: Spot, b: Spot, out: &mut [u8], at: usize) -> usize
     ensures { λ r. ⌜ Grown (now (out .entry)) at (now (out .exit)) r (lineAt v a b) ⌝ }
     ensures { λ r. ⌜ r ≤ at + 107 ⌝ }
 {
-    let d = plane::diameter(a, b);
-    text::put_line(v.q, v.p, a.x + b.x, a.y + b.y, d, out, at)
+    text::put_line(v.q, v.p, a.x + b.x, a.y + b.y, v.size, out, at)
 }
 
 // The line of a pair of two sheets.

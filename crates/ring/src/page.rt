@@ -24,7 +24,11 @@ fn refused(number: u32) -> Paged
             key: Key { q: 0, p: 0 },
             count: 0,
             end: false,
-            pairs: [Pair { q: 0, p: 0 }; 16],
+            pairs: [Pair {
+                q: 0,
+                p: 0,
+                size: 0,
+            }; 16],
         },
     }
 }

@@ -11,6 +11,7 @@ use lib.ListN.{length, take, drop, length-append, length-drop}
 use lib.Seq.{length-take-le}
 use borrow.Author.Tests.{ltb-false}
 use Rattle.list.specs.declared.Pair.{Pair}
+use Rattle.book.proofs.Rows.{width}
 use Rattle.runs.specs.declared.Run.{Run}
 use Rattle.runs.specs.declared.RunArray.{RunArray}
 use Rattle.runs.specs.Run.{runAnswer, runSlots, lentOf, withSlots, runArray}
@@ -23,7 +24,7 @@ lent-few len m e = omega (arith, e, few (ltb 256 len) refl)
     few true t = omega arith
     few false t = ltb-false 256 len t
 
-pub lent-room : (len m : ℕ) → m ≡ lentOf len → (m < 2 ^ 64) × (m * 8 < 2 ^ 63)
+pub lent-room : (len m : ℕ) → m ≡ lentOf len → (m < 2 ^ 64) × (m * width < 2 ^ 63)
 lent-room len m e = let h = lent-few len m e in (omega arith, omega arith)
 
 pub front-long : (l : List Pair) (len m : ℕ) → length l ≡ 256 → m ≡ lentOf len → length (take m l) ≡ m

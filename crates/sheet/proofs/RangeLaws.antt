@@ -5,7 +5,8 @@ use mathlib.Core.Bool.{Bool, true, false, _&&_}
 use mathlib.Core.List.{List}
 use Prim.Native.Nat.{ℕ, _+_, _*_, _%_, _<_, _≤_}
 use native.Mathlib.Omega.{arith}
-use lib.IntN.{ℤ}
+use lib.IntN.{ℤ, pos}
+use lib.Signed.{_≤ℤ_}
 use Rattle.integers.specs.Order.{Within}
 use Rattle.words.specs.Range.{idWord, coordWord}
 use Rattle.words.proofs.RangeLaws.{coord-in}
@@ -33,14 +34,13 @@ module _ {w : List ℤ} {n m : ℕ} (o : Opens w n m) where
       let e = and-left (a && b && c) (risesOk w i) (all-at (pointOk (o .lim) w) n (o .pointed) i h) in
       (and-right a b (and-left (a && b) c e), and-right (a && b) c e)
 
-  pub spot-in : (i : ℕ) → i < n → SpotIn (spotOf w i)
+  -- a point stands within any bound of the coordinates of its form
+  pub spot-within : (c : ℕ) → o .lim .coordinate ≤ℤ pos c → (i : ℕ) → i < n → Within c (spotOf w i .x) × Within c (spotOf w i .y)
   unfolding spotOf
-  spot-in i h =
-      let f = fields i h in
-      record {
-        x-in = coord-in (o .lim .coordinate) (xAt w i) 1_000_000_000 (o .fair .coordinate-to) (f .0);
-        y-in = coord-in (o .lim .coordinate) (yAt w i) 1_000_000_000 (o .fair .coordinate-to) (f .1);
-      }
+  spot-within c k i h = let f = fields i h in (coord-in (o .lim .coordinate) (xAt w i) c k (f .0), coord-in (o .lim .coordinate) (yAt w i) c k (f .1))
+
+  pub spot-in : (i : ℕ) → i < n → SpotIn (spotOf w i)
+  spot-in i h = let z = spot-within 1_000_000_000 (o .fair .coordinate-to) i h in record { x-in = z .0; y-in = z .1 }
 
   pub box-in : (j : ℕ) → j < m → BoxIn (boxOf w n j)
   box-in j h =

@@ -68,6 +68,11 @@ open-facts lim fair w e =
       empty = empties (points w) (nodes w) (and-left (Bool·beq (eqb (points w) 0) (eqb (nodes w) 0)) (tableOk w (points w) (nodes w)) (f .2));
     }
 
+-- by the limits of its form
+pub open-lim : (lim : Limits) (fair : Fair lim) (w : List ℤ) (e : openNo lim w ≡ 0) → open-facts lim fair w e .lim ≡ lim
+unfolding open-facts
+open-lim lim fair w e = refl
+
 -- its numbers are within the limits of its form
 pub open-trailer : (lim : Limits) (w : List ℤ) → openNo lim w ≡ 0 → Trailer lim w
 unfolding openNo

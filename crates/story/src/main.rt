@@ -50,20 +50,31 @@ fn drawn(seed: u64, n: usize) -> usize {
 
 // ---- the list and its pages
 
+// The next pair, of a size of its own: every ninth has the largest.
 fn pair_after(v: Pair, step: u32) -> Pair {
+    let mut w = v;
     if v.p < step {
-        return Pair { q: v.q, p: v.p + 1 };
+        w.p = v.p + 1;
+    } else {
+        w.q = std::num::wrapping_add_u32(v.q, 3);
+        w.p = 1;
     }
-    Pair {
-        q: std::num::wrapping_add_u32(v.q, 3),
-        p: 1,
-    }
+    w.size = std::num::wrapping_add_u64(v.size, 1000000000000) % 9000000000000;
+    w
 }
 
 // n pairs, ascending, of at most `step` to a chamber.
 fn made_list(n: usize, step: u32) -> [Pair; 64] {
-    let mut l = [Pair { q: 0, p: 0 }; 64];
-    let mut v = Pair { q: 5, p: 1 };
+    let mut l = [Pair {
+        q: 0,
+        p: 0,
+        size: 0,
+    }; 64];
+    let mut v = Pair {
+        q: 5,
+        p: 1,
+        size: 0,
+    };
     let mut i: usize = 0;
     while i < 64 {
         if i < n {
@@ -76,7 +87,11 @@ fn made_list(n: usize, step: u32) -> [Pair; 64] {
 }
 
 fn empty_page(source: Source, key: Key) -> Page {
-    let none = Pair { q: 0, p: 0 };
+    let none = Pair {
+        q: 0,
+        p: 0,
+        size: 0,
+    };
     Page {
         source: source,
         key: key,
@@ -139,15 +154,16 @@ fn is_id(k: u32) -> bool {
     (k != 0) & (k <= 2000000000)
 }
 
-// Whether the pairs that a page counts have a bad id, or do not ascend from its key.
+// Whether the pairs that a page counts have a bad id or size, or do not ascend from its key.
 fn has_bad(g: Page) -> bool {
     let mut last = rank(g.key);
     let mut bad = false;
     let mut i: usize = 0;
     while i < 16 {
-        let k = list::key_of(g.pairs[i]);
+        let v = g.pairs[i];
+        let k = list::key_of(v);
         if i < g.count {
-            bad = bad | !is_id(k.q) | !is_id(k.p) | (rank(k) <= last);
+            bad = bad | !is_id(k.q) | !is_id(k.p) | (8000000000000 < v.size) | (rank(k) <= last);
         }
         last = rank(k);
         i += 1;
@@ -189,7 +205,7 @@ fn expected(b: Book, len: usize, last: Key, g: Page) -> u32 {
 // ---- what should stand
 
 fn is_pair(a: Pair, b: Pair) -> bool {
-    (a.q == b.q) & (a.p == b.p)
+    (a.q == b.q) & (a.p == b.p) & (a.size == b.size)
 }
 
 // Whether the first `held` slots are the list's first pairs.
@@ -352,22 +368,33 @@ fn unmarked(g: Page) -> Page {
     h
 }
 
-// A page broken by hand, in one of six ways.
+// A page broken by hand, in one of seven ways.
 fn broken(g: Page, way: usize) -> Page {
     let mut h = g;
     if way == 0 {
         h.count = 17;
     } else if way == 1 {
-        h.pairs[0] = Pair { q: 0, p: 1 };
+        h.pairs[0] = Pair {
+            q: 0,
+            p: 1,
+            size: 2,
+        };
     } else if way == 2 {
         h.pairs[0] = Pair {
             q: 2000000001,
             p: 1,
+            size: 2,
         };
     } else if way == 3 {
         let key = g.key;
-        h.pairs[0] = Pair { q: key.q, p: key.p };
+        h.pairs[0] = Pair {
+            q: key.q,
+            p: key.p,
+            size: 2,
+        };
     } else if way == 4 {
+        h.pairs[0].size = 8000000000001;
+    } else if way == 5 {
         h.pairs[1] = h.pairs[0];
     } else {
         h.count = 0;
@@ -378,7 +405,7 @@ fn broken(g: Page, way: usize) -> Page {
 
 // The page of a kind: the book's own, one from before, one of another key, and the faults by themselves and in pairs.
 fn page_of(g: Game, kind: usize) -> Page {
-    let way = drawn(mixed(g.seed), 6);
+    let way = drawn(mixed(g.seed), 7);
     if kind < 3 {
         return unmarked(own_page(g));
     }
@@ -484,7 +511,11 @@ fn opened(seed: u64, tally: Tally) -> Game {
     Game {
         list: made_list(n, 4),
         n: n,
-        slots: [Pair { q: 77, p: 77 }; 64],
+        slots: [Pair {
+            q: 77,
+            p: 77,
+            size: 77,
+        }; 64],
         len: first_len(mixed(seed), n),
         book: b,
         kept: empty_page(source, Key { q: 0, p: 0 }),

@@ -20,6 +20,7 @@ fn print_key(k: list::Key) {
 fn print_pair(v: list::Pair) {
     print(v.q as u64);
     print(v.p as u64);
+    print(v.size);
 }
 
 fn print_pairs(pairs: [list::Pair; 16]) {

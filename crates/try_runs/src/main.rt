@@ -14,18 +14,23 @@ fn end_line() {
     io::write_all(libc::STDOUT_FILENO, b"\n");
 }
 
-// What slot k holds before a run: no pair of ids.
+// What slot k holds before a run: no pair of ids, and no size.
 fn mark_of(k: usize) -> Pair
     requires { ⌜ k < 256 ⌝ }
 {
     Pair {
         q: 4000000000,
         p: k as u32,
+        size: 9000000000000,
     }
 }
 
 fn marked() -> [Pair; 256] {
-    let mut slots = [Pair { q: 0, p: 0 }; 256];
+    let mut slots = [Pair {
+        q: 0,
+        p: 0,
+        size: 0,
+    }; 256];
     let mut k: usize = 0;
     while k < 256 {
         slots[k] = mark_of(k);
@@ -38,7 +43,7 @@ fn is_marked(v: Pair, k: usize) -> bool
     requires { ⌜ k < 256 ⌝ }
 {
     let mark = mark_of(k);
-    (v.q == mark.q) & (v.p == mark.p)
+    (v.q == mark.q) & (v.p == mark.p) & (v.size == mark.size)
 }
 
 // How many slots hold their mark.
@@ -57,6 +62,7 @@ fn marks(slots: [Pair; 256]) -> u64 {
 fn print_pair(v: Pair) {
     print(v.q as u64);
     print(v.p as u64);
+    print(v.size);
 }
 
 // The first `count` of the slots.

@@ -92,6 +92,7 @@ fn show_walk(w: Walked) {
 fn show_pair(v: Pair) {
     number(v.q as u64);
     number(v.p as u64);
+    number(v.size);
 }
 
 fn show_pairs(g: Page) {

@@ -1,4 +1,4 @@
--- The ranges of ids, editions and coordinates. They stand here and nowhere else.
+-- The ranges of ids, editions, coordinates and sizes. They stand here and nowhere else.
 use mathlib.Core.Bool.{Bool, _&&_}
 use Prim.Native.Nat.{ℕ}
 use lib.Dec.{leb}
@@ -11,6 +11,10 @@ lastId = 2000000000
 
 abbrev pub lastEdition : ℕ
 lastEdition = 1000000000
+
+-- "15 is also given when a size lies outside 0 to 8,000,000,000,000"
+abbrev pub lastSize : ℕ
+lastSize = 8000000000000
 
 -- the word of an id, of an edition
 unfoldable pub idWord : ℤ → Bool
@@ -29,3 +33,7 @@ idOk k = leb 1 k && leb k lastId
 
 unfoldable pub editionOk : ℕ → Bool
 editionOk k = leb 1 k && leb k lastEdition
+
+-- the squared diameter of a pair
+unfoldable pub sizeOk : ℕ → Bool
+sizeOk k = leb k lastSize

@@ -20,20 +20,17 @@ long c = let z = c .good .1 .0 in search long-of
 loop-holds : tie.Need-loop-holds Inv-loop μ-loop
 loop-holds c = testing-start _ _ _
 
-mul-key-of : tie.Need-mul-key-of Inv-loop μ-loop
-mul-key-of c = omega (arith, c .loop-test .taken, c .before .before .pre)
+mul-v : tie.Need-mul-v Inv-loop μ-loop
+mul-v c = omega (arith, c .loop-test .taken, c .before .before .pre)
 
-element-copy-out-key-of : tie.Need-element-copy-out-key-of Inv-loop μ-loop
-element-copy-out-key-of c = omega (arith, c .loop-test .taken, c .before .before .pre)
+element-copy-out-v : tie.Need-element-copy-out-v Inv-loop μ-loop
+element-copy-out-v c = omega (arith, c .loop-test .taken, c .before .before .pre)
 
 key-of-requires : tie.Need-key-of-requires Inv-loop μ-loop
 key-of-requires c κs = search needs
 
-is-id-requires : tie.Need-is-id-requires Inv-loop μ-loop
-is-id-requires c κs = search needs
-
-is-id-requires-2 : tie.Need-is-id-requires-2 Inv-loop μ-loop
-is-id-requires-2 c κs = search needs
+is-pair-requires : tie.Need-is-pair-requires Inv-loop μ-loop
+is-pair-requires c κs = search needs
 
 is-after-requires : tie.Need-is-after-requires Inv-loop μ-loop
 is-after-requires c κs = search needs
@@ -41,22 +38,22 @@ is-after-requires c κs = search needs
 returns : tie.Need-returns Inv-loop μ-loop
 returns c =
     let a = c .before in
-    let v = a .before .before .before in
+    let v = a .before .before in
     let t = v .before .before in
-    testing-stop _ _ _ _ _ (t .loop-test .taken) (t .before .before .pre) (long (t .before .before)) (t .before .loop .inv) _ (v .key-of .ensures) _ _ _ (a .before .before .is-id .ensures) (a .before .is-id2 .ensures) (a .is-after .ensures) (c .if1 .taken)
+    testing-stop _ _ _ _ _ (t .loop-test .taken) (t .before .before .pre) (long (t .before .before)) (t .before .loop .inv) _ (v .key-of .ensures) _ _ (a .before .is-pair .ensures) (a .is-after .ensures) (c .if1 .taken)
 
 add-k : tie.Need-add-k Inv-loop μ-loop
-add-k c = omega (arith, c .before .before .before .before .before .before .loop-test .taken)
+add-k c = omega (arith, c .before .before .before .before .before .loop-test .taken)
 
 loop-less : tie.Need-loop-less Inv-loop μ-loop
-loop-less c = omega (arith, c .before .before .before .before .before .before .loop-test .taken)
+loop-less c = omega (arith, c .before .before .before .before .before .loop-test .taken)
 
 loop-again : tie.Need-loop-again Inv-loop μ-loop
 loop-again c =
     let a = c .before in
-    let v = a .before .before .before in
+    let v = a .before .before in
     let t = v .before .before in
-    testing-on _ _ _ _ _ (t .loop-test .taken) (t .before .before .pre) (long (t .before .before)) (t .before .loop .inv) _ (v .key-of .ensures) _ _ _ (a .before .before .is-id .ensures) (a .before .is-id2 .ensures) (a .is-after .ensures) (c .if1 .left)
+    testing-on _ _ _ _ _ (t .loop-test .taken) (t .before .before .pre) (long (t .before .before)) (t .before .loop .inv) _ (v .key-of .ensures) _ _ (a .before .is-pair .ensures) (a .is-after .ensures) (c .if1 .left)
 
 returns-2 : tie.Need-returns-2 Inv-loop μ-loop
 returns-2 c = testing-end _ _ _ _ _ (c .loop-test .left) (c .before .loop .inv)
@@ -68,11 +65,10 @@ pairs-rise-spec =
     Inv-loop
     μ-loop
     loop-holds
-    mul-key-of
-    element-copy-out-key-of
+    mul-v
+    element-copy-out-v
     key-of-requires
-    is-id-requires
-    is-id-requires-2
+    is-pair-requires
     is-after-requires
     returns
     add-k

@@ -11,17 +11,13 @@ id-at-requires c κs = search needs
 id-at-requires-2 : tie.Need-id-at-requires-2
 id-at-requires-2 c κs = search needs
 
-key-of-requires : tie.Need-key-of-requires
-key-of-requires c κs = search needs
-
 is-after-requires : tie.Need-is-after-requires
 is-after-requires c κs = search needs
 
 returns : tie.Need-returns
 returns c =
     let a = c .before in
-    let i = a .before .before .before in
-    tried-early _ _ _ _ _ _ _ (i .id-at .ensures) (a .before .before .id-at2 .ensures) _ (a .before .key-of .ensures) _ (a .is-after .ensures) (c .if1 .taken)
+    tried-early _ _ _ _ _ _ _ (a .before .before .id-at .ensures) (a .before .id-at2 .ensures) _ (a .is-after .ensures) (c .if1 .taken)
 
 pair-walk-requires : tie.Need-pair-walk-requires
 pair-walk-requires c κs = search needs
@@ -33,8 +29,7 @@ returns-2 : tie.Need-returns-2
 returns-2 c =
     let w = c .before in
     let a = w .before .before in
-    let i = a .before .before .before in
-    tried-walked _ _ _ _ _ _ _ (i .id-at .ensures) (a .before .before .id-at2 .ensures) _ (a .before .key-of .ensures) _ (a .is-after .ensures) (w .before .if1 .left) _ (w .pair-walk .ensures) _ (c .clear-after .ensures)
+    tried-walked _ _ _ _ _ _ _ (a .before .before .id-at .ensures) (a .before .id-at2 .ensures) _ (a .is-after .ensures) (w .before .if1 .left) _ (w .pair-walk .ensures) _ (c .clear-after .ensures)
 
 pub try-partner-spec : {M : Type 1} → statement M
 try-partner-spec =
@@ -42,7 +37,6 @@ try-partner-spec =
     (tie.spec
     id-at-requires
     id-at-requires-2
-    key-of-requires
     is-after-requires
     returns
     pair-walk-requires

@@ -43,6 +43,12 @@ add-r c =
     let cap = tried-few _ _ (s .args .size) _ _ (capped (s .pre .0) (s .pre .1) words) _ _ _ (t .try-partner .ensures words) in
     omega (arith, s .pre .5)
 
+pair-at-requires : tie.Need-pair-at-requires Inv-loop μ-loop
+pair-at-requires c κs =
+    let t = c .before .before .before in
+    let s = t .before .before .before .before .before .before in
+    (s .pre .0, s .pre .1, s .pre .2, t .before .before .loop-test .taken)
+
 with-found-requires : tie.Need-with-found-requires Inv-loop μ-loop
 with-found-requires c κs = c .before .before .before .before .before .before .before .before .before .before .pre .3
 
@@ -66,8 +72,8 @@ loop-again c =
     let words = length (s .args .bits .now) in
     tries-on _ _ _ _ _ (capped (s .pre .0) (s .pre .1) words) _ _ _ _ _ (words-of _ _ _ _ (s .pre .6)) (s .pre .4 .enough) (l .loop .i) (t .before .before .loop-test .taken) (t .before .if1 .left) (l .loop .inv) _
     (⊎-elim
-    (λ x. with-yes _ _ _ _ _ (t .try-partner .ensures words) (x .0 .taken) (x .3 ∙ x .2 .ensures))
-    (λ x. x .1 ∙ with-no _ _ _ _ (t .try-partner .ensures words) (x .0 .left))
+    (λ x. with-yes _ _ _ _ _ _ _ (x .1 .ensures) (t .try-partner .ensures words) (x .0 .taken) (x .3 ∙ x .2 .ensures))
+    (λ x. x .1 ∙ with-no _ _ _ _ _ (t .try-partner .ensures words) (x .0 .left))
     (c .before .if2 .came))
     _ (c .next-from2 .ensures)
 
@@ -85,6 +91,7 @@ with-partners-spec =
     returns
     try-partner-requires
     add-r
+    pair-at-requires
     with-found-requires
     add-next-from
     next-from-requires-2

@@ -352,7 +352,7 @@ module _ {M : Type 1} (𝓤 : URA M) (H : Heap 𝓤) (A : Atoms 𝓤) (W : Given
             slotted : i .0 < length ys
             slotted = run-stored (now p) (now q) v ys r (e .0) (i .0) less .2
 
-            small : i .0 * 8 < 2 ^ 64
+            small : i .0 * width < 2 ^ 64
             small = scaled (i .0) (length ys) slotted (room .1)
 
             next-fits : i .0 + 1 < 2 ^ 64

@@ -15,11 +15,11 @@ rank-requires c κs = search needs
 loop-holds : tie.Need-loop-holds Inv-loop μ-loop
 loop-holds c = search needs
 
-mul-key-of : tie.Need-mul-key-of Inv-loop μ-loop
-mul-key-of c = search needs
+mul-v : tie.Need-mul-v Inv-loop μ-loop
+mul-v c = search needs
 
-element-copy-out-key-of : tie.Need-element-copy-out-key-of Inv-loop μ-loop
-element-copy-out-key-of c = search needs
+element-copy-out-v : tie.Need-element-copy-out-v Inv-loop μ-loop
+element-copy-out-v c = search needs
 
 key-of-requires : tie.Need-key-of-requires Inv-loop μ-loop
 key-of-requires c κs = search needs
@@ -56,8 +56,8 @@ has-bad-spec =
     μ-loop
     rank-requires
     loop-holds
-    mul-key-of
-    element-copy-out-key-of
+    mul-v
+    element-copy-out-v
     key-of-requires
     is-id-requires
     is-id-requires-2

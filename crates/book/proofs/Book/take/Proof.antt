@@ -293,7 +293,7 @@ module _ {M : Type 1} (𝓤 : URA M) (H : Heap 𝓤) (A : Atoms 𝓤) (W : Given
           at-fits : h + i .0 < 2 ^ 64
           at-fits = below (h + i .0) (length ys) (fits-at (i .0) less .1) (room .0)
 
-          small : (h + i .0) * 8 < 2 ^ 64
+          small : (h + i .0) * width < 2 ^ 64
           small = scaled (h + i .0) (length ys) (fits-at (i .0) less .1) (room .1)
 
           next-fits : i .0 + 1 < 2 ^ 64
@@ -382,7 +382,7 @@ module _ {M : Type 1} (𝓤 : URA M) (H : Heap 𝓤) (A : Atoms 𝓤) (W : Given
         facts ! usize (Is usize) (shows 𝓤 H A usize) r (u ∷ []) (λ is.
         land ! (from ! (stop !)) (init ! 24 refl (uint-lawful 𝓤 H A W w64 .typed r _ is .0)) $
         rewrite ! 24 (λ (w : Val). ‵ (fat fullShare word l₅ 0 w)) (ap only (is .0)) refl $
-        assigns ! (agg ! (and-then ! (lit ! tt) (and-then ! (lit ! tt) (no-more !)))) (from ! (stop !)) (init ! 22 refl (LL.lawful T.the-type T′.the-laws 𝓤 H A W .typed none _ none-is .0)) $
+        assigns ! (agg ! (and-then ! (lit ! tt) (and-then ! (lit ! tt) (and-then ! (lit ! tt) (no-more !))))) (from ! (stop !)) (init ! 22 refl (LL.lawful T.the-type T′.the-laws 𝓤 H A W .typed none _ none-is .0)) $
         assigns ! (bin ! (load ! (from ! (stop !)) (look ! 24 refl)) (load ! (from ! (stop !)) (look ! 26 refl)) tt) (from ! (stop !)) (init ! 12 refl (tt, tt)) $
         -- the borrow is opened
         move ! (37 ∷ []) $ fsplit ! $ move ! (1 ∷ []) $ fsplit ! $ fsplit ! $ move ! (1 ∷ []) $ fsplit ! $ move ! (41 ∷ []) $ split ! $ move ! (2 ∷ 3 ∷ 0 ∷ []) $ opens-slice ! tt P ys b o $

@@ -38,30 +38,27 @@ add-order-at c = omega (arith, place c, start c .fits .nq)
 order-at-requires : tie.Need-order-at-requires
 order-at-requires c κs = (start c .pre .1, place c)
 
-id-at-requires : tie.Need-id-at-requires
-id-at-requires c κs =
+mul-pair-at : tie.Need-mul-pair-at
+mul-pair-at c = search needs
+
+rem-pair-at : tie.Need-rem-pair-at
+rem-pair-at c = met (c .before) .some
+
+pair-at-requires : tie.Need-pair-at-requires
+pair-at-requires c κs =
     let f = c .before in
-    (start f .pre .1, position-in (told (start f)) _ _ _ (f .first-at .ensures) (c .order-at .ensures) (met f .chamber))
-
-mul-id-at : tie.Need-mul-id-at
-mul-id-at c = search needs
-
-rem-id-at : tie.Need-rem-id-at
-rem-id-at c = met (c .before .before) .some
-
-id-at-requires-2 : tie.Need-id-at-requires-2
-id-at-requires-2 c κs = let f = c .before .before in (start f .pre .0, met f .position)
+    (start f .pre .0, start f .pre .1, position-in (told (start f)) _ _ _ (f .first-at .ensures) (c .order-at .ensures) (met f .chamber), met f .position)
 
 add-next : tie.Need-add-next
 add-next c =
-    let f = c .before .before .before in
+    let f = c .before .before in
     omega (arith, next-few (told (start f)) _ (start f .pre .5) _ _ (f .before .next-from .ensures) (start f .pre .6))
 
 returns : tie.Need-returns
 returns c =
-    let o = c .before .before in
+    let o = c .before in
     let f = o .before in
-    next-pair (told (start f)) _ (start f .pre .5) _ _ (f .before .next-from .ensures) (start f .pre .6) _ _ _ _ (f .first-at .ensures) (o .order-at .ensures) (c .before .id-at .ensures) (c .id-at2 .ensures)
+    next-pair (told (start f)) _ (start f .pre .5) _ _ (f .before .next-from .ensures) (start f .pre .6) _ _ _ (f .first-at .ensures) (o .order-at .ensures) (c .pair-at .ensures)
 
 pub pair-from-spec : {M : Type 1} → statement M
 pair-from-spec =
@@ -73,9 +70,8 @@ pair-from-spec =
     div-order-at
     add-order-at
     order-at-requires
-    id-at-requires
-    mul-id-at
-    rem-id-at
-    id-at-requires-2
+    mul-pair-at
+    rem-pair-at
+    pair-at-requires
     add-next
     returns)
