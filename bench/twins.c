@@ -129,6 +129,8 @@ unsigned twin_pack(twin_size n, const twin_word *points, const twin_word *order,
 
 static spot spot_at(const sheet *s, twin_size i) { const twin_word *p = s->w + 3 * i; spot z = {p[1], p[2]}; return z; }
 static i64 dot(spot a, spot b, spot z) { return (a.x - z.x) * (b.x - z.x) + (a.y - z.y) * (b.y - z.y); }
+static int same(spot a, spot b) { return (a.x == b.x) & (a.y == b.y); }
+static int blocks(spot a, spot b, spot z) { i64 d = dot(a, b, z); return d < 0 || (d == 0 && !same(z, a) && !same(z, b)); }
 
 /* The kept set, and beside it the positions in the order in which they were kept; where count is more than 256 the list does not have them all. */
 typedef struct { u64 bits[16]; u64 opened; twin_size last, count, latest[256]; } kept;
@@ -136,7 +138,8 @@ typedef struct { u64 bits[16]; u64 opened; twin_size last, count, latest[256]; }
 static int drops_box(spot q, spot p, const twin_word *o)
 {
     spot a = {o[0], o[1]}, b = {o[0], o[3]}, c = {o[2], o[1]}, d = {o[2], o[3]};
-    return (dot(q, a, p) <= 0) & (dot(q, b, p) <= 0) & (dot(q, c, p) <= 0) & (dot(q, d, p) <= 0);
+    if (!((dot(q, a, p) <= 0) & (dot(q, b, p) <= 0) & (dot(q, c, p) <= 0) & (dot(q, d, p) <= 0))) return 0;
+    return !same(p, q) && !(o[0] <= p.x && p.x <= o[2] && o[1] <= p.y && p.y <= o[3]);
 }
 
 /* Whether a kept point drops the box (or the point z where o is null): the one that dropped last is tried first, then the others from the latest kept to the first. */
@@ -144,13 +147,13 @@ static int dropped(const sheet *s, spot q, kept *k, const twin_word *o, spot z)
 {
     if (k->last < s->n) {
         spot p = spot_at(s, k->last);
-        if (o ? drops_box(q, p, o) : dot(q, z, p) <= 0) return 1;
+        if (o ? drops_box(q, p, o) : blocks(q, z, p)) return 1;
     }
     if (k->count <= 256) {
         for (twin_size c = k->count; c > 0;) {
             twin_size i = k->latest[--c];
             spot p = spot_at(s, i);
-            if (o ? drops_box(q, p, o) : dot(q, z, p) <= 0) { k->last = i; return 1; }
+            if (o ? drops_box(q, p, o) : blocks(q, z, p)) { k->last = i; return 1; }
         }
         return 0;
     }
@@ -158,7 +161,7 @@ static int dropped(const sheet *s, spot q, kept *k, const twin_word *o, spot z)
         for (u64 b = k->bits[w]; b; b &= b - 1) {
             twin_size i = 64 * w + (twin_size)__builtin_ctzll(b);
             spot p = spot_at(s, i);
-            if (o ? drops_box(q, p, o) : dot(q, z, p) <= 0) { k->last = i; return 1; }
+            if (o ? drops_box(q, p, o) : blocks(q, z, p)) { k->last = i; return 1; }
         }
     }
     return 0;
@@ -187,7 +190,7 @@ static void filter_node(const sheet *s, spot q, twin_size j, kept *k)
 static u64 out_of(i64 lo, i64 hi, i64 c) { i64 d = c < lo ? lo - c : c > hi ? c - hi : 0; return (u64)d * (u64)d; }
 
 /* 1 where something blocks */
-static int ring_node(const sheet *s, spot a, spot b, twin_size end, twin_size j, u64 *opened)
+static int ring_node(const sheet *s, spot a, spot b, twin_size j, u64 *opened)
 {
     const twin_word *t = s->w + 5 * s->n + 7 * j, *o = t + 3;
     u64 d = (u64)dot(a, a, b);
@@ -198,11 +201,11 @@ static int ring_node(const sheet *s, spot a, spot b, twin_size end, twin_size j,
     (*opened)++;
     for (twin_word c = t[1]; c < t[1] + t[2]; c++) {
         if (t[0]) {
-            if (ring_node(s, a, b, end, (twin_size)c, opened)) return 1;
+            if (ring_node(s, a, b, (twin_size)c, opened)) return 1;
             continue;
         }
         twin_size i = (twin_size)s->w[3 * s->n + (twin_size)c];
-        if (i != end && dot(a, b, spot_at(s, i)) <= 0) return 1;
+        if (blocks(a, b, spot_at(s, i))) return 1;
     }
     return 0;
 }
@@ -232,7 +235,7 @@ twin_page_answer twin_page(const twin_word *pw, twin_size plen, const twin_word 
                 if (qid == key.q && pid <= key.p) continue;
                 spot z = spot_at(&p, i);
                 u64 opened = 0;
-                int hit = ring_node(&q, a, z, j, q.m - 1, &opened) || ring_node(&p, a, z, i, p.m - 1, &opened);
+                int hit = ring_node(&q, a, z, q.m - 1, &opened) || ring_node(&p, a, z, p.m - 1, &opened);
                 r.opened += opened;
                 if (hit) continue;
                 if (r.count == size) return r;
@@ -253,11 +256,11 @@ typedef struct { spot q[16]; twin_size c; u64 bits[16][16]; u64 opened; } crowd;
 static int ruled_out(const sheet *s, const crowd *g, twin_size k, const twin_word *o, spot z)
 {
     for (twin_size h = 0; h < g->c; h++)
-        if (h != k && (o ? drops_box(g->q[k], g->q[h], o) : dot(g->q[k], z, g->q[h]) <= 0)) return 1;
+        if (h != k && (o ? drops_box(g->q[k], g->q[h], o) : blocks(g->q[k], z, g->q[h]))) return 1;
     for (twin_size w = 0; w < 16; w++) {
         for (u64 b = g->bits[k][w]; b; b &= b - 1) {
             spot p = spot_at(s, 64 * w + (twin_size)__builtin_ctzll(b));
-            if (o ? drops_box(g->q[k], p, o) : dot(g->q[k], z, p) <= 0) return 1;
+            if (o ? drops_box(g->q[k], p, o) : blocks(g->q[k], z, p)) return 1;
         }
     }
     return 0;
@@ -299,7 +302,7 @@ twin_run_answer twin_run(const twin_word *pw, twin_size plen, const twin_word *q
                 twin_size i = 64 * w + (twin_size)__builtin_ctzll(b);
                 spot z = spot_at(&p, i);
                 u64 opened = 0;
-                if (ring_node(&q, g.q[k], z, (twin_size)at[k], q.m - 1, &opened) || ring_node(&p, g.q[k], z, i, p.m - 1, &opened)) g.bits[k][w] &= ~(1ull << (i % 64));
+                if (ring_node(&q, g.q[k], z, q.m - 1, &opened) || ring_node(&p, g.q[k], z, p.m - 1, &opened)) g.bits[k][w] &= ~(1ull << (i % 64));
                 else r.count++;
                 r.opened += opened;
             }

@@ -26,17 +26,11 @@ def packed(words):
 def ring_pairs(p_points, q_points):
     """The positions (j, i) of the ring pairs, by q id, then p id. The records near q are asked first: they block most pairs, and any order will do."""
     pairs = []
-    both = [(point[1:], 0, i) for i, point in enumerate(p_points)] + [(point[1:], 1, j) for j, point in enumerate(q_points)]
+    places = [point[1:] for point in p_points + q_points]
     for j, q in enumerate(q_points):
-        (qx, qy) = q[1:]
-        near = sorted(both, key=lambda record: (record[0][0] - qx) ** 2 + (record[0][1] - qy) ** 2)
-        near.remove(((qx, qy), 1, j))
+        near = sorted(places, key=lambda place: (place[0] - q[1]) ** 2 + (place[1] - q[2]) ** 2)
         for i, p in enumerate(p_points):
-            (px, py) = p[1:]
-            for (x, y), which, at in near:
-                if (qx - x) * (px - x) + (qy - y) * (py - y) <= 0 and not (which == 0 and at == i):
-                    break
-            else:
+            if not any(reading.blocks(q[1:], p[1:], place) for place in near):
                 pairs.append((j, i))
     return pairs
 

@@ -136,13 +136,14 @@ def more_pairs(out, rng):
 
 
 def one_sheet(out, rng):
-    """One sheet as both P and Q, with n different spots, lists exactly its n pairs (i, i): every other record at an end blocks."""
+    """One sheet as both P and Q, with n different spots: each record is listed with itself, and two different ones both ways or not at all, exactly if no third one blocks."""
     for n in (1, 2, 5, 16, 17, 33, 48):
         spots = rng.sample([(x, y) for x in range(-9, 10) for y in range(-9, 10)], n)
         points = [(number,) + place for number, place in zip(trees.ids(rng, n), spots)]
         words = trees.sheet(points, trees.near(rng, points), towns.tree(rng, n)[1], 21)
         listed, requests = requests_of(rng, words, words, [5, 15, 16], 2)
-        assert listed == [(point[0], point[0], 0) for point in points]
+        free = [(a, b) for a in points for b in points if not any(reading.blocks(a[1:], b[1:], c[1:]) for c in points if c not in (a, b))]
+        assert [pair[:2] for pair in listed] == sorted((a[0], b[0]) for a, b in free) and all((point, point) in free for point in points)
         out.add("one sheet as both, %d spots" % n, words, words, requests, listed)
     _, words = towns.sheet(rng, towns.spots, 12)
     listed, requests = requests_of(rng, words, words, [2, 16], 2)

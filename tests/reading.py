@@ -222,13 +222,12 @@ def product(a, b, x):
     return (a[0] - x[0]) * (b[0] - x[0]) + (a[1] - x[1]) * (b[1] - x[1])
 
 
-# "x blocks the pair a, b when (a-x)·(b-x) <= 0"
+# "x blocks the pair a, b when (a-x)·(b-x) <= 0." Since request 3 "a record at exactly the place of either end doesn't count as another point".
 def blocks(a, b, x):
-    return product(a, b, x) <= 0
+    return product(a, b, x) <= 0 and x != a and x != b
 
 
-# "(q, p) is a ring pair when no other record of P or Q blocks it." "Every record of either set other than the two ends counts as another point, even at
-# the same place as an end."
+# "(q, p) is a ring pair when no other record of P or Q blocks it."
 def is_ring_pair(p_points, q_points, j, i):
     q, p = q_points[j][1:], p_points[i][1:]
     for k, point in enumerate(p_points):
@@ -266,8 +265,7 @@ def ring_list(p_points, q_points):
 
 # ---------------------------------------------------------------- the filter walk
 
-# "A point p' is skipped when some kept p has (q-p)·(p'-p) <= 0, else kept. A box is skipped when some kept p has this for all four corners, else its
-# node is opened."
+# "(q-p)·(p'-p) <= 0"
 def behind(q, p, x):
     return (q[0] - p[0]) * (x[0] - p[0]) + (q[1] - p[1]) * (x[1] - p[1]) <= 0
 
@@ -275,6 +273,23 @@ def behind(q, p, x):
 def corners(box):
     xmin, ymin, xmax, ymax = box
     return [(xmin, ymin), (xmin, ymax), (xmax, ymin), (xmax, ymax)]
+
+
+def contains(box, x):
+    xmin, ymin, xmax, ymax = box
+    return xmin <= x[0] <= xmax and ymin <= x[1] <= ymax
+
+
+# "A point p' is skipped when some kept p has (q-p)·(p'-p) <= 0, else kept." Since request 3 "a kept point at q's place skips nothing, a point at a kept
+# point's place is not skipped by it".
+def drops_point(q, p, x):
+    return behind(q, p, x) and p != q and x != p
+
+
+# "A box is skipped when some kept p has this for all four corners, else its node is opened." Since request 3 "a box containing the kept point's place is
+# opened as far as that point goes".
+def drops_box(q, p, box):
+    return all(behind(q, p, corner) for corner in corners(box)) and p != q and not contains(box, p)
 
 
 # "from the root, depth first, in table order"
@@ -306,13 +321,10 @@ def filter_walk(sheet, q):
     kept = []
 
     def skipped(j, box):
-        for i in kept:
-            if all(behind(q, sheet.place(i), corner) for corner in corners(box)):
-                return True
-        return False
+        return any(drops_box(q, sheet.place(i), box) for i in kept)
 
     def take(position):
-        if not any(behind(q, sheet.place(i), sheet.place(position)) for i in kept):
+        if not any(drops_point(q, sheet.place(i), sheet.place(position)) for i in kept):
             kept.append(position)
 
     opened = walk_down(sheet, skipped, take)
@@ -510,7 +522,8 @@ def leaf_list(p, q, leaf):
 
 
 # "Follow the bulk filter and symmetric rule of source document 004 (4.1, 4.2): one walk of P serves all points of the leaf, in table order as in 01, and
-# another chamber of the leaf rules out a partner just as a kept pump house does. A box is skipped exactly when each chamber of the leaf skips it."
+# another chamber of the leaf rules out a partner just as a kept pump house does. A box is skipped exactly when each chamber of the leaf skips it." Request
+# 3: "The same holds for leaf runs and their second rule."
 def leaf_walk(sheet, chambers):
     """Of chambers that stand at these places: the kept positions of each, ascending, and the nodes opened."""
     kept = [[] for _ in chambers]
@@ -522,10 +535,10 @@ def leaf_walk(sheet, chambers):
         return pumps + others
 
     def skips_box(c, box):
-        return any(all(behind(chambers[c], place, corner) for corner in corners(box)) for place in ruling(c))
+        return any(drops_box(chambers[c], place, box) for place in ruling(c))
 
     def skips_point(c, x):
-        return any(behind(chambers[c], place, x) for place in ruling(c))
+        return any(drops_point(chambers[c], place, x) for place in ruling(c))
 
     def skipped(j, box):
         return all(skips_box(c, box) for c in range(len(chambers)))

@@ -73,20 +73,44 @@ SHEETS = [
     ("    if i >= sheet.n:", "    if i > sheet.n:"),
 ]
 
+CORNERS_BEHIND = "return all(behind(q, p, corner) for corner in corners(box)) and"
+NO_END_BLOCKS = " and x != a and x != b"
+POINT_PLACES = " and p != q and x != p"
+BOX_PLACES = " and p != q and not contains(box, p)"
+BOX_HOLDS = "    return xmin <= x[0] <= xmax and ymin <= x[1] <= ymax"
+
+# of the filter walk and of a run's: the rule of points of before request 3; a kept point at q's place skips points; one skips what stands at its place; the rule
+# of boxes of before; a kept point at q's place skips boxes; one skips a box that contains its place; a box does not contain the places on its sides: on none, on
+# its left or right side, on its bottom or top; a box is shut only where none of its corners is the kept point's place
+SKIPS = [
+    (POINT_PLACES, ""),
+    (POINT_PLACES, " and x != p"),
+    (POINT_PLACES, " and p != q"),
+    (BOX_PLACES, ""),
+    (BOX_PLACES, " and not contains(box, p)"),
+    (BOX_PLACES, " and p != q"),
+    (BOX_HOLDS, "    return xmin < x[0] < xmax and ymin < x[1] < ymax"),
+    (BOX_HOLDS, "    return xmin < x[0] < xmax and ymin <= x[1] <= ymax"),
+    (BOX_HOLDS, "    return xmin <= x[0] <= xmax and ymin < x[1] < ymax"),
+    (BOX_PLACES, " and p != q and p not in corners(box)"),
+]
+
 WALKS = [
     # "Letting a side that touches the circle block"
     ("any(all(product(a, b, corner) < 0 for corner", "any(all(product(a, b, corner) <= 0 for corner"),
     # "Halving the centre in whole numbers"
     ("    x, y = a[0] + b[0], a[1] + b[1]\n", "    x, y = (a[0] + b[0]) // 2 * 2, (a[1] + b[1]) // 2 * 2\n"),
     # "Skipping a box when its centre, or three corners, lie behind the line"
-    ("if all(behind(q, sheet.place(i), corner) for corner in corners(box)):", "if behind(q, sheet.place(i), ((box[0] + box[2]) / 2, (box[1] + box[3]) / 2)):"),
-    ("if all(behind(q, sheet.place(i), corner) for corner in corners(box)):", "if sum(behind(q, sheet.place(i), corner) for corner in corners(box)) >= 3:"),
+    (CORNERS_BEHIND, "return behind(q, p, ((box[0] + box[2]) / 2, (box[1] + box[3]) / 2)) and"),
+    (CORNERS_BEHIND, "return sum(behind(q, p, corner) for corner in corners(box)) >= 3 and"),
     ("dx * dx + dy * dy > (a[0]", "dx * dx + dy * dy >= (a[0]"),
     ("for side in (left, bottom, right, top))", "for side in (left, bottom, right))"),
     ("    return product(a, b, x) <= 0", "    return product(a, b, x) < 0"),
     ("(x[1] - p[1]) <= 0", "(x[1] - p[1]) < 0"),
-    ("if position != end and blocks", "if blocks"),
-    ("if position != end and blocks", "if sheet.place(position) not in (a, b) and blocks"),
+    # the ring rule of before request 3; the place of one end alone doesn't count
+    (NO_END_BLOCKS, ""),
+    (NO_END_BLOCKS, " and x != a"),
+    (NO_END_BLOCKS, " and x != b"),
     ("        if side_inside(a, b, box):", "        if j < sheet.m - 1 and side_inside(a, b, box):"),
     ("        if side_inside(a, b, box):", "        if level == 0 and side_inside(a, b, box):"),
     ("        if far(a, b, box):\n            return CLEAR\n        if side_inside(a, b, box):\n            return (\"side\", which, j)\n        opened += 1\n",
@@ -94,6 +118,7 @@ WALKS = [
     (FIRST_OF_TWO, OTHER_FIRST),
     ("    return answer, opened + more", "    return answer, more"),
     ("words[i // 64] |= 1 << (i % 64)", "words[i // 64] |= 1 << (63 - i % 64)"),
+] + SKIPS + [
     ("    if j >= q.n or i >= p.n:", "    if j > q.n or i >= p.n:"),
     ("    if j >= q.n or i >= p.n:", "    if j >= q.n:"),
     ("over P.\"\"\"\n    number = open_number(p_words) or open_number(q_words)", "over P.\"\"\"\n    number = open_number(q_words) or open_number(p_words)"),
@@ -144,23 +169,21 @@ POINT_KEPT = "            if not skips_point(c, sheet.place(position)):\n"
 RING_WALKED = "            opened += more\n            if answer == CLEAR:\n                found.append(pair_of(p.points, q.points, j, partner))\n    return opened, found\n"
 
 RUNS = SIZES + [
-    # the symmetric rule: the other chambers do not rule out; not for boxes; not for points; the chamber itself rules out too
+    # the symmetric rule: the other chambers do not rule out; not for boxes; not for points
     ("        return pumps + others\n", "        return pumps\n"),
-    ("corner in corners(box)) for place in ruling(c))", "corner in corners(box)) for place in [sheet.place(i) for i in kept[c]])"),
-    ("any(behind(chambers[c], place, x) for place in ruling(c))", "any(behind(chambers[c], place, x) for place in [sheet.place(i) for i in kept[c]])"),
-    ("enumerate(chambers) if k != c]", "enumerate(chambers)]"),
-    # the others are those of another place
-    ("enumerate(chambers) if k != c]", "enumerate(chambers) if place != chambers[c]]"),
+    ("any(drops_box(chambers[c], place, box) for place in ruling(c))", "any(drops_box(chambers[c], place, box) for place in [sheet.place(i) for i in kept[c]])"),
+    ("any(drops_point(chambers[c], place, x) for place in ruling(c))", "any(drops_point(chambers[c], place, x) for place in [sheet.place(i) for i in kept[c]])"),
+    # another chamber on the chamber's own place rules out all of its partners, as before request 3
+    ("any(drops_point(chambers[c], place, x) for place in ruling(c))", "chambers.count(chambers[c]) > 1 or any(drops_point(chambers[c], place, x) for place in ruling(c))"),
     # what is kept for one chamber rules out for all; is kept for all; rules out nothing
     ("    kept = [[] for _ in chambers]\n", "    kept = [[]] * len(chambers)\n"),
     (POINT_KEPT, "            if not all(skips_point(k, sheet.place(position)) for k in range(len(chambers))):\n"),
     ("        return pumps + others\n", "        return others\n"),
-    # a box is skipped when one chamber skips it; when the first does; never; not the root's; when three corners are behind; only when strictly behind
+    # a box is skipped when one chamber skips it; when the first does; never (the root's never is: a chamber and a pump house nearest to each other keep it open); when three corners are behind; only when strictly behind
     (BOX_SKIPPED, BOX_SKIPPED.replace("all(", "any(")),
     (BOX_SKIPPED, BOX_SKIPPED.replace("range(len(chambers))", "range(1)")),
     (BOX_SKIPPED, "        return False\n"),
-    (BOX_SKIPPED, "        return j < sheet.m - 1 and all(skips_box(c, box) for c in range(len(chambers)))\n"),
-    ("any(all(behind(chambers[c], place, corner) for corner in corners(box)) for place", "any(sum(behind(chambers[c], place, corner) for corner in corners(box)) >= 3 for place"),
+    (CORNERS_BEHIND, "return sum(behind(q, p, corner) for corner in corners(box)) >= 3 and"),
     ("(x[1] - p[1]) <= 0", "(x[1] - p[1]) < 0"),
     # not in table order; by id and not by place; by the partner's place and not its id
     ("        for below in range(first, first + count):\n", "        for below in reversed(range(first, first + count)):\n"),
@@ -187,7 +210,7 @@ RUNS = SIZES + [
     ("opened, run + slots[len(run):]", "opened, run + [UNUSED] * (len(slots) - len(run))"),
     (OUTNUMBERED, OUTNUMBERED.replace("0, 0, slots", "0, 0, run[:len(slots)]")),
     ("opened, run + slots[len(run):]", "opened, slots[:len(slots) - len(run)] + run"),
-]
+] + SKIPS
 
 BOOK = [
     ("DIAMETER = 8_000_000_000_000", "DIAMETER = 7_999_999_999_999"),

@@ -158,9 +158,13 @@ static uint32_t pack_no(size_t n, const int32_t *points, size_t points_len, cons
     return out_len == length_for(n) ? 0 : 17;
 }
 
-static bool blocks(const int32_t *a, const int32_t *b, const int32_t *x) {
+static bool behind(const int32_t *a, const int32_t *b, const int32_t *x) {
     return ((int64_t)a[1] - x[1]) * ((int64_t)b[1] - x[1]) + ((int64_t)a[2] - x[2]) * ((int64_t)b[2] - x[2]) <= 0;
 }
+
+static bool one_spot(const int32_t *a, const int32_t *b) { return a[1] == b[1] && a[2] == b[2]; }
+
+static bool blocks(const int32_t *a, const int32_t *b, const int32_t *x) { return behind(a, b, x) && !one_spot(x, a) && !one_spot(x, b); }
 
 static size_t count_of(const Sheet *s) { return (size_t)s->words[s->len - 4]; }
 
@@ -488,31 +492,35 @@ static struct {
 
 static const int32_t *chamber(size_t k) { return Q.words + 3 * leaf.at[k]; }
 
-static bool blocks_all(const int32_t *a, const int32_t *spots, size_t count, const int32_t *x) {
-    for (size_t c = 0; c < count; c++)
-        if (!blocks(a, spots + 3 * c, x)) return false;
-    return true;
+/* x skips the box for q: all corners lie behind the line, and x stands neither at the place of q nor in the box */
+static bool skips(const int32_t *q, const int32_t *box, const int32_t *x) {
+    const int32_t corners[12] = {0, box[0], box[1], 0, box[0], box[3], 0, box[2], box[1], 0, box[2], box[3]};
+    for (size_t c = 0; c < 4; c++)
+        if (!behind(q, corners + 3 * c, x)) return false;
+    return !one_spot(q, x) && !(in(box[0], x[1], box[2]) && in(box[1], x[2], box[3]));
 }
 
-/* for chamber k, a pump house kept so far or another chamber of the leaf blocks all of these spots */
-static bool ruled_out(size_t k, const int32_t *spots, size_t count) {
+/* for chamber k, a pump house kept so far or another chamber of the leaf skips the box, or where there is none, the spot */
+static bool ruled_out(size_t k, const int32_t *box, const int32_t *spot) {
     for (size_t h = 0; h < leaf.chambers; h++)
-        if (h != k && blocks_all(chamber(k), spots, count, chamber(h))) return true;
-    for (size_t i = 0; i < count_of(&P); i++)
-        if (leaf.kept[k][i] && blocks_all(chamber(k), spots, count, P.words + 3 * i)) return true;
+        if (h != k && (box ? skips(chamber(k), box, chamber(h)) : blocks(chamber(k), spot, chamber(h)))) return true;
+    for (size_t i = 0; i < count_of(&P); i++) {
+        const int32_t *p = P.words + 3 * i;
+        if (leaf.kept[k][i] && (box ? skips(chamber(k), box, p) : blocks(chamber(k), spot, p))) return true;
+    }
     return false;
 }
 
 static void walk_node(size_t v) {
-    const int32_t *node = node_of(&P, v), corners[12] = {0, node[3], node[4], 0, node[3], node[6], 0, node[5], node[4], 0, node[5], node[6]};
-    size_t skips = 0;
-    for (size_t k = 0; k < leaf.chambers; k++) skips += ruled_out(k, corners, 4);
-    if (skips == leaf.chambers) return;
+    const int32_t *node = node_of(&P, v);
+    size_t skipped = 0;
+    for (size_t k = 0; k < leaf.chambers; k++) skipped += ruled_out(k, node + 3, 0);
+    if (skipped == leaf.chambers) return;
     leaf.opened++;
     for (int32_t c = node[1]; c < node[1] + node[2]; c++)
         if (node[0]) walk_node((size_t)c);
         else
-            for (size_t k = 0, i = stands(&P, c); k < leaf.chambers; k++) leaf.kept[k][i] = !ruled_out(k, P.words + 3 * i, 1);
+            for (size_t k = 0, i = stands(&P, c); k < leaf.chambers; k++) leaf.kept[k][i] = !ruled_out(k, 0, P.words + 3 * i);
 }
 
 /* leaf v of Q: its pairs by place, then p id, and the nodes opened, a ring walk's as ring_pair_walk counts them; how many pairs */

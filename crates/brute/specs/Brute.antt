@@ -34,17 +34,21 @@ apart a b z = across (pos 2 *ℤ z) (a +ℤ b)
 unfoldable pub covers : Place → Place → Place → Bool
 covers a b z = leb (apart (a .x) (b .x) (z .x) + apart (a .y) (b .y) (z .y)) (across (a .x) (b .x) + across (a .y) (b .y))
 
--- the point at position k is the one at position `end`, or it is not in the circle
-unfoldable pub clear : List ℤ → Place → Place → ℕ → ℕ → Bool
-clear s a b end k = eqb k end || not (covers a b (placeAt s k))
+-- two places are no distance apart
+unfoldable pub together : Place → Place → Bool
+together a b = eqb (across (a .x) (b .x) + across (a .y) (b .y)) 0
 
--- no point of s but the one at position `end` is in the circle
-unfoldable pub empty : List ℤ → Place → Place → ℕ → Bool
-empty s a b end = allB (size s) (clear s a b end)
+-- the place z is not in the circle on a, b, or it is that of an end
+unfoldable pub clear : Place → Place → Place → Bool
+clear a b z = not (covers a b z) || together z a || together z b
+
+-- no point of s is in the circle but at the place of an end
+unfoldable pub empty : List ℤ → Place → Place → Bool
+empty s a b = allB (size s) (λ k. clear a b (placeAt s k))
 
 -- q at position j and p at position i are a pair
 unfoldable pub pairs : List ℤ → List ℤ → ℕ → ℕ → Bool
-pairs p q j i = empty q (placeAt q j) (placeAt p i) j && empty p (placeAt q j) (placeAt p i) i
+pairs p q j i = empty q (placeAt q j) (placeAt p i) && empty p (placeAt q j) (placeAt p i)
 
 -- the squared distance of the two ends of a pair, and 0 where an end is past its set
 unfoldable pub sizeOf : List ℤ → List ℤ → Found → ℕ

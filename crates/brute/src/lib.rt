@@ -6,7 +6,7 @@ ghost use Prim.Native.Nat.{ℕ, _≤_, _<_};
 ghost use lib.IntN.{natAbs, _-ℤ_};
 ghost use lib.ListN.{length, getD};
 ghost use Rattle.integers.specs.Order.{Within};
-ghost use Rattle.brute.specs.Brute.{clip, placeAt, covers, clear, empty, pairs, sizeOf, FirstOf, Next};
+ghost use Rattle.brute.specs.Brute.{clip, placeAt, covers, together, clear, empty, pairs, sizeOf, FirstOf, Next};
 
 pub struct Place {
     pub x: i64,
@@ -89,29 +89,38 @@ fn is_covered(a: Place, b: Place, z: Place) -> bool
     y <= d - x
 }
 
-// Whether the point at position k of s is the one at position `end`, or is not in the circle on a, b.
-fn is_clear(s: &[i32], a: Place, b: Place, end: usize, k: usize) -> bool
+// Whether two places are no distance apart.
+fn is_together(a: Place, b: Place) -> bool
     requires { ⌜ Within 1000000000 (a .x) × Within 1000000000 (a .y) ⌝ }
     requires { ⌜ Within 1000000000 (b .x) × Within 1000000000 (b .y) ⌝ }
-    requires { ⌜ k < Rattle.brute.specs.Brute.size (now s) ⌝ }
-    ensures { λ r. ⌜ r ≡ clear (now (s .entry)) a b end k ⌝ }
+    ensures { λ r. ⌜ r ≡ together a b ⌝ }
 {
-    if k == end {
-        return true;
-    }
-    !is_covered(a, b, place_at(s, k))
+    across(a.x, b.x) + across(a.y, b.y) == 0
 }
 
-// Whether no point of s but the one at position `end` is in the circle on a, b.
-fn is_empty(s: &[i32], a: Place, b: Place, end: usize) -> bool
+// Whether z is not in the circle on a, b, or is at the place of an end.
+fn is_clear(a: Place, b: Place, z: Place) -> bool
     requires { ⌜ Within 1000000000 (a .x) × Within 1000000000 (a .y) ⌝ }
     requires { ⌜ Within 1000000000 (b .x) × Within 1000000000 (b .y) ⌝ }
-    ensures { λ r. ⌜ r ≡ empty (now (s .entry)) a b end ⌝ }
+    requires { ⌜ Within 1000000000 (z .x) × Within 1000000000 (z .y) ⌝ }
+    ensures { λ r. ⌜ r ≡ clear a b z ⌝ }
+{
+    if !is_covered(a, b, z) {
+        return true;
+    }
+    is_together(z, a) | is_together(z, b)
+}
+
+// Whether no point of s is in the circle on a, b but at the place of an end.
+fn is_empty(s: &[i32], a: Place, b: Place) -> bool
+    requires { ⌜ Within 1000000000 (a .x) × Within 1000000000 (a .y) ⌝ }
+    requires { ⌜ Within 1000000000 (b .x) × Within 1000000000 (b .y) ⌝ }
+    ensures { λ r. ⌜ r ≡ empty (now (s .entry)) a b ⌝ }
 {
     let n = s.len() / 3;
     let mut k = 0;
     while k < n {
-        if !is_clear(s, a, b, end, k) {
+        if !is_clear(a, b, place_at(s, k)) {
             return false;
         }
         k += 1;
@@ -127,10 +136,10 @@ fn is_pair(p: &[i32], q: &[i32], j: usize, i: usize) -> bool
 {
     let a = place_at(q, j);
     let b = place_at(p, i);
-    if !is_empty(q, a, b, j) {
+    if !is_empty(q, a, b) {
         return false;
     }
-    is_empty(p, a, b, i)
+    is_empty(p, a, b)
 }
 
 // The first position of P from `i` on that is a pair with position j of Q, or past all of P.

@@ -155,7 +155,7 @@ module _ (P Q : List ℤ) (p-opens : WellFormed P) (q-opens : WellFormed Q) wher
       pub clear-iff : (r : Walked) → RingAnswers P Q j i r → walkedClear r ≡ ringPair (pointsOf P) (pointsOf Q) j i
       clear-iff r a = ap walkedClear (ring-is r a) ∙ of-walk.pair-clear P Q (facts P p-opens) (facts Q q-opens) j i j-in i-in
 
-      -- "blocked by a point (its set and position)": the record that it names is another than q and p, and blocks.
+      -- "blocked by a point (its set and position)": the record that it names blocks, and so stands at the place of neither end.
       pub point-blocks : (s : Answer) (x : Blocker) → RingAnswers P Q j i (Done s) → s .hit ≡ PointHit x → BlocksPair P Q j i (x .set) (x .position)
       point-blocks s x a e = of-walk.pair-point P Q (facts P p-opens) (facts Q q-opens) j i x (ap (λ (z : Answer). z .hit) (sym (answer s a)) ∙ e)
 
@@ -172,7 +172,7 @@ module _ (P Q : List ℤ) (p-opens : WellFormed P) (q-opens : WellFormed Q) wher
       -- "Q is walked first, then P if Q is clear; the counts add up": each of the two opens at most the nodes of its sheet, and the answer's count is at most the nodes of both.
       pub ring-opened-at-most-m : (s : Answer) → RingAnswers P Q j i (Done s) → (overQ P Q j i .opened ≤ nodes Q) × (overP P Q j i .opened ≤ nodes P) × (s .opened ≤ nodes P + nodes Q)
       ring-opened-at-most-m s a =
-          (of-walk.ring-opened-at-most-m 1 Q (facts Q q-opens) (spotOf Q j) (spotOf P i) j, of-walk.ring-opened-at-most-m 0 P (facts P p-opens) (spotOf Q j) (spotOf P i) i, subst (λ (x : Answer). x .opened ≤ nodes P + nodes Q) (sym (answer s a)) (of-walk.pair-opened P Q (facts P p-opens) (facts Q q-opens) j i))
+          (of-walk.ring-opened-at-most-m 1 Q (facts Q q-opens) (spotOf Q j) (spotOf P i), of-walk.ring-opened-at-most-m 0 P (facts P p-opens) (spotOf Q j) (spotOf P i), subst (λ (x : Answer). x .opened ≤ nodes P + nodes Q) (sym (answer s a)) (of-walk.pair-opened P Q (facts P p-opens) (facts Q q-opens) j i))
 
   -- ---- pages
 

@@ -158,7 +158,7 @@ fn filter_walk(p: &[i32], q: &[i32], j: usize) {
     say_end();
 }
 
-// A record at an end's place blocks, whichever set it is of; one beside it does not.
+// A record at an end's place doesn't count as another point, whichever set it is of.
 pub fn same_spot() {
     let one = [1i32, 7, 7, 0, 0, 0, 0, 1, 7, 7, 7, 7, 12, 7, 1, 1, 1, 1];
     let beside = [

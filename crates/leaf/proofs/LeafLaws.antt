@@ -7,7 +7,7 @@ use mathlib.Core.List.{List}
 use Prim.Native.Nat.{ℕ, zero, suc, _+_, _*_, _<_, _≤_}
 use native.Mathlib.Omega.{arith}
 use lib.Dec.{eqb, ltb}
-use borrow.Author.Tests.{eq-eqb, ltb-true, ltb-false}
+use borrow.Author.Tests.{ltb-true, ltb-false}
 use lib.IntN.{ℤ}
 use lib.ListN.{length}
 use Rattle.integers.specs.Bools.{and-left, and-right, and-both, decide, clash, test-iff}
@@ -63,9 +63,6 @@ or-cases : (a b : Bool) → (a || b) ≡ true → (a ≡ true) ⊎ (b ≡ true)
 or-cases true b e = inl refl
 or-cases false b e = inr e
 
-not-same : (h k : ℕ) → not (eqb h k) ≡ true → h ≡ k → ⊥
-not-same h k e z = clash (subst (λ (x : ℕ). not (eqb h x) ≡ true) (sym z) e) (ap not (eq-eqb h h refl))
-
 -- ---- the kept sets, one behind the other
 
 -- a set before another ends where it begins, at the latest
@@ -96,19 +93,17 @@ slot-set words h k i j a b e =
 -- ---- one walk for all chambers of a leaf
 
 module _ (q : ℕ → Spot) (c words : ℕ) (w : List ℤ) (n : ℕ) where
-  -- another position than i is kept for chamber h, and drops position i
+  -- a position is kept for chamber h, and drops position i
   pub record Beaten (h : ℕ) (b : List ℕ) (i : ℕ) : Type 0 where
     pub by : ℕ
     pub below : by < n
-    pub other : by ≡ i → ⊥
     pub is-kept : kept b (slot words h by) ≡ true
     pub dropping : drops (q h) (spotOf w by) (spotOf w i) ≡ true
 
-  -- another chamber than h drops position i
+  -- a chamber of the leaf drops position i for chamber h
   pub record Ruled (h i : ℕ) : Type 0 where
     pub by : ℕ
     pub below : by < c
-    pub other : by ≡ h → ⊥
     pub dropping : drops (q h) (q by) (spotOf w i) ≡ true
 
   -- position i is settled for chamber h
@@ -128,7 +123,7 @@ module _ (q : ℕ → Spot) (c words : ℕ) (w : List ℤ) (n : ℕ) where
       ⊎-elim
       (λ (e : kept b (slot words h i) ≡ true). inl (g .stays _ e))
       (λ (x : Beaten h b i ⊎ Ruled h i). inr (⊎-elim
-      (λ (y : Beaten h b i). inl (record { by = y .by; below = y .below; other = y .other; is-kept = g .stays _ (y .is-kept); dropping = y .dropping }))
+      (λ (y : Beaten h b i). inl (record { by = y .by; below = y .below; is-kept = g .stays _ (y .is-kept); dropping = y .dropping }))
       (λ (y : Ruled h i). inr y)
       x))
 
@@ -141,13 +136,10 @@ module _ (q : ℕ → Spot) (c words : ℕ) (w : List ℤ) (n : ℕ) where
       let y = some-of n (λ p. kept b (slot words h p) && by (spotOf w p)) x in
       let k = and-left (kept b (slot words h (y .0))) (by (spotOf w (y .0))) (y .2) in
       let d = f _ (and-right (kept b (slot words h (y .0))) (by (spotOf w (y .0))) (y .2)) in
-      ⊎-elim
-      (λ (t : kept b (slot words h i) ≡ true). inl t)
-      (λ (t : kept b (slot words h i) ≡ false). inr (inl (record { by = y .0; below = y .1; other = λ z. clash (ap (λ (j : ℕ). kept b (slot words h j)) (sym z) ∙ k) t; is-kept = k; dropping = d })))
-      (decide (kept b (slot words h i))))
+      inr (inl (record { by = y .0; below = y .1; is-kept = k; dropping = d })))
       (λ (x : someB c (λ g. not (eqb g h) && by (q g)) ≡ true).
       let y = some-of c (λ g. not (eqb g h) && by (q g)) x in
-      inr (inr (record { by = y .0; below = y .1; other = not-same (y .0) h (and-left (not (eqb (y .0) h)) (by (q (y .0))) (y .2)); dropping = f _ (and-right (not (eqb (y .0) h)) (by (q (y .0))) (y .2)) })))
+      inr (inr (record { by = y .0; below = y .1; dropping = f _ (and-right (not (eqb (y .0) h)) (by (q (y .0))) (y .2)) })))
       (or-cases (someB n (λ p. kept b (slot words h p) && by (spotOf w p))) (someB c (λ g. not (eqb g h) && by (q g))) e)
 
   module _ (few : c ≤ 16) (enough : n ≤ 64 * words) where
@@ -308,8 +300,8 @@ module _ (words : ℕ) (P Q : List ℤ) (p-opens : Opens P (points P) (nodes P))
       (λ (t : leafKeeps q c words P h i ≡ true). t)
       (λ (x : Beaten q c words P (points P) h b i ⊎ Ruled q c words P (points P) h i).
       ⊎-elim
-      (λ (y : Beaten q c words P (points P) h b i). clash (y .dropping) (free-p (y .by) (y .below) (y .other)))
-      (λ (y : Ruled q c words P (points P) h i). clash (y .dropping) (free-q (position (y .by)) (chamber-in Q q-opens v v-in v-leaf (y .by) (y .below)) (apart (y .by) (y .below) (y .other))))
+      (λ (y : Beaten q c words P (points P) h b i). clash (y .dropping) (free-p (y .by) (y .below)))
+      (λ (y : Ruled q c words P (points P) h i). clash (y .dropping) (free-q (position (y .by)) (chamber-in Q q-opens v v-in v-leaf (y .by) (y .below))))
       x)
       (leaf-settled q c words P p-opens (leaf-few Q q-opens v v-in v-leaf) enough h k i l)
     where
@@ -329,22 +321,19 @@ module _ (words : ℕ) (P Q : List ℤ) (p-opens : Opens P (points P) (nodes P))
       j-in = chamber-in Q q-opens v v-in v-leaf h k
 
       clear-q : Bool
-      clear-q = unblocked (pointsOf Q) (spotOf Q (position h)) (spotOf P i) (position h)
+      clear-q = unblocked (pointsOf Q) (spotOf Q (position h)) (spotOf P i)
 
       clear-p : Bool
-      clear-p = unblocked (pointsOf P) (spotOf Q (position h)) (spotOf P i) i
+      clear-p = unblocked (pointsOf P) (spotOf Q (position h)) (spotOf P i)
 
       both : (clear-q && clear-p) ≡ true
       both = sym (pair-rule P Q (position h) i j-in l) ∙ e
 
-      free-p : Free P (points P) (spotOf Q (position h)) (spotOf P i) i
-      free-p = unblocked-free P (spotOf Q (position h)) (spotOf P i) i (and-right clear-q clear-p both)
+      free-p : Free P (points P) (spotOf Q (position h)) (spotOf P i)
+      free-p = unblocked-free P (spotOf Q (position h)) (spotOf P i) (and-right clear-q clear-p both)
 
-      free-q : Free Q (points Q) (spotOf Q (position h)) (spotOf P i) (position h)
-      free-q = unblocked-free Q (spotOf Q (position h)) (spotOf P i) (position h) (and-left clear-q clear-p both)
-
-      apart : (g : ℕ) → g < c → (g ≡ h → ⊥) → position g ≡ position h → ⊥
-      apart g u ne z = ne (chamber-once Q q-opens v v-in v-leaf g h u k z)
+      free-q : Free Q (points Q) (spotOf Q (position h)) (spotOf P i)
+      free-q = unblocked-free Q (spotOf Q (position h)) (spotOf P i) (and-left clear-q clear-p both)
 
   -- a ring partner of a chamber is exactly a position kept for it whose ring walk is clear
   pub leaf-exact : (h i : ℕ) → h < countOf Q (points Q) v → i < points P

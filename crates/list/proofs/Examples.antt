@@ -1,4 +1,4 @@
--- The document's listing with its pages, and the starred examples that speak of another record on one spot: each by computation.
+-- The document's listing with its pages, and the starred examples that speak of another record on one spot, as request 3 turns them: each by computation.
 -- Assumes nothing.
 use mathlib.Core.Path.{_≡_, refl}
 use mathlib.Core.Bool.{true, false}
@@ -7,7 +7,7 @@ use Prim.Native.Nat.{ℕ}
 use lib.IntN.{pos}
 use lib.ListN.{replicate}
 use Rattle.words.specs.All.{allB}
-use Rattle.plane.specs.Rule.{spot, blocks}
+use Rattle.plane.specs.Rule.{spot, sameSpot, blocks}
 use Rattle.plane.specs.Point.{Point}
 use Rattle.list.specs.declared.Key.{Key}
 use Rattle.list.specs.declared.Pair.{Pair}
@@ -55,23 +55,23 @@ pub record Listed : Type 0 where
   full : page (key 5 2) 1 ≡ last (key 5 2)
 
 pub listed : Listed
-unfolding ringList listBy rows row ringPair unblocked allB blocks pageOf padded shown after follows lastOr isNone
+unfolding ringList listBy rows row ringPair unblocked allB sameSpot blocks pageOf padded shown after follows lastOr isNone
 listed = record { listing = refl; first = refl; second = refl; third = refl; between = refl; full = refl }
 
--- an end is told by set and position: a record of either set at the place of an end is another point
+-- "01's two examples with records on one spot turn round": a record of either set at the place of an end doesn't count as another point
 pub record Starred : Type 0 where
   -- (0,0),(4,0)
   alone : ringPair (at 1 4 0 ∷ []) (at 1 0 0 ∷ []) 0 0 ≡ true
   beside : ringPair (at 1 4 0 ∷ []) (at 1 0 0 ∷ at 2 2 3 ∷ []) 0 0 ≡ true
-  on-end-q : ringPair (at 1 4 0 ∷ []) (at 1 0 0 ∷ at 2 0 0 ∷ []) 0 0 ≡ false
-  on-end-p : ringPair (at 1 4 0 ∷ at 2 0 0 ∷ []) (at 1 0 0 ∷ []) 0 0 ≡ false
+  on-end-q : ringPair (at 1 4 0 ∷ []) (at 1 0 0 ∷ at 2 0 0 ∷ []) 0 0 ≡ true
+  on-end-p : ringPair (at 1 4 0 ∷ at 2 0 0 ∷ []) (at 1 0 0 ∷ []) 0 0 ≡ true
   -- (7,7),(7,7)
   one-spot : ringPair (at 1 7 7 ∷ []) (at 1 7 7 ∷ []) 0 0 ≡ true
   one-off : ringPair (at 1 7 7 ∷ []) (at 1 7 7 ∷ at 2 7 8 ∷ []) 0 0 ≡ true
-  third-q : ringPair (at 1 7 7 ∷ []) (at 1 7 7 ∷ at 2 7 7 ∷ []) 0 0 ≡ false
-  third-p : ringPair (at 1 7 7 ∷ at 2 7 7 ∷ []) (at 1 7 7 ∷ []) 0 0 ≡ false
+  third-q : ringPair (at 1 7 7 ∷ []) (at 1 7 7 ∷ at 2 7 7 ∷ []) 0 0 ≡ true
+  third-p : ringPair (at 1 7 7 ∷ at 2 7 7 ∷ []) (at 1 7 7 ∷ []) 0 0 ≡ true
 
 pub starred : Starred
-unfolding ringPair unblocked allB blocks
+unfolding ringPair unblocked allB sameSpot blocks
 starred =
     record { alone = refl; beside = refl; on-end-q = refl; on-end-p = refl; one-spot = refl; one-off = refl; third-q = refl; third-p = refl }

@@ -1,8 +1,7 @@
 -- The ring rule on two sets of points, and the list that it makes. P is the pump houses, Q the chambers.
-use mathlib.Core.Bool.{Bool, not, _&&_, _||_}
+use mathlib.Core.Bool.{Bool, not, _&&_}
 use mathlib.Core.List.{List}
 use Prim.Native.Nat.{ℕ, _<_}
-use lib.Dec.{eqb}
 use lib.IntN.{natAbs}
 use lib.ListN.{length}
 use Rattle.integers.specs.Order.{Within}
@@ -13,14 +12,13 @@ use Rattle.plane.specs.Point.{Point, idAt, spotAt}
 use Rattle.list.specs.declared.Pair.{Pair}
 use Rattle.list.specs.Rows.{listBy, Rising}
 
--- no record of a set blocks the pair a, b, but for the one at position `end`. "Every record of either set other than the two ends counts as
--- another point, even at the same place as an end": an end is told by set and position, never by place.
-unfoldable pub unblocked : List Point → Spot → Spot → ℕ → Bool
-unblocked s a b end = allB (length s) (λ k. eqb k end || not (blocks a b (spotAt s k)))
+-- no record of a set blocks the pair a, b. An end of the pair stands at its own place, and so never does.
+unfoldable pub unblocked : List Point → Spot → Spot → Bool
+unblocked s a b = allB (length s) (λ k. not (blocks a b (spotAt s k)))
 
 -- "(q, p) is a ring pair when no other record of P or Q blocks it": q is position j of Q, p is position i of P
 unfoldable pub ringPair : List Point → List Point → ℕ → ℕ → Bool
-ringPair P Q j i = unblocked Q (spotAt Q j) (spotAt P i) j && unblocked P (spotAt Q j) (spotAt P i) i
+ringPair P Q j i = unblocked Q (spotAt Q j) (spotAt P i) && unblocked P (spotAt Q j) (spotAt P i)
 
 -- the squared diameter of the circle on two places, which is never negative, as a number
 abbrev pub sizeOf : Spot → Spot → ℕ

@@ -1,18 +1,25 @@
--- What the rules of boxes say of the places in a box: `box-drops`, `far-clear`, `side-inside`, `strict-blocks`, `strict-not-left`, `strict-not-right`.
+-- What the rules of boxes say of the places in a box: `box-drops`, `far-clear`, `side-inside`, `strict-blocks`; and that an end of the pair never blocks it:
+-- `left-clear`, `right-clear`.
 -- Assumes nothing.
 use mathlib.Core.Path.{_≡_, refl, sym, ap, subst, _∙_}
-use mathlib.Core.Bool.{Bool, true, false, cond, _&&_}
+use mathlib.Core.Bool.{Bool, true, false, not, cond, _&&_}
+use mathlib.Core.Logic.{⊎-elim}
 use Prim.Native.Nat.{ℕ, zero, suc, _<_}
 use native.Mathlib.Omega.{arith}
+use lib.Dec.{eqb}
 use lib.IntN.{ℤ, pos, _+ℤ_, _-ℤ_, _*ℤ_}
 use lib.Signed.{leZ, ltZ, _≤ℤ_, _<ℤ_}
-use Rattle.integers.specs.Order.{zl}
+use Rattle.integers.specs.Order.{zl, sfits-in}
 use Rattle.integers.specs.Solver.{con, _:+_, _:-_, _:*_}
 use Rattle.integers.specs.Solve.{_:=_, solve₄}
-use Rattle.integers.specs.Bools.{and-left, and-right}
+use mir.Syntax.{w64}
+use mir.Facts.{toZ-ofZ}
+use mir.Val.{SFits, toZ, ofZ}
+use borrow.Author.Tests.{eqb-true, eq-eqb, not-true, not-false}
+use Rattle.integers.specs.Bools.{and-left, and-right, and-both, decide, clash, test-iff}
 use Rattle.plane.specs.declared.Spot.{Spot}
 use Rattle.plane.specs.declared.Boxed.{Boxed}
-use Rattle.plane.specs.Rule.{spot, dot, blocks, drops, dropsBox, size, gap, far, inside, sideIn}
+use Rattle.plane.specs.Rule.{SpotIn, BoxIn, spot, dot, same, sameSpot, inBox, blocks, drops, behind, dropsBox, size, gap, far, inside, sideIn}
 use Rattle.plane.proofs.Plane.{In, corners-all, far-none, side-x, side-y}
 
 -- ---- tests and orders
@@ -35,32 +42,68 @@ lt-le a b h = omega zl
 not-lt : (a : ℤ) → a ≡ pos 0 → a <ℤ pos 0 → ⊥
 not-lt a e h = let x : pos 0 <ℤ pos 0 = subst (λ (z : ℤ). z <ℤ pos 0) e h in x .lt
 
+-- ---- places
+
+same-number : (a b : ℤ) → same a b ≡ true → a ≡ b
+same-number a b e = let h = le-of a b (and-left (leZ a b) (leZ b a) e) in let k = le-of b a (and-right (leZ a b) (leZ b a) e) in omega zl
+
+number-same : (a : ℤ) → same a a ≡ true
+number-same a = let e : leZ a a ≡ true = omega zl in and-both (leZ a a) (leZ a a) e e
+
+-- equal bits are equal numbers
+pub same-bits : (a b : ℤ) → SFits w64 a → SFits w64 b → eqb (ofZ w64 a) (ofZ w64 b) ≡ same a b
+same-bits a b f g =
+    test-iff _ _ (λ e. subst (λ (z : ℤ). same a z ≡ true) (sym (toZ-ofZ f) ∙ ap (toZ w64) (eqb-true (ofZ w64 a) (ofZ w64 b) e) ∙ toZ-ofZ g) (number-same a))
+    (λ e. eq-eqb (ofZ w64 a) (ofZ w64 b) (ap (ofZ w64) (same-number a b e)))
+
+same-is : (a b : Spot) → sameSpot a b ≡ true → a ≡ b
+unfolding sameSpot
+same-is a b e =
+    let x = same-number (a .x) (b .x) (and-left (same (a .x) (b .x)) (same (a .y) (b .y)) e) in
+    let y = same-number (a .y) (b .y) (and-right (same (a .x) (b .x)) (same (a .y) (b .y)) e) in
+    λ i. record { x = x i; y = y i }
+
+same-self : (a : Spot) → sameSpot a a ≡ true
+unfolding sameSpot
+same-self a = and-both (same (a .x) (a .x)) (same (a .y) (a .y)) (number-same (a .x)) (number-same (a .y))
+
+not-same : (a b : Spot) → (a ≡ b → ⊥) → not (sameSpot a b) ≡ true
+not-same a b f = ⊎-elim (λ e. absurd (f (same-is a b e))) (λ e. ap not e) (decide (sameSpot a b))
+
+in-box : (o : Boxed) (z : Spot) → In o z → inBox o z ≡ true
+unfolding inBox
+in-box o z i = rw (of-le _ _ (i .left), of-le _ _ (i .right), of-le _ _ (i .low), of-le _ _ (i .high))
+
 -- ---- the rules
 
--- the half-plane rule: a box behind the line holds only points behind it
+-- what a conjunction of three says
+and₀ : (a b c : Bool) → (a && b && c) ≡ true → a ≡ true
+and₀ a b c e = and-left a b (and-left (a && b) c e)
+
+and₁ : (a b c : Bool) → (a && b && c) ≡ true → b ≡ true
+and₁ a b c e = and-right a b (and-left (a && b) c e)
+
+and₂ : (a b c : Bool) → (a && b && c) ≡ true → c ≡ true
+and₂ a b c e = and-right (a && b) c e
+
+-- the half-plane rule: a box behind the line that does not contain the kept place holds only points that it drops
 pub box-drops : (q p : Spot) (o : Boxed) (z : Spot) → dropsBox q p o ≡ true → In o z → drops q p z ≡ true
 unfolding dropsBox drops blocks
 box-drops q p o z e i =
-    let a = drops q p (spot (o .xmin) (o .ymin)) in
-    let b = drops q p (spot (o .xmin) (o .ymax)) in
-    let c = drops q p (spot (o .xmax) (o .ymin)) in
-    let d = drops q p (spot (o .xmax) (o .ymax)) in
-    let e₁ = and-left (a && b && c) d e in
-    let e₂ = and-left (a && b) c e₁ in
-    of-le _ _
-    (corners-all q p o z
-    (record {
-      ll = le-of _ _ (and-left a b e₂);
-      lh = le-of _ _ (and-right a b e₂);
-      hl = le-of _ _ (and-right (a && b) c e₁);
-      hh = le-of _ _ (and-right (a && b && c) d e);
-    })
-    i)
+    let a = behind q p (spot (o .xmin) (o .ymin)) in
+    let b = behind q p (spot (o .xmin) (o .ymax)) in
+    let c = behind q p (spot (o .xmax) (o .ymin)) in
+    let d = behind q p (spot (o .xmax) (o .ymax)) in
+    let all = and₀ (a && b && c && d) (not (sameSpot p q)) (not (inBox o p)) e in
+    let e₁ = and-left (a && b && c) d all in
+    let h = corners-all q p o z (record { ll = le-of _ _ (and₀ a b c e₁); lh = le-of _ _ (and₁ a b c e₁); hl = le-of _ _ (and₂ a b c e₁); hh = le-of _ _ (and-right (a && b && c) d all) }) i in
+    let out = and₂ (a && b && c && d) (not (sameSpot p q)) (not (inBox o p)) e in
+    rw (of-le _ _ h, and₁ (a && b && c && d) (not (sameSpot p q)) (not (inBox o p)) e, not-same p z (λ s. clash out (ap (λ (y : Spot). not (inBox o y)) s ∙ ap not (in-box o z i))))
 
 -- rule (1): a far box holds no point that blocks
 pub far-clear : (a b : Spot) (o : Boxed) (z : Spot) → far a b o ≡ true → In o z → blocks a b z ≡ false
 unfolding far blocks
-far-clear a b o z e i = no-le _ _ (far-none a b o z (lt-of _ _ e) i)
+far-clear a b o z e i = rw (no-le _ _ (far-none a b o z (lt-of _ _ e) i))
 
 -- rule (2): places on the four sides of a box
 pub record OnSides (o : Boxed) (t : ℕ → Spot) : Type 0 where
@@ -125,11 +168,6 @@ side-strict a b o t s h = side-inside a b o h (t (sideIn a b o)) (s .within (sid
     on (suc (suc (suc zero))) l = unfold OnSide in s .top
     on (suc (suc (suc (suc q)))) l = absurd (omega arith)
 
--- what is strictly inside blocks
-pub strict-blocks : (a b z : Spot) → dot a b z <ℤ pos 0 → blocks a b z ≡ true
-unfolding blocks
-strict-blocks a b z h = lt-le _ _ h
-
 dot-left : (a b : Spot) → dot a b a ≡ pos 0
 dot-left a b = solve₄ (λ ax ay bx by. (ax :- ax) :* (bx :- ax) :+ (ay :- ay) :* (by :- ay) := con (pos 0)) refl (a .x) (a .y) (b .x) (b .y)
 
@@ -142,6 +180,65 @@ strict-not-left a b z h e = not-lt _ (ap (dot a b) e ∙ dot-left a b) h
 
 pub strict-not-right : (a b z : Spot) → dot a b z <ℤ pos 0 → z ≡ b → ⊥
 strict-not-right a b z h e = not-lt _ (ap (dot a b) e ∙ dot-right a b) h
+
+-- what is strictly inside blocks
+pub strict-blocks : (a b z : Spot) → dot a b z <ℤ pos 0 → blocks a b z ≡ true
+unfolding blocks
+strict-blocks a b z h = rw (lt-le _ _ h, not-same z a (strict-not-left a b z h), not-same z b (strict-not-right a b z h))
+
+-- an end of the pair never blocks it
+pub left-clear : (a b : Spot) → blocks a b a ≡ false
+unfolding blocks
+left-clear a b = rw (dot-left a b, same-self a)
+
+pub right-clear : (a b : Spot) → blocks a b b ≡ false
+unfolding blocks
+right-clear a b = let e : blocks a b b ≡ (not (sameSpot b a) && false) = rw (dot-right a b, same-self b) in e ∙ and-false (not (sameSpot b a))
+  where
+    and-false : (t : Bool) → (t && false) ≡ false
+    and-false true = refl
+    and-false false = refl
+
+-- ---- the tests as the code makes them
+
+pub same-by : (a b : Spot) → SpotIn a → SpotIn b → (eqb (ofZ w64 (a .x)) (ofZ w64 (b .x)) && eqb (ofZ w64 (a .y)) (ofZ w64 (b .y))) ≡ sameSpot a b
+unfolding sameSpot
+same-by a b f g =
+    rw (same-bits (a .x) (b .x) (sfits-in (f .x-in) tt) (sfits-in (g .x-in) tt), same-bits (a .y) (b .y) (sfits-in (f .y-in) tt) (sfits-in (g .y-in) tt))
+
+abbrev back : ℤ → ℤ
+back z = toZ w64 (ofZ w64 z)
+
+pub in-by : (o : Boxed) (z : Spot) → BoxIn o → SpotIn z → (leZ (back (o .xmin)) (back (z .x)) && leZ (back (z .x)) (back (o .xmax)) && leZ (back (o .ymin)) (back (z .y)) && leZ (back (z .y)) (back (o .ymax))) ≡ inBox o z
+unfolding inBox
+in-by o z f g =
+    rw (toZ-ofZ {w = w64} {z = o .xmin} (sfits-in (f .xmin-in) tt), toZ-ofZ {w = w64} {z = o .xmax} (sfits-in (f .xmax-in) tt), toZ-ofZ {w = w64} {z = o .ymin} (sfits-in (f .ymin-in) tt), toZ-ofZ {w = w64} {z = o .ymax} (sfits-in (f .ymax-in) tt), toZ-ofZ {w = w64} {z = z .x} (sfits-in (g .x-in) tt), toZ-ofZ {w = w64} {z = z .y} (sfits-in (g .y-in) tt))
+
+-- the product d of the pair a, b and z: outside the circle, inside, and where it is not outside
+module _ (a b z : Spot) (d : ℤ) (e : d ≡ dot a b z) where
+  pub outside-no : ltZ (pos 0) d ≡ true → false ≡ blocks a b z
+  unfolding blocks
+  outside-no h = let f : leZ d (pos 0) ≡ false = omega zl in rw (← e, f)
+
+  pub inside-yes : ltZ d (pos 0) ≡ true → true ≡ blocks a b z
+  inside-yes h = sym (strict-blocks a b z (subst (λ (y : ℤ). y <ℤ pos 0) e (lt-of d (pos 0) h)))
+
+  pub circle-places : {r s : Bool} → r ≡ sameSpot z a → s ≡ sameSpot z b → ltZ (pos 0) d ≡ false → (not r && not s) ≡ blocks a b z
+  unfolding blocks
+  circle-places f g h = let k : leZ d (pos 0) ≡ true = omega zl in rw (← e, k, f, g)
+
+-- the tests of the four corners, and what is left where they hold
+abbrev pub allBehind : Spot → Spot → Boxed → Bool
+allBehind q p o = behind q p (spot (o .xmin) (o .ymin)) && behind q p (spot (o .xmin) (o .ymax)) && behind q p (spot (o .xmax) (o .ymin)) && behind q p (spot (o .xmax) (o .ymax))
+
+module _ (q p : Spot) (o : Boxed) (t : Bool) (e : t ≡ allBehind q p o) where
+  pub front-no : not t ≡ true → false ≡ dropsBox q p o
+  unfolding dropsBox
+  front-no h = let f : allBehind q p o ≡ false = sym e ∙ not-true t h in rw f
+
+  pub behind-places : {r s : Bool} → r ≡ sameSpot p q → s ≡ inBox o p → not t ≡ false → (not r && not s) ≡ dropsBox q p o
+  unfolding dropsBox
+  behind-places g k h = let f : allBehind q p o ≡ true = sym e ∙ not-false t h in rw (f, g, k)
 
 -- ---- the first side, from the tests of the four corners
 

@@ -1,14 +1,14 @@
--- Document 01's starred checked examples that speak of places and boxes, as one table: what is asked, and what is to be answered.
+-- Document 01's starred checked examples that speak of places and boxes, as one table: what is asked, and what is to be answered. Those that request 3
+-- turns round stand here as it says: "01's two examples with records on one spot turn round, and its box (3,-1) to (9,4) is opened".
 -- `starred` of proofs/Examples computes that every entry holds. Those that speak of another record on one spot stand in the crate list, too.
 use mathlib.Core.Bool.{Bool, true, false, _&&_, Bool·beq}
 use mathlib.Core.List.{List, [], _∷_}
 use Prim.Native.Nat.{ℕ}
 use lib.Dec.{eqb}
 use lib.IntN.{ℤ, pos, negℤ}
-use lib.Signed.{leZ}
 use Rattle.plane.specs.declared.Spot.{Spot}
 use Rattle.plane.specs.declared.Boxed.{Boxed}
-use Rattle.plane.specs.Rule.{spot, dot, blocks, drops, dropsBox, size, gap, far, sideIn}
+use Rattle.plane.specs.Rule.{spot, dot, same, blocks, drops, dropsBox, size, gap, far, sideIn}
 
 pub data Case : Type 0 where
   -- the pair a, b and another point x: the product (a-x)·(b-x), and whether x blocks
@@ -20,9 +20,6 @@ pub data Case : Type 0 where
   -- the circle on a, b and a box: the squared distance of twice the centre to the doubled box, |a-b| squared, whether the box is skipped by rule (1),
   -- and the side that blocks by rule (2): 0 left, 1 bottom, 2 right, 3 top, 4 none
   entering : Spot → Spot → Boxed → ℤ → ℤ → Bool → ℕ → Case
-
-abbrev same : ℤ → ℤ → Bool
-same a b = leZ a b && leZ b a
 
 unfoldable pub holds : Case → Bool
 holds (blocking a b x v t) = same (dot a b x) v && Bool·beq (blocks a b x) t
@@ -42,18 +39,24 @@ box a b c d = record { xmin = a; ymin = b; xmax = c; ymax = d }
 
 unfoldable pub table : List Case
 table =
-    -- "(0,0),(4,0): (2,2) blocks, the product is 0. (2,3) doesn't, 5. (2,1) blocks, -3. another record at (0,0) blocks."
+    -- "(0,0),(4,0): (2,2) blocks, the product is 0. (2,3) doesn't, 5. (2,1) blocks, -3. another record at (0,0) blocks.": that turns round
     blocking (at 0 0) (at 4 0) (at 2 2) (pos 0) true
     ∷ blocking (at 0 0) (at 4 0) (at 2 3) (pos 5) false
     ∷ blocking (at 0 0) (at 4 0) (at 2 1) (negℤ (pos 3)) true
-    ∷ blocking (at 0 0) (at 4 0) (at 0 0) (pos 0) true
-    -- "(7,7),(7,7): (7,8) doesn't block, 1; a third record at (7,7) does."
+    ∷ blocking (at 0 0) (at 4 0) (at 0 0) (pos 0) false
+    -- "(7,7),(7,7): (7,8) doesn't block, 1; a third record at (7,7) does.": that turns round
     ∷ blocking (at 7 7) (at 7 7) (at 7 8) (pos 1) false
-    ∷ blocking (at 7 7) (at 7 7) (at 7 7) (pos 0) true
-    -- "q (0,0), kept (3,0): (3,5) skipped; (2,5) kept, 3. Box (3,-1) to (9,4) skipped."
+    ∷ blocking (at 7 7) (at 7 7) (at 7 7) (pos 0) false
+    -- "q (0,0), kept (3,0): (3,5) skipped; (2,5) kept, 3. Box (3,-1) to (9,4) skipped.": that is opened
     ∷ skipping (at 0 0) (at 3 0) (at 3 5) (pos 0) true
     ∷ skipping (at 0 0) (at 3 0) (at 2 5) (pos 3) false
-    ∷ boxSkipping (at 0 0) (at 3 0) (box (pos 3) (negℤ (pos 1)) (pos 9) (pos 4)) true
+    ∷ boxSkipping (at 0 0) (at 3 0) (box (pos 3) (negℤ (pos 1)) (pos 9) (pos 4)) false
+    -- request 3's other sentences: a point at the kept point's place, and any point or box where the kept point stands at q's place
+    ∷ skipping (at 0 0) (at 3 0) (at 3 0) (pos 0) false
+    ∷ skipping (at 3 0) (at 3 0) (at 3 5) (pos 0) false
+    ∷ boxSkipping (at 3 0) (at 3 0) (box (pos 4) (negℤ (pos 1)) (pos 9) (pos 4)) false
+    ∷ boxSkipping (at 0 0) (at 3 0) (box (pos 4) (negℤ (pos 1)) (pos 9) (pos 4)) true
+    ∷ boxSkipping (at 0 0) (at 3 0) (box (pos 3) (pos 1) (pos 9) (pos 4)) true
     -- "Circle (0,0),(4,0): box (1,0) to (9,1) blocks by its left side. Box (0,0) to (0,0) doesn't, and is opened.
     -- Box (2,2) to (5,5) is opened, 16 against 16. Box (4,1) to (6,6) is skipped, 20 against 16."
     ∷ entering (at 0 0) (at 4 0) (box (pos 1) (pos 0) (pos 9) (pos 1)) (pos 0) (pos 16) false 0

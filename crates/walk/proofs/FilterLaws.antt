@@ -38,7 +38,7 @@ pub record Right (words n : ℕ) (k : Kept) : Type 0 where
 pub record Grows (k k′ : Kept) : Type 0 where
   pub stays : (i : ℕ) → kept (k .bits) i ≡ true → kept (k′ .bits) i ≡ true
 
--- position i is kept, or another that is kept drops it
+-- position i is kept, or one that is kept drops it
 abbrev pub Settled : List ℤ → ℕ → Spot → List ℕ → ℕ → Type 0
 Settled w n q b i = (kept b i ≡ true) ⊎ Dropper w n q b i
 
@@ -54,17 +54,13 @@ filter-steps words w n q =
       still = λ s t k a d.
           ⊎-elim
           (λ (e : kept (s .bits) (orderOf w n k) ≡ true). inl (a .stays (orderOf w n k) e))
-          (λ (x : Dropper w n q (s .bits) (orderOf w n k)). inr (record { by = x .by; below = x .below; other = x .other; is-kept = a .stays (x .by) (x .is-kept); dropping = x .dropping }))
+          (λ (x : Dropper w n q (s .bits) (orderOf w n k)). inr (record { by = x .by; below = x .below; is-kept = a .stays (x .by) (x .is-kept); dropping = x .dropping }))
           d;
     }
 
--- a kept one that drops position i settles it: position i is kept, or that one is another
+-- a kept one that drops position i settles it
 settle : (w : List ℤ) (n : ℕ) (q : Spot) (b : List ℕ) (i j : ℕ) → j < n → kept b j ≡ true → drops q (spotOf w j) (spotOf w i) ≡ true → Settled w n q b i
-settle w n q b i j h e d =
-    ⊎-elim
-    (λ (t : kept b i ≡ true). inl t)
-    (λ (t : kept b i ≡ false). inr (record { by = j; below = h; other = λ z. clash (ap (kept b) (sym z) ∙ e) t; is-kept = e; dropping = d }))
-    (decide (kept b i))
+settle w n q b i j h e d = inr (record { by = j; below = h; is-kept = e; dropping = d })
 
 module _ (words : ℕ) (w : List ℤ) (n m : ℕ) (q : Spot) (enough : n ≤ 64 * words) (ordered : orderOk w n ≡ true) (ok : tableOk w n m ≡ true) (tight : tightOk w n m ≡ true) where
   abbrev Filters : Kept → Kept → (ℕ → Type 0) → Type 0
@@ -163,7 +159,7 @@ module _ (words : ℕ) (w : List ℤ) (q : Spot) (o : Opens w (points w) (nodes 
     pub kept-below : (i : ℕ) → kept (filterKept words w q .bits) i ≡ true → i < points w
     kept-below = whole .good .low
 
-    -- every position below n is kept, or another that is kept drops it
+    -- every position below n is kept, or one that is kept drops it
     pub kept-settled : (i : ℕ) → i < points w → Settled w (points w) q (filterKept words w q .bits) i
     kept-settled i h =
         subst (Settled w (points w) q (filterKept words w q .bits)) (order-rank w (points w) (o .ordered) i h)

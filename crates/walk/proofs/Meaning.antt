@@ -3,14 +3,14 @@
 --
 --     filter walk for q over w, kept set on so many words as hold the points
 --         kept-partner      "For every position, a ring partner of q is kept"
---         dropped-by        a position that is not kept is dropped by another that is
+--         dropped-by        a position that is not kept is dropped by one that is
 --         unused-zero       "unused bits are 0"; kept-words: the words are as many as were lent
 --         count-kept        "the number of bits set" is the number of kept positions
 --         filter-opened-at-most-m
 --     ring walk for a, b over w
---         clear-iff         clear exactly if no other record of the sheet blocks
---         point-blocks      a point answer names another record, which blocks
---         side-blocks       a side answer names a node below which another record blocks
+--         clear-iff         clear exactly if no record of the sheet blocks
+--         point-blocks      a point answer names a record that blocks
+--         side-blocks       a side answer names a node below which a record blocks
 --         ring-opened-at-most-m
 --     ring walk for q and p over Q, then P
 --         pair-is           "Q is walked first, then P if Q is clear; the counts add up"
@@ -72,7 +72,7 @@ module _ (words : ℕ) (w : List ℤ) (q : Spot) (opens : Opens w (points w) (no
     pub count-kept : card (filterKept words w q .bits) ≡ cardIn (filterKept words w q .bits) (points w) 0
     count-kept = card-first (filterKept words w q .bits) (points w) (omega (arith, kept-words)) (kept-below words w q opens enough)
 
-    -- A position that is not kept is dropped by another that is kept: `Dropper` names it.
+    -- A position that is not kept is dropped by one that is kept: `Dropper` names it.
     pub dropped-by : (i : ℕ) → i < points w → filterKeeps words w q i ≡ false → Dropper w (points w) q (filterKept words w q .bits) i
     dropped-by i h e =
         ⊎-elim
@@ -87,31 +87,30 @@ unfolding drops
 kept-partner words P Q opens enough j i hj hi e =
     let q = spotOf Q j in
     let p = spotOf P i in
-    let free = unblocked-free P q p i (and-right (unblocked (pointsOf Q) q p j) (unblocked (pointsOf P) q p i) (sym (pair-rule P Q j i hj hi) ∙ e)) in
+    let free = unblocked-free P q p (and-right (unblocked (pointsOf Q) q p) (unblocked (pointsOf P) q p) (sym (pair-rule P Q j i hj hi) ∙ e)) in
     ⊎-elim
     (λ (t : filterKeeps words P q i ≡ true). t)
-    (λ (x : Dropper P (points P) q (filterKept words P q .bits) i). clash (x .dropping) (free (x .by) (x .below) (x .other)))
+    (λ (x : Dropper P (points P) q (filterKept words P q .bits) i). clash (x .dropping) (free (x .by) (x .below)))
     (kept-settled words P q opens enough i hi)
 
--- ---- the ring walk for the pair a, b over w; `end` is the position of the sheet that is an end of the pair
+-- ---- the ring walk for the pair a, b over w
 
-module _ (set : ℕ) (w : List ℤ) (opens : Opens w (points w) (nodes w)) (a b : Spot) (end : ℕ) where
+module _ (set : ℕ) (w : List ℤ) (opens : Opens w (points w) (nodes w)) (a b : Spot) where
   -- "nodes opened never exceed m in one walk of one sheet"
-  pub ring-opened-at-most-m : ringWalk set w a b end .opened ≤ nodes w
-  ring-opened-at-most-m = ring-opened set w opens a b end
+  pub ring-opened-at-most-m : ringWalk set w a b .opened ≤ nodes w
+  ring-opened-at-most-m = ring-opened set w opens a b
 
-  module _ (at-end : (spotOf w end ≡ a) ⊎ (spotOf w end ≡ b)) where
-    -- The walk is clear exactly if no other record of the sheet blocks.
-    pub clear-iff : clear (ringWalk set w a b end .hit) ≡ unblocked (pointsOf w) a b end
-    clear-iff = walk-unblocked set w opens a b end at-end
+  -- The walk is clear exactly if no record of the sheet blocks.
+  pub clear-iff : clear (ringWalk set w a b .hit) ≡ unblocked (pointsOf w) a b
+  clear-iff = walk-unblocked set w opens a b
 
-    -- A point answer names a position of the sheet that is not the end, and blocks.
-    pub point-blocks : (x : Blocker) → ringWalk set w a b end .hit ≡ Point x → (x .set ≡ set) × Blocks w (points w) a b end (x .position)
-    point-blocks x e = subst (Truth set w (points w) (nodes w) a b end) e (ring-truth set w opens a b end at-end)
+  -- A point answer names a position of the sheet that blocks.
+  pub point-blocks : (x : Blocker) → ringWalk set w a b .hit ≡ Point x → (x .set ≡ set) × Blocks w (points w) a b (x .position)
+  point-blocks x e = subst (Truth set w (points w) (nodes w) a b) e (ring-truth set w opens a b)
 
-    -- A side answer names a node of the sheet; below it stands a position that is not the end, and blocks.
-    pub side-blocks : (s v : ℕ) → ringWalk set w a b end .hit ≡ Side s v → (s ≡ set) × (v < nodes w) × BlocksBelow w (points w) a b end v
-    side-blocks s v e = subst (Truth set w (points w) (nodes w) a b end) e (ring-truth set w opens a b end at-end)
+  -- A side answer names a node of the sheet, below which stands a position that blocks.
+  pub side-blocks : (s v : ℕ) → ringWalk set w a b .hit ≡ Side s v → (s ≡ set) × (v < nodes w) × BlocksBelow w (points w) a b v
+  side-blocks s v e = subst (Truth set w (points w) (nodes w) a b) e (ring-truth set w opens a b)
 
 -- ---- the ring walk for q and p: over Q, then over P. Set 0 is P, 1 is Q.
 
@@ -125,24 +124,24 @@ module _ (P Q : List ℤ) (p-opens : Opens P (points P) (nodes P)) (q-opens : Op
   pair-opened = subst (λ (s : Answer). s .opened ≤ nodes P + nodes Q) (sym (pair-is P Q j i)) (go (clear (overQ P Q j i .hit)))
     where
       go : (t : Bool) → cond t (plus (overQ P Q j i .opened) (overP P Q j i)) (overQ P Q j i) .opened ≤ nodes P + nodes Q
-      go true = omega (arith, ring-opened 1 Q q-opens (spotOf Q j) (spotOf P i) j, ring-opened 0 P p-opens (spotOf Q j) (spotOf P i) i)
-      go false = omega (arith, ring-opened 1 Q q-opens (spotOf Q j) (spotOf P i) j)
+      go true = omega (arith, ring-opened 1 Q q-opens (spotOf Q j) (spotOf P i), ring-opened 0 P p-opens (spotOf Q j) (spotOf P i))
+      go false = omega (arith, ring-opened 1 Q q-opens (spotOf Q j) (spotOf P i))
 
-  -- A point answer names a record of Q other than q, or one of P other than p, that blocks;
+  -- A point answer names a record of Q or one of P that blocks;
   pub pair-point : (x : Blocker) → pairWalk P Q j i .hit ≡ Point x → BlocksPair P Q j i (x .set) (x .position)
-  pair-point x = pair-hit P Q j i (λ h. h ≡ Point x → BlocksPair P Q j i (x .set) (x .position)) (λ e. inl (point-blocks 1 Q q-opens (spotOf Q j) (spotOf P i) j (inl refl) x e)) (λ e. inr (point-blocks 0 P p-opens (spotOf Q j) (spotOf P i) i (inr refl) x e))
+  pair-point x = pair-hit P Q j i (λ h. h ≡ Point x → BlocksPair P Q j i (x .set) (x .position)) (λ e. inl (point-blocks 1 Q q-opens (spotOf Q j) (spotOf P i) x e)) (λ e. inr (point-blocks 0 P p-opens (spotOf Q j) (spotOf P i) x e))
 
   -- and a side answer a node of that sheet below which one stands.
   pub pair-side : (s v : ℕ) → pairWalk P Q j i .hit ≡ Side s v → BlocksPairBelow P Q j i s v
-  pair-side s v = pair-hit P Q j i (λ h. h ≡ Side s v → BlocksPairBelow P Q j i s v) (λ e. inl (side-blocks 1 Q q-opens (spotOf Q j) (spotOf P i) j (inl refl) s v e)) (λ e. inr (side-blocks 0 P p-opens (spotOf Q j) (spotOf P i) i (inr refl) s v e))
+  pair-side s v = pair-hit P Q j i (λ h. h ≡ Side s v → BlocksPairBelow P Q j i s v) (λ e. inl (side-blocks 1 Q q-opens (spotOf Q j) (spotOf P i) s v e)) (λ e. inr (side-blocks 0 P p-opens (spotOf Q j) (spotOf P i) s v e))
 
   module _ (j-in : j < points Q) (i-in : i < points P) where
     -- The pair walk is clear exactly for a ring pair.
     pub pair-clear : clear (pairWalk P Q j i .hit) ≡ ringPair (pointsOf P) (pointsOf Q) j i
     pair-clear =
         pair-both P Q j i
-        ∙ ap (λ (t : Bool). t && clear (overP P Q j i .hit)) (clear-iff 1 Q q-opens (spotOf Q j) (spotOf P i) j (inl refl))
-        ∙ ap (λ (t : Bool). unblocked (pointsOf Q) (spotOf Q j) (spotOf P i) j && t) (clear-iff 0 P p-opens (spotOf Q j) (spotOf P i) i (inr refl))
+        ∙ ap (λ (t : Bool). t && clear (overP P Q j i .hit)) (clear-iff 1 Q q-opens (spotOf Q j) (spotOf P i))
+        ∙ ap (λ (t : Bool). unblocked (pointsOf Q) (spotOf Q j) (spotOf P i) && t) (clear-iff 0 P p-opens (spotOf Q j) (spotOf P i))
         ∙ sym (pair-rule P Q j i j-in i-in)
 
     -- A ring partner of q is exactly a kept position whose ring walk is clear: what a page maker may rely on.

@@ -1,16 +1,14 @@
 -- The ring rule on the list of a sheet's points, as the walks meet it; and the pair walk by the walks of its two sheets.
 -- Assumes nothing.
 use mathlib.Core.Path.{_≡_, refl, sym, ap, subst, _∙_}
-use mathlib.Core.Bool.{Bool, true, false, cond, not, _&&_, _||_}
-use mathlib.Core.Logic.{_⊎_}
+use mathlib.Core.Bool.{Bool, true, false, cond, not, _&&_}
 use mathlib.Core.List.{List}
 use Prim.Native.Nat.{ℕ, _<_}
 use native.Mathlib.Omega.{arith}
-use lib.Dec.{eqb}
 use lib.IntN.{ℤ}
 use lib.ListN.{length}
-use borrow.Author.Tests.{eq-eqb, ne-eqb}
-use Rattle.integers.specs.Bools.{clash, test-iff}
+use borrow.Author.Tests.{not-true}
+use Rattle.integers.specs.Bools.{test-iff}
 use Rattle.words.proofs.AllLaws.{all-at, all-make}
 use Rattle.plane.specs.declared.Spot.{Spot}
 use Rattle.plane.specs.Rule.{blocks}
@@ -28,35 +26,22 @@ use Rattle.walk.proofs.RingLaws.{only-clear, clear-free, free-clear, on
 
 -- ---- the ring rule
 
-not-both : (e b : Bool) → (e || not b) ≡ true → e ≡ false → b ≡ false
-not-both e true h f = clash h (ap (λ (x : Bool). x || false) f)
-not-both e false h f = refl
-
-either : (e b : Bool) → (e ≡ false → b ≡ false) → (e || not b) ≡ true
-either true b f = refl
-either false b f = ap not (f refl)
-
-pub unblocked-free : (w : List ℤ) (a b : Spot) (end : ℕ) → unblocked (pointsOf w) a b end ≡ true → Free w (points w) a b end
+pub unblocked-free : (w : List ℤ) (a b : Spot) → unblocked (pointsOf w) a b ≡ true → Free w (points w) a b
 unfolding unblocked
-unblocked-free w a b end e i h ne =
-    ap (blocks a b) (sym (spot-of w i h))
-    ∙ not-both (eqb i end) (blocks a b (spotAt (pointsOf w) i)) (all-at _ (length (pointsOf w)) e i (omega (arith, length-points w))) (ne-eqb i end ne)
+unblocked-free w a b e i h = ap (blocks a b) (sym (spot-of w i h)) ∙ not-true _ (all-at _ (length (pointsOf w)) e i (omega (arith, length-points w)))
 
-pub free-unblocked : (w : List ℤ) (a b : Spot) (end : ℕ) → Free w (points w) a b end → unblocked (pointsOf w) a b end ≡ true
+pub free-unblocked : (w : List ℤ) (a b : Spot) → Free w (points w) a b → unblocked (pointsOf w) a b ≡ true
 unfolding unblocked
-free-unblocked w a b end f =
-    all-make _ (length (pointsOf w))
-    (λ i h.
-    let l : i < points w = omega (arith, length-points w) in
-    either (eqb i end) (blocks a b (spotAt (pointsOf w) i)) (λ e. ap (blocks a b) (spot-of w i l) ∙ f i l (λ z. clash (eq-eqb i end z) e)))
+free-unblocked w a b f =
+    all-make _ (length (pointsOf w)) (λ i h. let l : i < points w = omega (arith, length-points w) in ap (λ (z : Spot). not (blocks a b z)) (spot-of w i l) ∙ ap not (f i l))
 
--- a ring walk of a sheet is clear exactly if no record but the end blocks
-pub walk-unblocked : (set : ℕ) (w : List ℤ) → Opens w (points w) (nodes w) → (a b : Spot) (end : ℕ) → (spotOf w end ≡ a) ⊎ (spotOf w end ≡ b) → clear (ringWalk set w a b end .hit) ≡ unblocked (pointsOf w) a b end
-walk-unblocked set w o a b end at-end =
-    test-iff _ _ (λ e. free-unblocked w a b end (clear-free set w o a b end at-end e)) (λ e. free-clear set w o a b end at-end (unblocked-free w a b end e))
+-- a ring walk of a sheet is clear exactly if no record blocks
+pub walk-unblocked : (set : ℕ) (w : List ℤ) → Opens w (points w) (nodes w) → (a b : Spot) → clear (ringWalk set w a b .hit) ≡ unblocked (pointsOf w) a b
+walk-unblocked set w o a b =
+    test-iff _ _ (λ e. free-unblocked w a b (clear-free set w o a b e)) (λ e. free-clear set w o a b (unblocked-free w a b e))
 
 -- the rule for q at position j of Q and p at position i of P, by where they stand in the sheets
-pub pair-rule : (P Q : List ℤ) (j i : ℕ) → j < points Q → i < points P → ringPair (pointsOf P) (pointsOf Q) j i ≡ (unblocked (pointsOf Q) (spotOf Q j) (spotOf P i) j && unblocked (pointsOf P) (spotOf Q j) (spotOf P i) i)
+pub pair-rule : (P Q : List ℤ) (j i : ℕ) → j < points Q → i < points P → ringPair (pointsOf P) (pointsOf Q) j i ≡ (unblocked (pointsOf Q) (spotOf Q j) (spotOf P i) && unblocked (pointsOf P) (spotOf Q j) (spotOf P i))
 unfolding ringPair
 pair-rule P Q j i hj hi = rw (spot-of Q j hj, spot-of P i hi)
 
@@ -68,9 +53,9 @@ module _ (P Q : List ℤ) (j i : ℕ) where
   unfolding pairWalk
   pair-walks = go (overQ P Q j i) (clear (overQ P Q j i .hit)) refl
     where
-      go : (x : Answer) (t : Bool) → clear (x .hit) ≡ t → ringOn 0 P (spotOf Q j) (spotOf P i) i x ≡ cond t (plus (x .opened) (overP P Q j i)) x
-      go x true e = ap (ringOn 0 P (spotOf Q j) (spotOf P i) i) (only-clear x e) ∙ on-adds 0 P (spotOf Q j) (spotOf P i) i (x .opened)
-      go x false e = on-stops 0 P (spotOf Q j) (spotOf P i) i x e
+      go : (x : Answer) (t : Bool) → clear (x .hit) ≡ t → ringOn 0 P (spotOf Q j) (spotOf P i) x ≡ cond t (plus (x .opened) (overP P Q j i)) x
+      go x true e = ap (ringOn 0 P (spotOf Q j) (spotOf P i)) (only-clear x e) ∙ on-adds 0 P (spotOf Q j) (spotOf P i) (x .opened)
+      go x false e = on-stops 0 P (spotOf Q j) (spotOf P i) x e
 
   -- clear is clear of both
   pub pair-both : clear (pairWalk P Q j i .hit) ≡ (clear (overQ P Q j i .hit) && clear (overP P Q j i .hit))

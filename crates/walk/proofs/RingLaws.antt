@@ -1,20 +1,19 @@
--- What the ring walk of one sheet brings about: what its answer says is so, and where it is clear no position but the end blocks; and what it opens.
+-- What the ring walk of one sheet brings about: what its answer says is so, and where it is clear no position blocks; and what it opens.
 -- `Meaning` has the statements for a reader.
 -- Assumes nothing.
 use mathlib.Core.Path.{_≡_, refl, sym, ap, subst, _∙_}
-use mathlib.Core.Bool.{Bool, true, false, cond, not, _&&_}
-use mathlib.Core.Logic.{_⊎_, ⊎-elim}
+use mathlib.Core.Bool.{Bool, true, false, cond}
 use mathlib.Core.List.{List}
 use Prim.Native.Nat.{ℕ, zero, suc, _+_, _-_, _<_, _≤_}
 use native.Mathlib.Omega.{arith}
 use lib.Dec.{eqb, ltb}
 use lib.IntN.{ℤ, pos}
 use lib.Signed.{_<ℤ_}
-use borrow.Author.Tests.{eqb-false, ne-eqb, ltb-true, not-true}
-use Rattle.integers.specs.Bools.{and-left, and-right, clash}
+use borrow.Author.Tests.{ltb-true}
+use Rattle.integers.specs.Bools.{clash}
 use Rattle.plane.specs.declared.Spot.{Spot}
 use Rattle.plane.specs.Rule.{dot, blocks, far, sideIn}
-use Rattle.plane.proofs.RuleLaws.{far-clear, side-strict, strict-blocks, strict-not-left, strict-not-right}
+use Rattle.plane.proofs.RuleLaws.{far-clear, side-strict, strict-blocks}
 use Rattle.sheet.specs.Layout.{points, nodes}
 use Rattle.sheet.specs.Order.{orderOf, rankOf, orderOk}
 use Rattle.sheet.specs.Nodes.{levelOf, tableOk}
@@ -27,40 +26,29 @@ use Rattle.walk.specs.declared.Hit.{Hit}
 use Rattle.walk.specs.declared.Hit.the-variants.{Clear, Point, Side}
 use Rattle.walk.specs.declared.Answer.{Answer}
 use Rattle.walk.specs.Walk.{walk, walkAll}
-use Rattle.walk.specs.RingWalk.{clear, clearAt, stops, meet, ringTake, enter, ringVisit, ringNode, ringOn, ringWalk}
+use Rattle.walk.specs.RingWalk.{clear, clearAt, meet, ringTake, enter, ringVisit, ringNode, ringOn, ringWalk}
 use Rattle.walk.specs.Claims.{Blocks, BlocksBelow, Free, plus}
 use Rattle.walk.proofs.WalkLaws.{Steps, Does, all-does, walk-opened, all-opened, all-shift}
 
--- a record that stops the walk is another than the end, and blocks; one that does not is the end or does not block
-stops-yes : (w : List ℤ) (n : ℕ) (a b : Spot) (end i : ℕ) → i < n → stops w a b end i ≡ true → Blocks w n a b end i
-unfolding stops
-stops-yes w n a b end i h e =
-    let o = not (eqb i end) in
-    record { below = h; other = eqb-false i end (not-true _ (and-left o (blocks a b (spotOf w i)) e)); blocking = and-right o (blocks a b (spotOf w i)) e }
-
-stops-no : (w : List ℤ) (a b : Spot) (end i : ℕ) → stops w a b end i ≡ false → (i ≡ end → ⊥) → blocks a b (spotOf w i) ≡ false
-unfolding stops
-stops-no w a b end i e ne = subst (λ (t : Bool). (not t && blocks a b (spotOf w i)) ≡ false) (ne-eqb i end ne) e
-
 -- what an answer says is so
-abbrev pub Truth : ℕ → List ℤ → ℕ → ℕ → Spot → Spot → ℕ → Hit → Type 0
-Truth set w n m a b end Clear = Unit {0}
-Truth set w n m a b end (Point x) = (x .set ≡ set) × Blocks w n a b end (x .position)
-Truth set w n m a b end (Side s j) = (s ≡ set) × (j < m) × BlocksBelow w n a b end j
+abbrev pub Truth : ℕ → List ℤ → ℕ → ℕ → Spot → Spot → Hit → Type 0
+Truth set w n m a b Clear = Unit {0}
+Truth set w n m a b (Point x) = (x .set ≡ set) × Blocks w n a b (x .position)
+Truth set w n m a b (Side s j) = (s ≡ set) × (j < m) × BlocksBelow w n a b j
 
-pub record True (set : ℕ) (w : List ℤ) (n m : ℕ) (a b : Spot) (end : ℕ) (s : Answer) : Type 0 where
-  pub so : Truth set w n m a b end (s .hit)
+pub record True (set : ℕ) (w : List ℤ) (n m : ℕ) (a b : Spot) (s : Answer) : Type 0 where
+  pub so : Truth set w n m a b (s .hit)
 
 -- an answer that is clear was clear before
 pub record Since (s t : Answer) : Type 0 where
   pub clear-before : clear (t .hit) ≡ true → clear (s .hit) ≡ true
 
--- where the answer is clear, the position at place r is the end or does not block
-pub record Passed (w : List ℤ) (n : ℕ) (a b : Spot) (end : ℕ) (s : Answer) (r : ℕ) : Type 0 where
-  pub passes : clear (s .hit) ≡ true → (orderOf w n r ≡ end → ⊥) → blocks a b (spotOf w (orderOf w n r)) ≡ false
+-- where the answer is clear, the position at place r does not block
+pub record Passed (w : List ℤ) (n : ℕ) (a b : Spot) (s : Answer) (r : ℕ) : Type 0 where
+  pub passes : clear (s .hit) ≡ true → blocks a b (spotOf w (orderOf w n r)) ≡ false
 
-module _ (set : ℕ) (w : List ℤ) (n m : ℕ) (a b : Spot) (end : ℕ) where
-  ring-steps : Steps (True set w n m a b end) Since (Passed w n a b end)
+module _ (set : ℕ) (w : List ℤ) (n m : ℕ) (a b : Spot) where
+  ring-steps : Steps (True set w n m a b) Since (Passed w n a b)
   ring-steps =
       record {
         same = λ s. record { clear-before = λ e. e };
@@ -69,47 +57,39 @@ module _ (set : ℕ) (w : List ℤ) (n m : ℕ) (a b : Spot) (end : ℕ) where
       }
 
   abbrev Rings : Answer → Answer → (ℕ → Type 0) → Type 0
-  Rings = Does (True set w n m a b end) Since (Passed w n a b end)
+  Rings = Does (True set w n m a b) Since (Passed w n a b)
 
   -- nothing is done after a hit
-  stopped : (s : Answer) (C : ℕ → Type 0) → clear (s .hit) ≡ false → True set w n m a b end s → Rings s s C
+  stopped : (s : Answer) (C : ℕ → Type 0) → clear (s .hit) ≡ false → True set w n m a b s → Rings s s C
   stopped s C e g = record { good = g; more = record { clear-before = λ x. x }; done = λ k c. record { passes = λ x. clash x e } }
 
   -- and a hit deals with everything
-  hit-does : (s : Answer) (h : Hit) (o : ℕ) (C : ℕ → Type 0) → clear h ≡ false → Truth set w n m a b end h → Rings s (record { hit = h; opened = o }) C
+  hit-does : (s : Answer) (h : Hit) (o : ℕ) (C : ℕ → Type 0) → clear h ≡ false → Truth set w n m a b h → Rings s (record { hit = h; opened = o }) C
   hit-does s h o C e t = record { good = record { so = t }; more = record { clear-before = λ x. clash x e }; done = λ k c. record { passes = λ x. clash x e } }
 
-  module _ (ordered : orderOk w n ≡ true) (ok : tableOk w n m ≡ true) (tight : tightOk w n m ≡ true) (at-end : (spotOf w end ≡ a) ⊎ (spotOf w end ≡ b)) where
-    take-does : (r : ℕ) → r < n → (s : Answer) → True set w n m a b end s → Rings s (ringTake set w n a b end r s) (λ i. i ≡ r)
+  module _ (ordered : orderOk w n ≡ true) (ok : tableOk w n m ≡ true) (tight : tightOk w n m ≡ true) where
+    take-does : (r : ℕ) → r < n → (s : Answer) → True set w n m a b s → Rings s (ringTake set w n a b r s) (λ i. i ≡ r)
     unfolding ringTake meet
     take-does r h s g = by (clear (s .hit)) refl
       where
         i : ℕ
         i = orderOf w n r
 
-        test : (t : Bool) → stops w a b end i ≡ t → Rings s (cond t (record { hit = Point (record { set = set; position = i }); opened = s .opened }) s) (λ k. k ≡ r)
-        test true e = hit-does s _ _ _ refl (refl, stops-yes w n a b end i (order-below w n ordered r h) e)
+        test : (t : Bool) → blocks a b (spotOf w i) ≡ t → Rings s (cond t (record { hit = Point (record { set = set; position = i }); opened = s .opened }) s) (λ k. k ≡ r)
+        test true e = hit-does s _ _ _ refl (refl, record { below = order-below w n ordered r h; blocking = e })
         test false e =
             record {
               good = g;
               more = record { clear-before = λ x. x };
-              done = λ k c. subst (Passed w n a b end s) (sym c) (record { passes = λ x. stops-no w a b end i e });
+              done = λ k c. subst (Passed w n a b s) (sym c) (record { passes = λ x. e });
             }
 
-        by : (t : Bool) → clear (s .hit) ≡ t → Rings s (cond t (meet set w a b end i s) s) (λ k. k ≡ r)
-        by true e = test (stops w a b end i) refl
+        by : (t : Bool) → clear (s .hit) ≡ t → Rings s (cond t (meet set w a b i s) s) (λ k. k ≡ r)
+        by true e = test (blocks a b (spotOf w i)) refl
         by false e = stopped s _ e g
 
-    -- a point strictly inside is not the end
-    strict-other : (i : ℕ) → dot a b (spotOf w i) <ℤ pos 0 → i ≡ end → ⊥
-    strict-other i h e =
-        ⊎-elim
-        (λ (x : spotOf w end ≡ a). strict-not-left a b (spotOf w i) h (ap (spotOf w) e ∙ x))
-        (λ (x : spotOf w end ≡ b). strict-not-right a b (spotOf w i) h (ap (spotOf w) e ∙ x))
-        at-end
-
     -- where a side lies strictly inside, a position below the node blocks
-    side-below : (j : ℕ) → j < m → sideIn a b (boxOf w n j) < 4 → BlocksBelow w n a b end j
+    side-below : (j : ℕ) → j < m → sideIn a b (boxOf w n j) < 4 → BlocksBelow w n a b j
     side-below j h q =
         let l = levelOf w n j in
         let k = touching w n m ok tight l j h refl (sideIn a b (boxOf w n j)) in
@@ -118,10 +98,10 @@ module _ (set : ℕ) (w : List ℤ) (n m : ℕ) (a b : Spot) (end : ℕ) where
         record {
           place = k;
           under = u;
-          there = record { below = order-below w n ordered k (below-place w n m ok tight l j h refl k u); other = strict-other (orderOf w n k) d; blocking = strict-blocks a b (spotOf w (orderOf w n k)) d };
+          there = record { below = order-below w n ordered k (below-place w n m ok tight l j h refl k u); blocking = strict-blocks a b (spotOf w (orderOf w n k)) d };
         }
 
-    visit-does : (l j : ℕ) → j < m → levelOf w n j ≡ l → (go : Answer → Answer) → ((s : Answer) → True set w n m a b end s → Rings s (go s) (Below w n l j)) → (s : Answer) → True set w n m a b end s → Rings s (ringVisit set w n a b j go s) (Below w n l j)
+    visit-does : (l j : ℕ) → j < m → levelOf w n j ≡ l → (go : Answer → Answer) → ((s : Answer) → True set w n m a b s → Rings s (go s) (Below w n l j)) → (s : Answer) → True set w n m a b s → Rings s (ringVisit set w n a b j go s) (Below w n l j)
     unfolding ringVisit enter
     visit-does l j h e go does s g = by (clear (s .hit)) refl
       where
@@ -140,7 +120,7 @@ module _ (set : ℕ) (w : List ℤ) (n m : ℕ) (a b : Spot) (end : ℕ) where
             record {
               good = g;
               more = record { clear-before = λ x. x };
-              done = λ k c. record { passes = λ x ne. far-clear a b (boxOf w n j) (spotOf w (orderOf w n k)) f (in-box w n m ok tight l j h e k c) };
+              done = λ k c. record { passes = λ x. far-clear a b (boxOf w n j) (spotOf w (orderOf w n k)) f (in-box w n m ok tight l j h e k c) };
             }
         outer false f = inner (ltb (sideIn a b (boxOf w n j)) 4) refl
 
@@ -148,14 +128,14 @@ module _ (set : ℕ) (w : List ℤ) (n m : ℕ) (a b : Spot) (end : ℕ) where
         by true c = outer (far a b (boxOf w n j)) refl
         by false c = stopped s _ c g
 
-    pub ring-does : (m ≡ 0 → n ≡ 0) → (s : Answer) → True set w n m a b end s → Rings s (walkAll w n m (ringVisit set w n a b) (ringTake set w n a b end) s) (λ r. r < n)
-    ring-does z = all-does (True set w n m a b end) Since (Passed w n a b end) ring-steps w n m ok (ringVisit set w n a b) (ringTake set w n a b end) take-does visit-does z
+    pub ring-does : (m ≡ 0 → n ≡ 0) → (s : Answer) → True set w n m a b s → Rings s (walkAll w n m (ringVisit set w n a b) (ringTake set w n a b) s) (λ r. r < n)
+    ring-does z = all-does (True set w n m a b) Since (Passed w n a b) ring-steps w n m ok (ringVisit set w n a b) (ringTake set w n a b) take-does visit-does z
 
 -- ---- nodes opened
 
-take-opened : (set : ℕ) (w : List ℤ) (n : ℕ) (a b : Spot) (end r : ℕ) (s : Answer) → ringTake set w n a b end r s .opened ≡ s .opened
+take-opened : (set : ℕ) (w : List ℤ) (n : ℕ) (a b : Spot) (r : ℕ) (s : Answer) → ringTake set w n a b r s .opened ≡ s .opened
 unfolding ringTake meet
-take-opened set w n a b end r s = go (clear (s .hit)) (stops w a b end (orderOf w n r))
+take-opened set w n a b r s = go (clear (s .hit)) (blocks a b (spotOf w (orderOf w n r)))
   where
     go : (c t : Bool) → cond c (cond t (record { hit = Point (record { set = set; position = orderOf w n r }); opened = s .opened }) s) s .opened ≡ s .opened
     go true true = refl
@@ -173,24 +153,24 @@ visit-opened set w n a b j c go h s = by (clear (s .hit)) (far a b (boxOf w n j)
     by false y z = omega arith
 
 -- from node j down at most the nodes from there down are opened: what keeps a count in its range
-pub ring-node-opened : (set : ℕ) (w : List ℤ) (n : ℕ) (a b : Spot) (end l j : ℕ) (s : Answer) → ringNode set w n a b end l j s .opened ≤ s .opened + treeSize w n l j
+pub ring-node-opened : (set : ℕ) (w : List ℤ) (n : ℕ) (a b : Spot) (l j : ℕ) (s : Answer) → ringNode set w n a b l j s .opened ≤ s .opened + treeSize w n l j
 unfolding ringNode
-ring-node-opened set w n a b end = walk-opened (λ (s : Answer). s .opened) w n (ringVisit set w n a b) (ringTake set w n a b end) (take-opened set w n a b end) (visit-opened set w n a b)
+ring-node-opened set w n a b = walk-opened (λ (s : Answer). s .opened) w n (ringVisit set w n a b) (ringTake set w n a b) (take-opened set w n a b) (visit-opened set w n a b)
 
 -- ---- nothing is done after a hit, and nodes opened before are added
 
-pub node-stops : (set : ℕ) (w : List ℤ) (n : ℕ) (a b : Spot) (end l j : ℕ) (s : Answer) → clear (s .hit) ≡ false → ringNode set w n a b end l j s ≡ s
+pub node-stops : (set : ℕ) (w : List ℤ) (n : ℕ) (a b : Spot) (l j : ℕ) (s : Answer) → clear (s .hit) ≡ false → ringNode set w n a b l j s ≡ s
 unfolding ringNode walk ringVisit
-node-stops set w n a b end zero j s e = rw e
-node-stops set w n a b end (suc l) j s e = rw e
+node-stops set w n a b zero j s e = rw e
+node-stops set w n a b (suc l) j s e = rw e
 
-pub on-stops : (set : ℕ) (w : List ℤ) (a b : Spot) (end : ℕ) (s : Answer) → clear (s .hit) ≡ false → ringOn set w a b end s ≡ s
+pub on-stops : (set : ℕ) (w : List ℤ) (a b : Spot) (s : Answer) → clear (s .hit) ≡ false → ringOn set w a b s ≡ s
 unfolding ringOn walkAll ringNode
-on-stops set w a b end s e = go (eqb (nodes w) 0)
+on-stops set w a b s e = go (eqb (nodes w) 0)
   where
-    go : (t : Bool) → cond t s (ringNode set w (points w) a b end (levelOf w (points w) (nodes w - 1)) (nodes w - 1) s) ≡ s
+    go : (t : Bool) → cond t s (ringNode set w (points w) a b (levelOf w (points w) (nodes w - 1)) (nodes w - 1) s) ≡ s
     go true = refl
-    go false = node-stops set w (points w) a b end (levelOf w (points w) (nodes w - 1)) (nodes w - 1) s e
+    go false = node-stops set w (points w) a b (levelOf w (points w) (nodes w - 1)) (nodes w - 1) s e
 
 -- an answer that is clear says only how many nodes are opened
 pub only-clear : (s : Answer) → clear (s .hit) ≡ true → s ≡ clearAt (s .opened)
@@ -201,9 +181,9 @@ only-clear s e = ap (λ (h : Hit). record { hit = h; opened = s .opened }) (go (
     go (Point x) e = clash e refl
     go (Side x y) e = clash e refl
 
-take-plus : (c set : ℕ) (w : List ℤ) (n : ℕ) (a b : Spot) (end r : ℕ) (s : Answer) → ringTake set w n a b end r (plus c s) ≡ plus c (ringTake set w n a b end r s)
+take-plus : (c set : ℕ) (w : List ℤ) (n : ℕ) (a b : Spot) (r : ℕ) (s : Answer) → ringTake set w n a b r (plus c s) ≡ plus c (ringTake set w n a b r s)
 unfolding ringTake meet
-take-plus c set w n a b end r s = go (clear (s .hit)) (stops w a b end (orderOf w n r))
+take-plus c set w n a b r s = go (clear (s .hit)) (blocks a b (spotOf w (orderOf w n r)))
   where
     go : (x y : Bool) → cond x (cond y (record { hit = Point (record { set = set; position = orderOf w n r }); opened = c + s .opened }) (plus c s)) (plus c s) ≡ plus c (cond x (cond y (record { hit = Point (record { set = set; position = orderOf w n r }); opened = s .opened }) s) s)
     go true true = refl
@@ -224,52 +204,52 @@ visit-plus c set w n a b j go h s = by (clear (s .hit)) (far a b (boxOf w n j)) 
     by false y z = refl
 
 -- a walk that goes on from c nodes opened is the walk by itself, with c nodes more
-pub on-adds : (set : ℕ) (w : List ℤ) (a b : Spot) (end c : ℕ) → ringOn set w a b end (clearAt c) ≡ plus c (ringWalk set w a b end)
+pub on-adds : (set : ℕ) (w : List ℤ) (a b : Spot) (c : ℕ) → ringOn set w a b (clearAt c) ≡ plus c (ringWalk set w a b)
 unfolding ringOn ringWalk
-on-adds set w a b end c =
+on-adds set w a b c =
     let e : c + 0 ≡ c = omega arith in
-    ap (λ (o : ℕ). ringOn set w a b end (clearAt o)) (sym e)
-    ∙ all-shift (plus c) w (points w) (ringVisit set w (points w) a b) (ringTake set w (points w) a b end) (take-plus c set w (points w) a b end) (visit-plus c set w (points w) a b) (nodes w) (clearAt 0)
+    ap (λ (o : ℕ). ringOn set w a b (clearAt o)) (sym e)
+    ∙ all-shift (plus c) w (points w) (ringVisit set w (points w) a b) (ringTake set w (points w) a b) (take-plus c set w (points w) a b) (visit-plus c set w (points w) a b) (nodes w) (clearAt 0)
 
 -- ---- the sheet
 
-module _ (set : ℕ) (w : List ℤ) (o : Opens w (points w) (nodes w)) (a b : Spot) (end : ℕ) (at-end : (spotOf w end ≡ a) ⊎ (spotOf w end ≡ b)) where
-  whole : Does (True set w (points w) (nodes w) a b end) Since (Passed w (points w) a b end) (clearAt 0) (ringWalk set w a b end) (λ r. r < points w)
+module _ (set : ℕ) (w : List ℤ) (o : Opens w (points w) (nodes w)) (a b : Spot) where
+  whole : Does (True set w (points w) (nodes w) a b) Since (Passed w (points w) a b) (clearAt 0) (ringWalk set w a b) (λ r. r < points w)
   unfolding ringWalk ringOn
   whole =
-      ring-does set w (points w) (nodes w) a b end (o .ordered) (o .table) (o .tight) at-end (o .empty) (clearAt 0) (record { so = tt })
+      ring-does set w (points w) (nodes w) a b (o .ordered) (o .table) (o .tight) (o .empty) (clearAt 0) (record { so = tt })
 
   -- what the answer says is so
-  pub ring-truth : Truth set w (points w) (nodes w) a b end (ringWalk set w a b end .hit)
+  pub ring-truth : Truth set w (points w) (nodes w) a b (ringWalk set w a b .hit)
   ring-truth = whole .good .so
 
-  -- Where the walk is clear, no position but the end blocks.
-  pub clear-free : clear (ringWalk set w a b end .hit) ≡ true → Free w (points w) a b end
-  clear-free c i h ne =
+  -- Where the walk is clear, no position blocks.
+  pub clear-free : clear (ringWalk set w a b .hit) ≡ true → Free w (points w) a b
+  clear-free c i h =
       let r = rankOf w (points w) i in
       let e = order-rank w (points w) (o .ordered) i h in
       let p = whole .done r (rank-below w (points w) (o .ordered) i h) in
-      subst (λ (x : ℕ). blocks a b (spotOf w x) ≡ false) e (p .passes c (λ z. ne (sym e ∙ z)))
+      subst (λ (x : ℕ). blocks a b (spotOf w x) ≡ false) e (p .passes c)
 
   -- And where none blocks, it is clear.
-  pub free-clear : Free w (points w) a b end → clear (ringWalk set w a b end .hit) ≡ true
-  free-clear f = go (ringWalk set w a b end .hit) ring-truth
+  pub free-clear : Free w (points w) a b → clear (ringWalk set w a b .hit) ≡ true
+  free-clear f = go (ringWalk set w a b .hit) ring-truth
     where
-      no : (i : ℕ) → Blocks w (points w) a b end i → false ≡ true
-      no i x = clash (x .blocking) (f i (x .below) (x .other))
+      no : (i : ℕ) → Blocks w (points w) a b i → false ≡ true
+      no i x = clash (x .blocking) (f i (x .below))
 
-      go : (h : Hit) → Truth set w (points w) (nodes w) a b end h → clear h ≡ true
+      go : (h : Hit) → Truth set w (points w) (nodes w) a b h → clear h ≡ true
       go Clear t = refl
       go (Point x) t = no (x .position) (t .1)
       go (Side s j) t = no _ (t .2 .there)
 
 -- At most m nodes are opened.
-pub opened-by : (set : ℕ) (w : List ℤ) (n m : ℕ) (a b : Spot) (end : ℕ) → points w ≡ n → nodes w ≡ m → tableOk w n m ≡ true → ringWalk set w a b end .opened ≤ m
+pub opened-by : (set : ℕ) (w : List ℤ) (n m : ℕ) (a b : Spot) → points w ≡ n → nodes w ≡ m → tableOk w n m ≡ true → ringWalk set w a b .opened ≤ m
 unfolding ringWalk ringOn
-opened-by set w n m a b end e f ok =
+opened-by set w n m a b e f ok =
     let t = subst (λ (x : ℕ). tableOk w x (nodes w) ≡ true) (sym e) (subst (λ (y : ℕ). tableOk w n y ≡ true) (sym f) ok) in
-    let x = all-opened (λ (s : Answer). s .opened) w (points w) (ringVisit set w (points w) a b) (ringTake set w (points w) a b end) (take-opened set w (points w) a b end) (visit-opened set w (points w) a b) (nodes w) t (clearAt 0) in
+    let x = all-opened (λ (s : Answer). s .opened) w (points w) (ringVisit set w (points w) a b) (ringTake set w (points w) a b) (take-opened set w (points w) a b) (visit-opened set w (points w) a b) (nodes w) t (clearAt 0) in
     omega arith
 
-pub ring-opened : (set : ℕ) (w : List ℤ) → Opens w (points w) (nodes w) → (a b : Spot) (end : ℕ) → ringWalk set w a b end .opened ≤ nodes w
-ring-opened set w o a b end = opened-by set w (points w) (nodes w) a b end refl refl (o .table)
+pub ring-opened : (set : ℕ) (w : List ℤ) → Opens w (points w) (nodes w) → (a b : Spot) → ringWalk set w a b .opened ≤ nodes w
+ring-opened set w o a b = opened-by set w (points w) (nodes w) a b refl refl (o .table)

@@ -16,29 +16,27 @@ use Rattle.bits.specs.Set.{kept}
 use Rattle.walk.specs.declared.Answer.{Answer}
 use Rattle.walk.specs.RingWalk.{ringWalk}
 
--- of a sheet of n points, another position than i is kept in b, and drops position i for q
+-- of a sheet of n points, a position is kept in b, and drops position i for q
 pub record Dropper (w : List ℤ) (n : ℕ) (q : Spot) (b : List ℕ) (i : ℕ) : Type 0 where
   pub by : ℕ
   pub below : by < n
-  pub other : by ≡ i → ⊥
   pub is-kept : kept b by ≡ true
   pub dropping : drops q (spotOf w by) (spotOf w i) ≡ true
 
--- position i is one of the n, is not the end, and blocks the pair a, b
-pub record Blocks (w : List ℤ) (n : ℕ) (a b : Spot) (end i : ℕ) : Type 0 where
+-- position i is one of the n, and blocks the pair a, b
+pub record Blocks (w : List ℤ) (n : ℕ) (a b : Spot) (i : ℕ) : Type 0 where
   pub below : i < n
-  pub other : i ≡ end → ⊥
   pub blocking : blocks a b (spotOf w i) ≡ true
 
 -- below node j is a place at which such a position stands
-pub record BlocksBelow (w : List ℤ) (n : ℕ) (a b : Spot) (end j : ℕ) : Type 0 where
+pub record BlocksBelow (w : List ℤ) (n : ℕ) (a b : Spot) (j : ℕ) : Type 0 where
   pub place : ℕ
   pub under : Below w n (levelOf w n j) j place
-  pub there : Blocks w n a b end (orderOf w n place)
+  pub there : Blocks w n a b (orderOf w n place)
 
--- no position but the end blocks
-abbrev pub Free : List ℤ → ℕ → Spot → Spot → ℕ → Type 0
-Free w n a b end = (i : ℕ) → i < n → (i ≡ end → ⊥) → blocks a b (spotOf w i) ≡ false
+-- no position blocks
+abbrev pub Free : List ℤ → ℕ → Spot → Spot → Type 0
+Free w n a b = (i : ℕ) → i < n → blocks a b (spotOf w i) ≡ false
 
 -- an answer, with c more nodes opened
 abbrev pub plus : ℕ → Answer → Answer
@@ -47,17 +45,17 @@ plus c s = record { hit = s .hit; opened = c + s .opened }
 -- the two walks for q at position j of Q and p at position i of P, each of one sheet
 module _ (P Q : List ℤ) (j i : ℕ) where
   abbrev pub overQ : Answer
-  overQ = ringWalk 1 Q (spotOf Q j) (spotOf P i) j
+  overQ = ringWalk 1 Q (spotOf Q j) (spotOf P i)
 
   abbrev pub overP : Answer
-  overP = ringWalk 0 P (spotOf Q j) (spotOf P i) i
+  overP = ringWalk 0 P (spotOf Q j) (spotOf P i)
 
-  -- position k of the set is another record than q and p, and blocks the pair: of Q, where the set is 1, or of P, where it is 0
+  -- position k of the set blocks the pair: of Q, where the set is 1, or of P, where it is 0
   abbrev pub BlocksPair : ℕ → ℕ → Type 0
-  BlocksPair set k = ((set ≡ 1) × Blocks Q (points Q) (spotOf Q j) (spotOf P i) j k) ⊎ ((set ≡ 0) × Blocks P (points P) (spotOf Q j) (spotOf P i) i k)
+  BlocksPair set k = ((set ≡ 1) × Blocks Q (points Q) (spotOf Q j) (spotOf P i) k) ⊎ ((set ≡ 0) × Blocks P (points P) (spotOf Q j) (spotOf P i) k)
 
   -- below node v of the set stands such a record
   abbrev pub BlocksPairBelow : ℕ → ℕ → Type 0
   BlocksPairBelow set v =
-      ((set ≡ 1) × (v < nodes Q) × BlocksBelow Q (points Q) (spotOf Q j) (spotOf P i) j v)
-      ⊎ ((set ≡ 0) × (v < nodes P) × BlocksBelow P (points P) (spotOf Q j) (spotOf P i) i v)
+      ((set ≡ 1) × (v < nodes Q) × BlocksBelow Q (points Q) (spotOf Q j) (spotOf P i) v)
+      ⊎ ((set ≡ 0) × (v < nodes P) × BlocksBelow P (points P) (spotOf Q j) (spotOf P i) v)

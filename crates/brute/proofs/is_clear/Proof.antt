@@ -1,28 +1,29 @@
 -- `brute::is_clear` meets its contract. Assumes nothing.
-use mathlib.Core.Path.{ap, _∙_}
-use mathlib.Core.Bool.{not}
+use mathlib.Core.Path.{sym, _∙_}
 use borrow.Author.Needs.{needs}
-use borrow.Author.Tests.{eq-eqb, ne-eqb}
-use Rattle.brute.specs.Brute.{clear, covers}
+use borrow.Author.Tests.{not-true, not-false}
+use Rattle.brute.specs.Brute.{clear}
 use Rattle.brute.proofs.is_clear.Statement.{statement}
 use Rattle.brute.proofs.is_clear.Tie as tie
-
-returns : tie.Need-returns
-unfolding clear
-returns c = rw (eq-eqb (c .before .args .k) (c .before .args .end) (c .if1 .taken))
-
-place-at-requires : tie.Need-place-at-requires
-place-at-requires c κs = search needs
 
 is-covered-requires : tie.Need-is-covered-requires
 is-covered-requires c κs = search needs
 
+returns : tie.Need-returns
+unfolding clear
+returns c = rw (sym (c .before .is-covered .ensures) ∙ not-true _ (c .if1 .taken))
+
+is-together-requires : tie.Need-is-together-requires
+is-together-requires c κs = search needs
+
+is-together-requires-2 : tie.Need-is-together-requires-2
+is-together-requires-2 c κs = search needs
+
 returns-2 : tie.Need-returns-2
 unfolding clear
-returns-2 c =
-    let e = c .before .before in
-    let s = e .before in
-    rw (ne-eqb (s .args .k) (s .args .end) (e .if1 .left)) (ap not (c .is-covered .ensures ∙ ap (covers (s .args .a) (s .args .b)) (c .before .place-at .ensures .0)))
+returns-2 c = rw (sym (c .before .before .before .is-covered .ensures) ∙ not-false _ (c .before .before .if1 .left), c .before .is-together .ensures, c .is-together2 .ensures)
 
 pub is-clear-spec : {M : Type 1} → statement M
-is-clear-spec = tie.close (tie.spec returns place-at-requires is-covered-requires returns-2)
+is-clear-spec =
+    tie.close
+    (tie.spec is-covered-requires returns is-together-requires is-together-requires-2 returns-2)
