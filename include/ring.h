@@ -99,12 +99,17 @@ enum { RING_CLEAR = 0, RING_BY_POINT = 1, RING_BY_SIDE = 2 };
 /* The sets: `set` of RingWalked. */
 enum { RING_SET_P = 0, RING_SET_Q = 1 };
 
-/* The answer of ring_pair_walk. RING_CLEAR: no other record blocks the pair; set and at are 0. RING_BY_POINT: the record at position `at` of the set
- * blocks it. RING_BY_SIDE: a side of the box of node `at` of the set does. `opened` is how many nodes were opened, in both sheets. */
+/* The sides of a box: `side` of RingWalked. It means something only where `kind` is RING_BY_SIDE, and is 0 else. */
+enum { RING_LEFT = 0, RING_BOTTOM = 1, RING_RIGHT = 2, RING_TOP = 3 };
+
+/* The answer of ring_pair_walk. RING_CLEAR: no other record blocks the pair; set, side and at are 0. RING_BY_POINT: the record at position `at` of the set
+ * blocks it; side is 0. RING_BY_SIDE: `side` of the box of node `at` of the set does, the first of left, bottom, right, top both of whose corners lie strictly
+ * inside the circle. `opened` is how many nodes were opened, in both sheets. */
 typedef struct RingWalked {
     uint32_t number;
     uint32_t kind;
     uint32_t set;
+    uint32_t side;
     size_t at;
     uint64_t opened;
 } RingWalked;

@@ -21,9 +21,9 @@ def examples():
     assert not reading.drops_point((0, 0), (3, 0), (3, 0)) and not reading.drops_point((3, 0), (3, 0), (3, 5))
     assert not reading.drops_box((0, 0), (3, 0), (3, -1, 9, 4)) and reading.drops_box((0, 0), (3, 0), (4, -1, 9, 4))
     assert not reading.drops_box((3, 0), (3, 0), (4, -1, 9, 4)) and reading.drops_box((0, 0), (3, 0), (3, 1, 9, 4))
-    assert reading.side_inside(a, b, (1, 0, 9, 1)) and not reading.far(a, b, (1, 0, 9, 1))
-    assert not reading.side_inside(a, b, (0, 0, 0, 0)) and not reading.far(a, b, (0, 0, 0, 0))
-    assert not reading.side_inside(a, b, (2, 2, 5, 5)) and not reading.far(a, b, (2, 2, 5, 5))
+    assert reading.side_inside(a, b, (1, 0, 9, 1)) == 0 and not reading.far(a, b, (1, 0, 9, 1))
+    assert reading.side_inside(a, b, (0, 0, 0, 0)) is None and not reading.far(a, b, (0, 0, 0, 0))
+    assert reading.side_inside(a, b, (2, 2, 5, 5)) is None and not reading.far(a, b, (2, 2, 5, 5))
     assert reading.far(a, b, (4, 1, 6, 6))
     assert reading.open_number(P) == 0 and reading.open_number(Q) == 0
     assert reading.ring_list(reading.Sheet(P).points, reading.Sheet(Q).points) == [(5, 1, 16), (5, 2, 36), (6, 2, 37)]

@@ -46,6 +46,8 @@ class Walks:
         for line in self.cases.add(label, words, asked):
             kind, said = line.split()[0], line.split(": ")[1].split()
             self.seen[" ".join([kind] + said[:1 if said[0] in ("0", "9", "clear") else 2])] += 1
+            if said[0] == "side":
+                self.seen["named %s" % said[3]] += 1
         self.pairs += 1
 
 
@@ -168,6 +170,8 @@ def cases():
     assert out.pairs >= 300
     for answer in ("clear", "point 0", "point 1", "side 0", "side 1"):
         assert out.seen["ring " + answer] >= 50, (answer, out.seen)
+    for side in range(4):
+        assert out.seen["named %d" % side] >= 50, (side, out.seen)
     assert out.seen["ring refused 9"] >= 10 and out.seen["filter 9"] >= 10
     return out.cases
 

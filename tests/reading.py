@@ -350,12 +350,17 @@ def far(a, b, box):
     return dx * dx + dy * dy > (a[0] - b[0]) ** 2 + (a[1] - b[1]) ** 2
 
 
-# "If both corners of some side lie strictly inside ((a-c)·(b-c) < 0), the pair is blocked, by that node's side."
+# "If both corners of some side lie strictly inside ((a-c)·(b-c) < 0), the pair is blocked, by that node's side." "The answer shall also name the side, the
+# first that qualifies of left, bottom, right, top."
 def side_inside(a, b, box):
+    """The number of that side: 0 left, 1 bottom, 2 right, 3 top. None where no side qualifies."""
     xmin, ymin, xmax, ymax = box
     left, right = [(xmin, ymin), (xmin, ymax)], [(xmax, ymin), (xmax, ymax)]
     bottom, top = [(xmin, ymin), (xmax, ymin)], [(xmin, ymax), (xmax, ymax)]
-    return any(all(product(a, b, corner) < 0 for corner in side) for side in (left, bottom, right, top))
+    for number, side in enumerate((left, bottom, right, top)):
+        if all(product(a, b, corner) < 0 for corner in side):
+            return number
+    return None
 
 
 CLEAR = ("clear",)
@@ -363,7 +368,7 @@ CLEAR = ("clear",)
 
 # "at each box, the root's included, in this order. (1) .. skip. (2) .. blocked, by that node's side. (3) Otherwise open the node. In a leaf, the first
 # record that is not an end of the pair and blocks it stops the walk. The answer is clear, or blocked by a point (its set and position) or by a box side
-# (its set and node number), together with the nodes opened."
+# (its set and node number), together with the nodes opened." A box side is named too, after its node. "A point answer stays as it is."
 def ring_walk(sheet, which, a, b, end):
     """The walk for the pair a, b over one sheet, which is set `which`; `end` is the position in it that is an end of the pair."""
     opened = 0
@@ -374,8 +379,9 @@ def ring_walk(sheet, which, a, b, end):
         box = sheet.nodes[j][3:]
         if far(a, b, box):
             return CLEAR
-        if side_inside(a, b, box):
-            return ("side", which, j)
+        side = side_inside(a, b, box)
+        if side is not None:
+            return ("side", which, j, side)
         opened += 1
         for k in range(first, first + count):
             if level > 0:

@@ -97,24 +97,32 @@ SKIPS = [
 
 WALKS = [
     # "Letting a side that touches the circle block"
-    ("any(all(product(a, b, corner) < 0 for corner", "any(all(product(a, b, corner) <= 0 for corner"),
+    ("        if all(product(a, b, corner) < 0 for corner", "        if all(product(a, b, corner) <= 0 for corner"),
     # "Halving the centre in whole numbers"
     ("    x, y = a[0] + b[0], a[1] + b[1]\n", "    x, y = (a[0] + b[0]) // 2 * 2, (a[1] + b[1]) // 2 * 2\n"),
     # "Skipping a box when its centre, or three corners, lie behind the line"
     (CORNERS_BEHIND, "return behind(q, p, ((box[0] + box[2]) / 2, (box[1] + box[3]) / 2)) and"),
     (CORNERS_BEHIND, "return sum(behind(q, p, corner) for corner in corners(box)) >= 3 and"),
     ("dx * dx + dy * dy > (a[0]", "dx * dx + dy * dy >= (a[0]"),
-    ("for side in (left, bottom, right, top))", "for side in (left, bottom, right))"),
+    ("enumerate((left, bottom, right, top))", "enumerate((left, bottom, right))"),
+    # "the first that qualifies of left, bottom, right, top": the last; another order; other numbers
+    ("enumerate((left, bottom, right, top))", "reversed(list(enumerate((left, bottom, right, top))))"),
+    ("enumerate((left, bottom, right, top))", "((0, left), (2, right), (1, bottom), (3, top))"),
+    ("enumerate((left, bottom, right, top))", "((1, bottom), (0, left), (2, right), (3, top))"),
+    ("enumerate((left, bottom, right, top))", "((0, left), (1, bottom), (3, top), (2, right))"),
+    ("enumerate((left, bottom, right, top))", "enumerate((left, right, bottom, top))"),
+    # "A point answer stays as it is"
+    ("return (\"point\", which, position)", "return (\"point\", which, position, 0)"),
     ("    return product(a, b, x) <= 0", "    return product(a, b, x) < 0"),
     ("(x[1] - p[1]) <= 0", "(x[1] - p[1]) < 0"),
     # the ring rule of before request 3; the place of one end alone doesn't count
     (NO_END_BLOCKS, ""),
     (NO_END_BLOCKS, " and x != a"),
     (NO_END_BLOCKS, " and x != b"),
-    ("        if side_inside(a, b, box):", "        if j < sheet.m - 1 and side_inside(a, b, box):"),
-    ("        if side_inside(a, b, box):", "        if level == 0 and side_inside(a, b, box):"),
-    ("        if far(a, b, box):\n            return CLEAR\n        if side_inside(a, b, box):\n            return (\"side\", which, j)\n        opened += 1\n",
-     "        opened += 1\n        if far(a, b, box):\n            return CLEAR\n        if side_inside(a, b, box):\n            return (\"side\", which, j)\n"),
+    ("        if side is not None:", "        if j < sheet.m - 1 and side is not None:"),
+    ("        if side is not None:", "        if level == 0 and side is not None:"),
+    ("        if far(a, b, box):\n            return CLEAR\n        side = side_inside(a, b, box)\n        if side is not None:\n            return (\"side\", which, j, side)\n        opened += 1\n",
+     "        opened += 1\n        if far(a, b, box):\n            return CLEAR\n        side = side_inside(a, b, box)\n        if side is not None:\n            return (\"side\", which, j, side)\n"),
     (FIRST_OF_TWO, OTHER_FIRST),
     ("    return answer, opened + more", "    return answer, more"),
     ("words[i // 64] |= 1 << (i % 64)", "words[i // 64] |= 1 << (63 - i % 64)"),

@@ -15,7 +15,7 @@
 #define GUARD 0x5ead5eed
 
 static uint64_t seed = 88172645463325252ull;
-static unsigned long calls, wrong, first_wrong, seen[20];
+static unsigned long calls, wrong, first_wrong, seen[20], named[4];
 
 #define HOLD(test) ((test) ? (void)0 : (void)(wrong++ ? 0 : (first_wrong = __LINE__)))
 
@@ -158,8 +158,17 @@ static uint32_t pack_no(size_t n, const int32_t *points, size_t points_len, cons
     return out_len == length_for(n) ? 0 : 17;
 }
 
-static bool behind(const int32_t *a, const int32_t *b, const int32_t *x) {
-    return ((int64_t)a[1] - x[1]) * ((int64_t)b[1] - x[1]) + ((int64_t)a[2] - x[2]) * ((int64_t)b[2] - x[2]) <= 0;
+static int64_t product(const int32_t *a, const int32_t *b, const int32_t *x) {
+    return ((int64_t)a[1] - x[1]) * ((int64_t)b[1] - x[1]) + ((int64_t)a[2] - x[2]) * ((int64_t)b[2] - x[2]);
+}
+
+static bool behind(const int32_t *a, const int32_t *b, const int32_t *x) { return product(a, b, x) <= 0; }
+
+/* whether both corners of a side of the box (xmin, ymin, xmax, ymax) lie strictly inside */
+static bool side_in(const int32_t *a, const int32_t *b, const int32_t *box, uint32_t side) {
+    int32_t lower[3] = {0, box[side == RING_RIGHT ? 2 : 0], box[side == RING_TOP ? 3 : 1]};
+    int32_t upper[3] = {0, box[side == RING_LEFT ? 0 : 2], box[side == RING_BOTTOM ? 1 : 3]};
+    return product(a, b, lower) < 0 && product(a, b, upper) < 0;
 }
 
 static bool one_spot(const int32_t *a, const int32_t *b) { return a[1] == b[1] && a[2] == b[2]; }
@@ -325,7 +334,7 @@ static void try_pair(void) {
     RingWalked r = ring_pair_walk(at(&P), P.len, at(&Q), Q.len, j, i);
     saw(r.number), hold_saved();
     HOLD(r.number == (number ? number : j < count_of(&Q) && i < count_of(&P) ? 0 : 9));
-    if (r.number || r.kind == RING_CLEAR) HOLD(r.kind == 0 && r.set == 0 && r.at == 0);
+    if (r.number || r.kind == RING_CLEAR) HOLD(r.kind == 0 && r.set == 0 && r.side == 0 && r.at == 0);
     if (r.number) {
         HOLD(r.opened == 0);
         return;
@@ -333,8 +342,13 @@ static void try_pair(void) {
     const Sheet *s = r.set ? &Q : &P;
     HOLD(r.kind <= 2 && r.set <= 1 && r.opened <= nodes_of(&P) + nodes_of(&Q));
     HOLD((r.kind == RING_CLEAR) == is_pair(j, i));
-    if (r.kind == RING_BY_POINT) HOLD(r.at < count_of(s) && r.at != (r.set ? j : i) && blocks(Q.words + 3 * j, P.words + 3 * i, s->words + 3 * r.at));
-    if (r.kind == RING_BY_SIDE) HOLD(r.at < nodes_of(s));
+    if (r.kind == RING_BY_POINT) HOLD(r.side == 0 && r.at < count_of(s) && r.at != (r.set ? j : i) && blocks(Q.words + 3 * j, P.words + 3 * i, s->words + 3 * r.at));
+    if (r.kind == RING_BY_SIDE) {
+        HOLD(r.at < nodes_of(s) && r.side <= RING_TOP);
+        named[r.side % 4]++;
+        const int32_t *box = s->words + 5 * count_of(s) + 7 * r.at + 3;
+        for (uint32_t side = 0; side <= r.side; side++) HOLD(side_in(Q.words + 3 * j, P.words + 3 * i, box, side) == (side == r.side));
+    }
 }
 
 /* the page that the list gives, by trying every pair */
@@ -562,10 +576,11 @@ int main(void) {
     guard(&P), guard(&Q);
     for (size_t k = 0; k < exports; k++)
         for (int i = 0; i < TIMES; i++) tries[k]();
-    unsigned long unseen = 0;
+    unsigned long unseen = 0, unnamed = 0;
     for (int k = 0; k < 20; k++) unseen += seen[k] == 0;
-    printf("c calls: %zu exports, %lu calls with %lu served, %lu of the numbers 0 to 19 never seen, %lu answers wrong", exports, calls, seen[0], unseen, wrong);
+    for (int k = 0; k < 4; k++) unnamed += named[k] == 0;
+    printf("c calls: %zu exports, %lu calls with %lu served, %lu of the numbers 0 to 19 never seen, %lu sides never named, %lu answers wrong", exports, calls, seen[0], unseen, unnamed, wrong);
     if (wrong) printf(" (the first at line %lu)", first_wrong);
     printf("\n");
-    return wrong || unseen;
+    return wrong || unseen || unnamed;
 }

@@ -3,7 +3,7 @@
 -- q is position j of Q, p is position i of P. The ring rule and the list stand in list/specs/RingList, on lists of points, with no tree in them.
 --
 --     kept-partner       the filter walk keeps every ring partner.  kept-count, kept-unused: its count is that of the positions kept, and unused bits are 0
---     clear-iff          the ring walk is clear exactly for a ring pair; point-blocks, side-blocks: what it names does block
+--     clear-iff          the ring walk is clear exactly for a ring pair; point-blocks, side-blocks: what it names does block, and a side that it names is the first that qualifies
 --     pair-exact         a ring pair is a kept position whose ring walk is clear, and no other
 --     page-pairs         a page is that of the list: pairs, number, end mark.  page-opened: the count beside it is that of the defined walks
 --     pair-size          each pair that a page shows has the squared diameter of the places of its two records
@@ -46,11 +46,12 @@ use Rattle.list.specs.RingList.{ringPair, sizeOf, pairAt, ringList}
 use Rattle.list.proofs.PageLaws.{page-shows, shown-member}
 use Rattle.list.proofs.RowLaws.{Placed, ring-iff, ring-only, ring-size, ring-once}
 use Rattle.walk.specs.declared.Blocker.{Blocker}
+use Rattle.walk.specs.declared.Edge.{Edge}
 use Rattle.walk.specs.declared.Hit.the-variants.{Point as PointHit, Side}
 use Rattle.walk.specs.declared.Answer.{Answer}
 use Rattle.walk.specs.FilterWalk.{filterKept}
 use Rattle.walk.specs.RingWalk.{pairWalk}
-use Rattle.walk.specs.Claims.{BlocksPair, BlocksPairBelow, overP, overQ}
+use Rattle.walk.specs.Claims.{BlocksPair, BlocksPairBySide, overP, overQ}
 use Rattle.walk.proofs.Meaning as of-walk
 use Rattle.join.specs.Work.{pageOpened}
 use Rattle.join.specs.Sheets.{walksOf}
@@ -159,9 +160,10 @@ module _ (P Q : List ℤ) (p-opens : WellFormed P) (q-opens : WellFormed Q) wher
       pub point-blocks : (s : Answer) (x : Blocker) → RingAnswers P Q j i (Done s) → s .hit ≡ PointHit x → BlocksPair P Q j i (x .set) (x .position)
       point-blocks s x a e = of-walk.pair-point P Q (facts P p-opens) (facts Q q-opens) j i x (ap (λ (z : Answer). z .hit) (sym (answer s a)) ∙ e)
 
-      -- "or by a box side (its set and node number)": below the node that it names stands such a record.
-      pub side-blocks : (s : Answer) (set v : ℕ) → RingAnswers P Q j i (Done s) → s .hit ≡ Side set v → BlocksPairBelow P Q j i set v
-      side-blocks s set v a e = of-walk.pair-side P Q (facts P p-opens) (facts Q q-opens) j i set v (ap (λ (z : Answer). z .hit) (sym (answer s a)) ∙ e)
+      -- "or by a box side (its set and node number)"; "Where a box side blocks, the answer shall also name the side, the first that qualifies of left, bottom, right,
+      -- top": of the node's box that it names, both corners of the side that it names lie strictly inside, those of no side before it do, and on it stands such a record.
+      pub side-blocks : (s : Answer) (x : Edge) → RingAnswers P Q j i (Done s) → s .hit ≡ Side x → BlocksPairBySide P Q j i (x .set) (x .node) (x .side)
+      side-blocks s x a e = of-walk.pair-side P Q (facts P p-opens) (facts Q q-opens) j i x (ap (λ (z : Answer). z .hit) (sym (answer s a)) ∙ e)
 
       -- A ring pair is a kept position whose ring walk is clear, and no other is.
       pub pair-exact : (f : Filtered) (r : Walked) → FilterAnswers P Q j f → RingAnswers P Q j i r → ringPair (pointsOf P) (pointsOf Q) j i ≡ (kept (f .bits) i && walkedClear r)

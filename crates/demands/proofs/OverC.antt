@@ -155,7 +155,7 @@ point-number (pointing.Refused k) = refl
 hit-number : (h : Hit) (c : ℕ) → hitOver h c .number ≡ 0
 hit-number Clear c = refl
 hit-number (Point b) c = refl
-hit-number (Side s v) c = refl
+hit-number (Side x) c = refl
 
 walk-number : (r : Walked) → walkOver r .number ≡ walkedNo r
 walk-number (walking.Done a) = hit-number (a .hit) (a .opened)

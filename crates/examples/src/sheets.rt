@@ -27,7 +27,10 @@ fn say_point() {
 }
 
 fn say_side() {
-    io::write_all(STDOUT_FILENO, b"ring walk: blocked by a side, set and node");
+    io::write_all(
+        STDOUT_FILENO,
+        b"ring walk: blocked by a side, set, node and side",
+    );
 }
 
 fn say_opened() {
@@ -115,10 +118,11 @@ fn say_hit(h: Hit) {
             say_count(b.position as u64);
             say_opened();
         }
-        Hit::Side { set, node } => {
+        Hit::Side(e) => {
             say_side();
-            say_count(set as u64);
-            say_count(node as u64);
+            say_count(e.set as u64);
+            say_count(e.node as u64);
+            say_count(e.side as u64);
             say_opened();
         }
     }

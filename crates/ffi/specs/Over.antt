@@ -33,16 +33,17 @@ abbrev pub pointOver : Pointed → PointAnswer
 pointOver (pointed.At a) = record { number = 0; id = a .id; x = a .x; y = a .y }
 pointOver (pointed.Refused k) = record { number = k; id = 0; x = pos 0; y = pos 0 }
 
--- "clear, or blocked by a point (its set and position) or by a box side (its set and node number), together with the nodes opened": the kinds are 0, 1, 2
+-- "clear, or blocked by a point (its set and position) or by a box side (its set and node number), together with the nodes opened": the kinds are 0, 1, 2.
+-- "Where a box side blocks, the answer shall also name the side": 0 left, 1 bottom, 2 right, 3 top, and 0 where none blocks.
 abbrev pub hitOver : Hit → ℕ → WalkAnswer
-hitOver Clear c = record { number = 0; kind = 0; set = 0; at = 0; opened = c }
-hitOver (Point b) c = record { number = 0; kind = 1; set = b .set; at = b .position; opened = c }
-hitOver (Side s v) c = record { number = 0; kind = 2; set = s; at = v; opened = c }
+hitOver Clear c = record { number = 0; kind = 0; set = 0; side = 0; at = 0; opened = c }
+hitOver (Point b) c = record { number = 0; kind = 1; set = b .set; side = 0; at = b .position; opened = c }
+hitOver (Side e) c = record { number = 0; kind = 2; set = e .set; side = e .side; at = e .node; opened = c }
 
 -- the ring walk: 0 and what it found, or the number and zeros
 abbrev pub walkOver : Walked → WalkAnswer
 walkOver (walked.Done a) = hitOver (a .hit) (a .opened)
-walkOver (walked.Refused k) = record { number = k; kind = 0; set = 0; at = 0; opened = 0 }
+walkOver (walked.Refused k) = record { number = k; kind = 0; set = 0; side = 0; at = 0; opened = 0 }
 
 -- begin: 0 and the book, or the number and a book of zeros
 abbrev pub bookOver : Begun → BookAnswer

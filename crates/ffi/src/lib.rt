@@ -29,13 +29,14 @@ pub struct PointAnswer {
     pub y: i32,
 }
 
-// The ring walk's answer. The kind is 0 clear, 1 blocked by a point, 2 blocked by a box side; the set is 0 for P, 1 for Q; `at` is the point's
-// position or the node's number.
+// The ring walk's answer. The kind is 0 clear, 1 blocked by a point, 2 blocked by a box side; the set is 0 for P, 1 for Q; the side is 0 left, 1 bottom,
+// 2 right, 3 top, and 0 where no side blocks; `at` is the point's position or the node's number.
 #[repr(C)]
 pub struct WalkAnswer {
     pub number: u32,
     pub kind: u32,
     pub set: u32,
+    pub side: u32,
     pub at: usize,
     pub opened: u64,
 }
@@ -90,6 +91,7 @@ fn of_hit(h: walk::Hit, opened: u64) -> WalkAnswer
             number: 0,
             kind: 0,
             set: 0,
+            side: 0,
             at: 0,
             opened: opened,
         },
@@ -97,14 +99,16 @@ fn of_hit(h: walk::Hit, opened: u64) -> WalkAnswer
             number: 0,
             kind: 1,
             set: b.set,
+            side: 0,
             at: b.position,
             opened: opened,
         },
-        walk::Hit::Side { set: s, node: v } => WalkAnswer {
+        walk::Hit::Side(e) => WalkAnswer {
             number: 0,
             kind: 2,
-            set: s,
-            at: v,
+            set: e.set,
+            side: e.side,
+            at: e.node,
             opened: opened,
         },
     }
@@ -122,6 +126,7 @@ fn of_walked(v: ring::Walked) -> WalkAnswer
             number: k,
             kind: 0,
             set: 0,
+            side: 0,
             at: 0,
             opened: 0,
         },

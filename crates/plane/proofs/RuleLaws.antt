@@ -1,5 +1,5 @@
--- What the rules of boxes say of the places in a box: `box-drops`, `far-clear`, `side-inside`, `strict-blocks`; and that an end of the pair never blocks it:
--- `left-clear`, `right-clear`.
+-- What the rules of boxes say of the places in a box: `box-drops`, `far-clear`, `side-first`, `side-inside`, `strict-blocks`; and that an end of the pair never
+-- blocks it: `left-clear`, `right-clear`.
 -- Assumes nothing.
 use mathlib.Core.Path.{_≡_, refl, sym, ap, subst, _∙_}
 use mathlib.Core.Bool.{Bool, true, false, not, cond, _&&_}
@@ -19,7 +19,7 @@ use borrow.Author.Tests.{eqb-true, eq-eqb, not-true, not-false}
 use Rattle.integers.specs.Bools.{and-left, and-right, and-both, decide, clash, test-iff}
 use Rattle.plane.specs.declared.Spot.{Spot}
 use Rattle.plane.specs.declared.Boxed.{Boxed}
-use Rattle.plane.specs.Rule.{SpotIn, BoxIn, spot, dot, same, sameSpot, inBox, blocks, drops, behind, dropsBox, size, gap, far, inside, sideIn}
+use Rattle.plane.specs.Rule.{SpotIn, BoxIn, spot, dot, same, sameSpot, inBox, blocks, drops, behind, dropsBox, size, gap, far, inside, OnSide, cornersIn, sideIn, FirstSide}
 use Rattle.plane.proofs.Plane.{In, corners-all, far-none, side-x, side-y}
 
 -- ---- tests and orders
@@ -113,60 +113,69 @@ pub record OnSides (o : Boxed) (t : ℕ → Spot) : Type 0 where
   pub right : t 2 .x ≡ o .xmax
   pub top : t 3 .y ≡ o .ymax
 
-first-of : (P : ℕ → Type 0) (s₀ s₁ s₂ s₃ : Bool) → (s₀ ≡ true → P 0) → (s₁ ≡ true → P 1) → (s₂ ≡ true → P 2) → (s₃ ≡ true → P 3) → cond s₀ 0 (cond s₁ 1 (cond s₂ 2 (cond s₃ 3 4))) < 4 → P (cond s₀ 0 (cond s₁ 1 (cond s₂ 2 (cond s₃ 3 4))))
-first-of P true s₁ s₂ s₃ a b c d h = a refl
-first-of P false true s₂ s₃ a b c d h = b refl
-first-of P false false true s₃ a b c d h = c refl
-first-of P false false false true a b c d h = d refl
-first-of P false false false false a b c d h = absurd (omega arith)
+-- the first of four tests that holds, and 4 where none does
+abbrev pub first : Bool → Bool → Bool → Bool → ℕ
+first s₀ s₁ s₂ s₃ = cond s₀ 0 (cond s₁ 1 (cond s₂ 2 (cond s₃ 3 4)))
 
--- z is on side s of the box: 0 left, 1 bottom, 2 right, 3 top
-unfoldable pub OnSide : ℕ → Boxed → Spot → Type 0
-OnSide zero o z = z .x ≡ o .xmin
-OnSide (suc zero) o z = z .y ≡ o .ymin
-OnSide (suc (suc zero)) o z = z .x ≡ o .xmax
-OnSide (suc (suc (suc s))) o z = z .y ≡ o .ymax
+-- the side that rule (2) names is the first that qualifies
+pub side-first : (a b : Spot) (o : Boxed) → sideIn a b o < 4 → FirstSide a b o (sideIn a b o)
+unfolding sideIn
+side-first a b o = go (test 0) (test 1) (test 2) (test 3) refl refl refl refl
+  where
+    test : ℕ → Bool
+    test s = cornersIn a b o s
+
+    -- no test before s holds, where none of the first three before s does
+    before : (s : ℕ) → s < 4 → (0 < s → test 0 ≡ false) → (1 < s → test 1 ≡ false) → (2 < s → test 2 ≡ false) → (t : ℕ) → t < s → test t ≡ false
+    before s h e₀ e₁ e₂ zero l = e₀ l
+    before s h e₀ e₁ e₂ (suc zero) l = e₁ l
+    before s h e₀ e₁ e₂ (suc (suc zero)) l = e₂ l
+    before s h e₀ e₁ e₂ (suc (suc (suc t))) l = absurd (omega arith)
+
+    go : (s₀ s₁ s₂ s₃ : Bool) → test 0 ≡ s₀ → test 1 ≡ s₁ → test 2 ≡ s₂ → test 3 ≡ s₃ → first s₀ s₁ s₂ s₃ < 4 → FirstSide a b o (first s₀ s₁ s₂ s₃)
+    go true s₁ s₂ s₃ e₀ e₁ e₂ e₃ h = record { one-of-four = h; qualifies = e₀; none-before = λ t l. absurd (omega arith) }
+    go false true s₂ s₃ e₀ e₁ e₂ e₃ h = record { one-of-four = h; qualifies = e₁; none-before = before 1 h (λ l. e₀) (λ l. absurd (omega arith)) (λ l. absurd (omega arith)) }
+    go false false true s₃ e₀ e₁ e₂ e₃ h = record { one-of-four = h; qualifies = e₂; none-before = before 2 h (λ l. e₀) (λ l. e₁) (λ l. absurd (omega arith)) }
+    go false false false true e₀ e₁ e₂ e₃ h = record { one-of-four = h; qualifies = e₃; none-before = before 3 h (λ l. e₀) (λ l. e₁) (λ l. e₂) }
+    go false false false false e₀ e₁ e₂ e₃ h = absurd (omega arith)
+
+-- two corners that pass the test lie strictly inside
+both-in : (a b c d : Spot) → (inside a b c && inside a b d) ≡ true → (dot a b c <ℤ pos 0) × (dot a b d <ℤ pos 0)
+unfolding inside
+both-in a b c d e = (lt-of _ _ (and-left (inside a b c) (inside a b d) e), lt-of _ _ (and-right (inside a b c) (inside a b d) e))
 
 -- every point of a side whose two corners lie strictly inside lies strictly inside
+corners-strict : (a b : Spot) (o : Boxed) (s : ℕ) → cornersIn a b o s ≡ true → (z : Spot) → In o z → OnSide s o z → dot a b z <ℤ pos 0
+unfolding OnSide
+corners-strict a b o zero e z i on =
+    let h = both-in a b (spot (o .xmin) (o .ymin)) (spot (o .xmin) (o .ymax)) e in
+    subst (λ (x : ℤ). dot a b (spot x (z .y)) <ℤ pos 0) (sym on) (side-y a b (o .xmin) (o .ymin) (o .ymax) (z .y) (h .0) (h .1) (i .low) (i .high))
+corners-strict a b o (suc zero) e z i on =
+    let h = both-in a b (spot (o .xmin) (o .ymin)) (spot (o .xmax) (o .ymin)) e in
+    subst (λ (y : ℤ). dot a b (spot (z .x) y) <ℤ pos 0) (sym on) (side-x a b (o .ymin) (o .xmin) (o .xmax) (z .x) (h .0) (h .1) (i .left) (i .right))
+corners-strict a b o (suc (suc zero)) e z i on =
+    let h = both-in a b (spot (o .xmax) (o .ymin)) (spot (o .xmax) (o .ymax)) e in
+    subst (λ (x : ℤ). dot a b (spot x (z .y)) <ℤ pos 0) (sym on) (side-y a b (o .xmax) (o .ymin) (o .ymax) (z .y) (h .0) (h .1) (i .low) (i .high))
+corners-strict a b o (suc (suc (suc s))) e z i on =
+    let h = both-in a b (spot (o .xmin) (o .ymax)) (spot (o .xmax) (o .ymax)) e in
+    subst (λ (y : ℤ). dot a b (spot (z .x) y) <ℤ pos 0) (sym on) (side-x a b (o .ymax) (o .xmin) (o .xmax) (z .x) (h .0) (h .1) (i .left) (i .right))
+
+-- so of the side that rule (2) names
 pub side-inside : (a b : Spot) (o : Boxed) → sideIn a b o < 4 → (z : Spot) → In o z → OnSide (sideIn a b o) o z → dot a b z <ℤ pos 0
-unfolding sideIn inside OnSide
-side-inside a b o =
-    first-of (λ s. (z : Spot) → In o z → OnSide s o z → dot a b z <ℤ pos 0) (ll && lh) (ll && hl) (hl && hh) (lh && hh)
-    (λ e z i on.
-    subst (λ (x : ℤ). dot a b (spot x (z .y)) <ℤ pos 0) (sym on)
-    (side-y a b (o .xmin) (o .ymin) (o .ymax) (z .y) (lt-of _ _ (and-left ll lh e)) (lt-of _ _ (and-right ll lh e)) (i .low) (i .high)))
-    (λ e z i on.
-    subst (λ (y : ℤ). dot a b (spot (z .x) y) <ℤ pos 0) (sym on)
-    (side-x a b (o .ymin) (o .xmin) (o .xmax) (z .x) (lt-of _ _ (and-left ll hl e)) (lt-of _ _ (and-right ll hl e)) (i .left) (i .right)))
-    (λ e z i on.
-    subst (λ (x : ℤ). dot a b (spot x (z .y)) <ℤ pos 0) (sym on)
-    (side-y a b (o .xmax) (o .ymin) (o .ymax) (z .y) (lt-of _ _ (and-left hl hh e)) (lt-of _ _ (and-right hl hh e)) (i .low) (i .high)))
-    (λ e z i on.
-    subst (λ (y : ℤ). dot a b (spot (z .x) y) <ℤ pos 0) (sym on)
-    (side-x a b (o .ymax) (o .xmin) (o .xmax) (z .x) (lt-of _ _ (and-left lh hh e)) (lt-of _ _ (and-right lh hh e)) (i .left) (i .right)))
-  where
-    ll : Bool
-    ll = inside a b (spot (o .xmin) (o .ymin))
+side-inside a b o h = corners-strict a b o (sideIn a b o) (side-first a b o h .qualifies)
 
-    lh : Bool
-    lh = inside a b (spot (o .xmin) (o .ymax))
+-- each of places that stand on the four sides is on its side
+pub on-side : (o : Boxed) (t : ℕ → Spot) → OnSides o t → (s : ℕ) → s < 4 → OnSide s o (t s)
+unfolding OnSide
+on-side o t on zero h = on .left
+on-side o t on (suc zero) h = on .bottom
+on-side o t on (suc (suc zero)) h = on .right
+on-side o t on (suc (suc (suc zero))) h = on .top
+on-side o t on (suc (suc (suc (suc s)))) h = absurd (omega arith)
 
-    hl : Bool
-    hl = inside a b (spot (o .xmax) (o .ymin))
-
-    hh : Bool
-    hh = inside a b (spot (o .xmax) (o .ymax))
-
--- so of places that stand on the four sides, the one on the side that rule (2) names is strictly inside
+-- and of such places the one on the side that rule (2) names is strictly inside
 pub side-strict : (a b : Spot) (o : Boxed) (t : ℕ → Spot) → OnSides o t → sideIn a b o < 4 → dot a b (t (sideIn a b o)) <ℤ pos 0
-side-strict a b o t s h = side-inside a b o h (t (sideIn a b o)) (s .within (sideIn a b o) h) (on (sideIn a b o) h)
-  where
-    on : (q : ℕ) → q < 4 → OnSide q o (t q)
-    on zero l = unfold OnSide in s .left
-    on (suc zero) l = unfold OnSide in s .bottom
-    on (suc (suc zero)) l = unfold OnSide in s .right
-    on (suc (suc (suc zero))) l = unfold OnSide in s .top
-    on (suc (suc (suc (suc q)))) l = absurd (omega arith)
+side-strict a b o t on h = side-inside a b o h (t (sideIn a b o)) (on .within (sideIn a b o) h) (on-side o t on (sideIn a b o) h)
 
 dot-left : (a b : Spot) → dot a b a ≡ pos 0
 dot-left a b = solve₄ (λ ax ay bx by. (ax :- ax) :* (bx :- ax) :+ (ay :- ay) :* (by :- ay) := con (pos 0)) refl (a .x) (a .y) (b .x) (b .y)
@@ -241,9 +250,6 @@ module _ (q p : Spot) (o : Boxed) (t : Bool) (e : t ≡ allBehind q p o) where
   behind-places g k h = let f : allBehind q p o ≡ true = sym e ∙ not-false t h in rw (f, g, k)
 
 -- ---- the first side, from the tests of the four corners
-
-abbrev pub first : Bool → Bool → Bool → Bool → ℕ
-first s₀ s₁ s₂ s₃ = cond s₀ 0 (cond s₁ 1 (cond s₂ 2 (cond s₃ 3 4)))
 
 pub side-is : (a b : Spot) (o : Boxed) (ll lh hl hh : Bool) → ll ≡ inside a b (spot (o .xmin) (o .ymin)) → lh ≡ inside a b (spot (o .xmin) (o .ymax)) → hl ≡ inside a b (spot (o .xmax) (o .ymin)) → hh ≡ inside a b (spot (o .xmax) (o .ymax)) → first (ll && lh) (ll && hl) (hl && hh) (lh && hh) ≡ sideIn a b o
 unfolding sideIn

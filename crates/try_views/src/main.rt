@@ -63,10 +63,11 @@ fn show_hit(h: Hit) {
             number(b.set as u64);
             number(b.position as u64);
         }
-        Hit::Side { set: s, node: v } => {
+        Hit::Side(e) => {
             say(b"ring side");
-            number(s as u64);
-            number(v as u64);
+            number(e.set as u64);
+            number(e.node as u64);
+            number(e.side as u64);
         }
     }
 }

@@ -54,13 +54,11 @@ fn print_hit(h: walk::Hit) {
             print(b.set as u64);
             print(b.position as u64);
         }
-        walk::Hit::Side {
-            set: set,
-            node: node,
-        } => {
+        walk::Hit::Side(e) => {
             io::write_all(libc::STDOUT_FILENO, b" side");
-            print(set as u64);
-            print(node as u64);
+            print(e.set as u64);
+            print(e.node as u64);
+            print(e.side as u64);
         }
     }
 }

@@ -10,12 +10,12 @@
 --     ring walk for a, b over w
 --         clear-iff         clear exactly if no record of the sheet blocks
 --         point-blocks      a point answer names a record that blocks
---         side-blocks       a side answer names a node below which a record blocks
+--         side-blocks       a side answer names the first side of a node's box that lies strictly inside, and on it a record blocks
 --         ring-opened-at-most-m
 --     ring walk for q and p over Q, then P
 --         pair-is           "Q is walked first, then P if Q is clear; the counts add up"
 --         pair-clear        clear exactly for a ring pair
---         pair-point, pair-side      what a hit names does block
+--         pair-point, pair-side      what a hit names does block; a side is the first of its box that lies strictly inside
 --         pair-opened       at most the nodes of both sheets are opened
 --         pair-exact        a ring partner of q is a kept position whose ring walk is clear, and no other
 -- Assumes nothing.
@@ -38,11 +38,12 @@ use Rattle.bits.specs.Set.{at, kept, cardIn, card}
 use Rattle.bits.proofs.SetLaws.{not-kept-at}
 use Rattle.bits.proofs.CardLaws.{card-first}
 use Rattle.walk.specs.declared.Blocker.{Blocker}
+use Rattle.walk.specs.declared.Edge.{Edge}
 use Rattle.walk.specs.declared.Hit.the-variants.{Point, Side}
 use Rattle.walk.specs.declared.Answer.{Answer}
 use Rattle.walk.specs.FilterWalk.{filterKept, filterKeeps}
 use Rattle.walk.specs.RingWalk.{clear, ringWalk, pairWalk}
-use Rattle.walk.specs.Claims.{Dropper, Blocks, BlocksBelow, plus, overQ, overP, BlocksPair, BlocksPairBelow}
+use Rattle.walk.specs.Claims.{Dropper, Blocks, BlocksBySide, plus, overQ, overP, BlocksPair, BlocksPairBySide}
 use Rattle.walk.proofs.FilterLaws.{filter-opened, kept-long, kept-below, kept-settled}
 use Rattle.walk.proofs.RingLaws.{Truth, ring-truth, ring-opened}
 use Rattle.walk.proofs.PairLaws.{unblocked-free, walk-unblocked, pair-rule, pair-walks, pair-both, pair-hit}
@@ -108,9 +109,9 @@ module _ (set : ℕ) (w : List ℤ) (opens : Opens w (points w) (nodes w)) (a b 
   pub point-blocks : (x : Blocker) → ringWalk set w a b .hit ≡ Point x → (x .set ≡ set) × Blocks w (points w) a b (x .position)
   point-blocks x e = subst (Truth set w (points w) (nodes w) a b) e (ring-truth set w opens a b)
 
-  -- A side answer names a node of the sheet, below which stands a position that blocks.
-  pub side-blocks : (s v : ℕ) → ringWalk set w a b .hit ≡ Side s v → (s ≡ set) × (v < nodes w) × BlocksBelow w (points w) a b v
-  side-blocks s v e = subst (Truth set w (points w) (nodes w) a b) e (ring-truth set w opens a b)
+  -- A side answer names a node of the sheet and the first side of its box that lies strictly inside; on it stands a position that blocks.
+  pub side-blocks : (x : Edge) → ringWalk set w a b .hit ≡ Side x → (x .set ≡ set) × (x .node < nodes w) × BlocksBySide w (points w) a b (x .node) (x .side)
+  side-blocks x e = subst (Truth set w (points w) (nodes w) a b) e (ring-truth set w opens a b)
 
 -- ---- the ring walk for q and p: over Q, then over P. Set 0 is P, 1 is Q.
 
@@ -131,9 +132,9 @@ module _ (P Q : List ℤ) (p-opens : Opens P (points P) (nodes P)) (q-opens : Op
   pub pair-point : (x : Blocker) → pairWalk P Q j i .hit ≡ Point x → BlocksPair P Q j i (x .set) (x .position)
   pair-point x = pair-hit P Q j i (λ h. h ≡ Point x → BlocksPair P Q j i (x .set) (x .position)) (λ e. inl (point-blocks 1 Q q-opens (spotOf Q j) (spotOf P i) x e)) (λ e. inr (point-blocks 0 P p-opens (spotOf Q j) (spotOf P i) x e))
 
-  -- and a side answer a node of that sheet below which one stands.
-  pub pair-side : (s v : ℕ) → pairWalk P Q j i .hit ≡ Side s v → BlocksPairBelow P Q j i s v
-  pair-side s v = pair-hit P Q j i (λ h. h ≡ Side s v → BlocksPairBelow P Q j i s v) (λ e. inl (side-blocks 1 Q q-opens (spotOf Q j) (spotOf P i) s v e)) (λ e. inr (side-blocks 0 P p-opens (spotOf Q j) (spotOf P i) s v e))
+  -- and a side answer a node of that sheet and the first side of its box that lies strictly inside, on which one stands.
+  pub pair-side : (x : Edge) → pairWalk P Q j i .hit ≡ Side x → BlocksPairBySide P Q j i (x .set) (x .node) (x .side)
+  pair-side x = pair-hit P Q j i (λ h. h ≡ Side x → BlocksPairBySide P Q j i (x .set) (x .node) (x .side)) (λ e. inl (side-blocks 1 Q q-opens (spotOf Q j) (spotOf P i) x e)) (λ e. inr (side-blocks 0 P p-opens (spotOf Q j) (spotOf P i) x e))
 
   module _ (j-in : j < points Q) (i-in : i < points P) where
     -- The pair walk is clear exactly for a ring pair.

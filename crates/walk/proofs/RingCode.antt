@@ -16,7 +16,7 @@ use Rattle.sheet.specs.Boxes.{sumOver, treeSize}
 use Rattle.sheet.specs.Places.{spotOf, boxOf}
 use Rattle.walk.specs.declared.Hit.the-variants.{Point, Side}
 use Rattle.walk.specs.declared.Answer.{Answer}
-use borrow.Author.Tests.{eq-eqb, ne-eqb}
+use borrow.Author.Tests.{eq-eqb, ne-eqb, lt-ltb}
 use Rattle.sheet.specs.Layout.{points, nodes}
 use Rattle.sheet.specs.Open.{Opens}
 use Rattle.walk.specs.Walk.{inTurn, walk, walkAll}
@@ -49,10 +49,13 @@ module _ (set : ℕ) (w : List ℤ) (n : ℕ) (a b : Spot) where
   node-far zero j o e = rw e
   node-far (suc l) j o e = rw e
 
-  pub node-side : (l j o : ℕ) → far a b (boxOf w n j) ≡ false → ltb (sideIn a b (boxOf w n j)) 4 ≡ true → _≡_ {A = Answer} (record { hit = Side set j; opened = o }) (ringNode set w n a b l j (clearAt o))
+  named : (l j o : ℕ) → far a b (boxOf w n j) ≡ false → ltb (sideIn a b (boxOf w n j)) 4 ≡ true → _≡_ {A = Answer} (record { hit = Side (record { set = set; side = sideIn a b (boxOf w n j); node = j }); opened = o }) (ringNode set w n a b l j (clearAt o))
   unfolding ringNode walk ringVisit enter
-  node-side zero j o e f = rw (e, f)
-  node-side (suc l) j o e f = rw (e, f)
+  named zero j o e f = rw (e, f)
+  named (suc l) j o e f = rw (e, f)
+
+  pub node-side : (l j o s : ℕ) → far a b (boxOf w n j) ≡ false → s ≡ sideIn a b (boxOf w n j) → s < 4 → _≡_ {A = Answer} (record { hit = Side (record { set = set; side = s; node = j }); opened = o }) (ringNode set w n a b l j (clearAt o))
+  node-side l j o s e p h = rw p (named l j o e (subst (λ (k : ℕ). ltb k 4 ≡ true) p (lt-ltb s 4 h)))
 
   pub node-leaf : (l j o first count : ℕ) → l ≡ 0 → first ≡ firstOf w n j → count ≡ countOf w n j → far a b (boxOf w n j) ≡ false → ltb (sideIn a b (boxOf w n j)) 4 ≡ false → inTurn (ringTake set w n a b) count first (clearAt (o + 1)) ≡ ringNode set w n a b l j (clearAt o)
   unfolding ringNode walk ringVisit enter

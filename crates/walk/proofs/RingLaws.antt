@@ -13,7 +13,7 @@ use borrow.Author.Tests.{ltb-true}
 use Rattle.integers.specs.Bools.{clash}
 use Rattle.plane.specs.declared.Spot.{Spot}
 use Rattle.plane.specs.Rule.{dot, blocks, far, sideIn}
-use Rattle.plane.proofs.RuleLaws.{far-clear, side-strict, strict-blocks}
+use Rattle.plane.proofs.RuleLaws.{far-clear, side-first, on-side, side-strict, strict-blocks}
 use Rattle.sheet.specs.Layout.{points, nodes}
 use Rattle.sheet.specs.Order.{orderOf, rankOf, orderOk}
 use Rattle.sheet.specs.Nodes.{levelOf, tableOk}
@@ -27,14 +27,14 @@ use Rattle.walk.specs.declared.Hit.the-variants.{Clear, Point, Side}
 use Rattle.walk.specs.declared.Answer.{Answer}
 use Rattle.walk.specs.Walk.{walk, walkAll}
 use Rattle.walk.specs.RingWalk.{clear, clearAt, meet, ringTake, enter, ringVisit, ringNode, ringOn, ringWalk}
-use Rattle.walk.specs.Claims.{Blocks, BlocksBelow, Free, plus}
+use Rattle.walk.specs.Claims.{Blocks, BlocksBySide, Free, plus}
 use Rattle.walk.proofs.WalkLaws.{Steps, Does, all-does, walk-opened, all-opened, all-shift}
 
 -- what an answer says is so
 abbrev pub Truth : ℕ → List ℤ → ℕ → ℕ → Spot → Spot → Hit → Type 0
 Truth set w n m a b Clear = Unit {0}
 Truth set w n m a b (Point x) = (x .set ≡ set) × Blocks w n a b (x .position)
-Truth set w n m a b (Side s j) = (s ≡ set) × (j < m) × BlocksBelow w n a b j
+Truth set w n m a b (Side x) = (x .set ≡ set) × (x .node < m) × BlocksBySide w n a b (x .node) (x .side)
 
 pub record True (set : ℕ) (w : List ℤ) (n m : ℕ) (a b : Spot) (s : Answer) : Type 0 where
   pub so : Truth set w n m a b (s .hit)
@@ -88,16 +88,20 @@ module _ (set : ℕ) (w : List ℤ) (n m : ℕ) (a b : Spot) where
         by true e = test (blocks a b (spotOf w i)) refl
         by false e = stopped s _ e g
 
-    -- where a side lies strictly inside, a position below the node blocks
-    side-below : (j : ℕ) → j < m → sideIn a b (boxOf w n j) < 4 → BlocksBelow w n a b j
-    side-below j h q =
+    -- where a side lies strictly inside, a position on it blocks
+    side-blocks : (j : ℕ) → j < m → sideIn a b (boxOf w n j) < 4 → BlocksBySide w n a b j (sideIn a b (boxOf w n j))
+    side-blocks j h q =
         let l = levelOf w n j in
-        let k = touching w n m ok tight l j h refl (sideIn a b (boxOf w n j)) in
-        let u = touching-below w n m ok tight l j h refl (sideIn a b (boxOf w n j)) in
-        let d = side-strict a b (boxOf w n j) _ (on-sides w n m ok tight l j h refl) q in
+        let s = sideIn a b (boxOf w n j) in
+        let k = touching w n m ok tight l j h refl s in
+        let u = touching-below w n m ok tight l j h refl s in
+        let on = on-sides w n m ok tight l j h refl in
+        let d = side-strict a b (boxOf w n j) _ on q in
         record {
+          first = side-first a b (boxOf w n j) q;
           place = k;
           under = u;
+          on-side = on-side (boxOf w n j) _ on s q;
           there = record { below = order-below w n ordered k (below-place w n m ok tight l j h refl k u); blocking = strict-blocks a b (spotOf w (orderOf w n k)) d };
         }
 
@@ -109,10 +113,10 @@ module _ (set : ℕ) (w : List ℤ) (n m : ℕ) (a b : Spot) where
         counted = record { hit = s .hit; opened = s .opened + 1 }
 
         side : Answer
-        side = record { hit = Side set j; opened = s .opened }
+        side = record { hit = Side (record { set = set; side = sideIn a b (boxOf w n j); node = j }); opened = s .opened }
 
         inner : (t : Bool) → ltb (sideIn a b (boxOf w n j)) 4 ≡ t → Rings s (cond t side (go counted)) (Below w n l j)
-        inner true q = hit-does s _ _ _ refl (refl, h, side-below j h (ltb-true (sideIn a b (boxOf w n j)) 4 q))
+        inner true q = hit-does s _ _ _ refl (refl, h, side-blocks j h (ltb-true (sideIn a b (boxOf w n j)) 4 q))
         inner false q = let d = does counted (record { so = g .so }) in record { good = d .good; more = record { clear-before = λ x. d .more .clear-before x }; done = d .done }
 
         outer : (t : Bool) → far a b (boxOf w n j) ≡ t → Rings s (cond t s (cond (ltb (sideIn a b (boxOf w n j)) 4) side (go counted))) (Below w n l j)
@@ -146,7 +150,7 @@ visit-opened : (set : ℕ) (w : List ℤ) (n : ℕ) (a b : Spot) (j c : ℕ) (go
 unfolding ringVisit enter
 visit-opened set w n a b j c go h s = by (clear (s .hit)) (far a b (boxOf w n j)) (ltb (sideIn a b (boxOf w n j)) 4)
   where
-    by : (x y z : Bool) → cond x (cond y s (cond z (record { hit = Side set j; opened = s .opened }) (go (record { hit = s .hit; opened = s .opened + 1 })))) s .opened ≤ s .opened + suc c
+    by : (x y z : Bool) → cond x (cond y s (cond z (record { hit = Side (record { set = set; side = sideIn a b (boxOf w n j); node = j }); opened = s .opened }) (go (record { hit = s .hit; opened = s .opened + 1 })))) s .opened ≤ s .opened + suc c
     by true true z = omega arith
     by true false true = omega arith
     by true false false = omega (arith, h (record { hit = s .hit; opened = s .opened + 1 }))
@@ -179,7 +183,7 @@ only-clear s e = ap (λ (h : Hit). record { hit = h; opened = s .opened }) (go (
     go : (h : Hit) → clear h ≡ true → h ≡ Clear
     go Clear e = refl
     go (Point x) e = clash e refl
-    go (Side x y) e = clash e refl
+    go (Side x) e = clash e refl
 
 take-plus : (c set : ℕ) (w : List ℤ) (n : ℕ) (a b : Spot) (r : ℕ) (s : Answer) → ringTake set w n a b r (plus c s) ≡ plus c (ringTake set w n a b r s)
 unfolding ringTake meet
@@ -197,7 +201,7 @@ visit-plus c set w n a b j go h s = by (clear (s .hit)) (far a b (boxOf w n j)) 
     one : go (record { hit = s .hit; opened = c + s .opened + 1 }) ≡ plus c (go (record { hit = s .hit; opened = s .opened + 1 }))
     one = let e : c + s .opened + 1 ≡ c + (s .opened + 1) = omega arith in ap (λ (o : ℕ). go (record { hit = s .hit; opened = o })) e ∙ h (record { hit = s .hit; opened = s .opened + 1 })
 
-    by : (x y z : Bool) → cond x (cond y (plus c s) (cond z (record { hit = Side set j; opened = c + s .opened }) (go (record { hit = s .hit; opened = c + s .opened + 1 })))) (plus c s) ≡ plus c (cond x (cond y s (cond z (record { hit = Side set j; opened = s .opened }) (go (record { hit = s .hit; opened = s .opened + 1 })))) s)
+    by : (x y z : Bool) → cond x (cond y (plus c s) (cond z (record { hit = Side (record { set = set; side = sideIn a b (boxOf w n j); node = j }); opened = c + s .opened }) (go (record { hit = s .hit; opened = c + s .opened + 1 })))) (plus c s) ≡ plus c (cond x (cond y s (cond z (record { hit = Side (record { set = set; side = sideIn a b (boxOf w n j); node = j }); opened = s .opened }) (go (record { hit = s .hit; opened = s .opened + 1 })))) s)
     by true true z = refl
     by true false true = refl
     by true false false = one
@@ -241,7 +245,7 @@ module _ (set : ℕ) (w : List ℤ) (o : Opens w (points w) (nodes w)) (a b : Sp
       go : (h : Hit) → Truth set w (points w) (nodes w) a b h → clear h ≡ true
       go Clear t = refl
       go (Point x) t = no (x .position) (t .1)
-      go (Side s j) t = no _ (t .2 .there)
+      go (Side x) t = no _ (t .2 .there)
 
 -- At most m nodes are opened.
 pub opened-by : (set : ℕ) (w : List ℤ) (n m : ℕ) (a b : Spot) → points w ≡ n → nodes w ≡ m → tableOk w n m ≡ true → ringWalk set w a b .opened ≤ m

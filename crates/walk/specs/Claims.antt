@@ -6,12 +6,12 @@ use mathlib.Core.List.{List}
 use Prim.Native.Nat.{ℕ, _+_, _<_}
 use lib.IntN.{ℤ}
 use Rattle.plane.specs.declared.Spot.{Spot}
-use Rattle.plane.specs.Rule.{blocks, drops}
+use Rattle.plane.specs.Rule.{blocks, drops, OnSide, FirstSide}
 use Rattle.sheet.specs.Layout.{points, nodes}
 use Rattle.sheet.specs.Order.{orderOf}
 use Rattle.sheet.specs.Nodes.{levelOf}
 use Rattle.sheet.specs.Boxes.{Below}
-use Rattle.sheet.specs.Places.{spotOf}
+use Rattle.sheet.specs.Places.{spotOf, boxOf}
 use Rattle.bits.specs.Set.{kept}
 use Rattle.walk.specs.declared.Answer.{Answer}
 use Rattle.walk.specs.RingWalk.{ringWalk}
@@ -28,10 +28,12 @@ pub record Blocks (w : List ℤ) (n : ℕ) (a b : Spot) (i : ℕ) : Type 0 where
   pub below : i < n
   pub blocking : blocks a b (spotOf w i) ≡ true
 
--- below node j is a place at which such a position stands
-pub record BlocksBelow (w : List ℤ) (n : ℕ) (a b : Spot) (j : ℕ) : Type 0 where
+-- side s of node j's box is the first of left, bottom, right, top that lies strictly inside, and on it such a position stands, at a place below the node
+pub record BlocksBySide (w : List ℤ) (n : ℕ) (a b : Spot) (j s : ℕ) : Type 0 where
+  pub first : FirstSide a b (boxOf w n j) s
   pub place : ℕ
   pub under : Below w n (levelOf w n j) j place
+  pub on-side : OnSide s (boxOf w n j) (spotOf w (orderOf w n place))
   pub there : Blocks w n a b (orderOf w n place)
 
 -- no position blocks
@@ -54,8 +56,8 @@ module _ (P Q : List ℤ) (j i : ℕ) where
   abbrev pub BlocksPair : ℕ → ℕ → Type 0
   BlocksPair set k = ((set ≡ 1) × Blocks Q (points Q) (spotOf Q j) (spotOf P i) k) ⊎ ((set ≡ 0) × Blocks P (points P) (spotOf Q j) (spotOf P i) k)
 
-  -- below node v of the set stands such a record
-  abbrev pub BlocksPairBelow : ℕ → ℕ → Type 0
-  BlocksPairBelow set v =
-      ((set ≡ 1) × (v < nodes Q) × BlocksBelow Q (points Q) (spotOf Q j) (spotOf P i) v)
-      ⊎ ((set ≡ 0) × (v < nodes P) × BlocksBelow P (points P) (spotOf Q j) (spotOf P i) v)
+  -- on side s of node v of the set, the first of its box that lies strictly inside, stands such a record
+  abbrev pub BlocksPairBySide : ℕ → ℕ → ℕ → Type 0
+  BlocksPairBySide set v s =
+      ((set ≡ 1) × (v < nodes Q) × BlocksBySide Q (points Q) (spotOf Q j) (spotOf P i) v s)
+      ⊎ ((set ≡ 0) × (v < nodes P) × BlocksBySide P (points P) (spotOf Q j) (spotOf P i) v s)
