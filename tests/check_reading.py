@@ -51,6 +51,14 @@ def walks_mean_the_rule(p_words, q_words):
             assert i in kept or not ring
 
 
+def nearest_are_listed(p_words, q_words):
+    """Every couple at the least distance is a ring pair, so the list of two sheets that are not empty is not empty."""
+    p, q = reading.Sheet(p_words), reading.Sheet(q_words)
+    couples = {(j, i): (q.place(j)[0] - p.place(i)[0]) ** 2 + (q.place(j)[1] - p.place(i)[1]) ** 2 for j in range(q.n) for i in range(p.n)}
+    assert all(reading.is_ring_pair(p.points, q.points, j, i) for (j, i), apart in couples.items() if apart == min(couples.values()))
+    assert bool(couples) == bool(reading.ring_list(p.points, q.points))
+
+
 def runs_are_the_list(p_words, q_words):
     """The runs of all leaves together are the list, each pair once; a pair that a run's walks find is of its list, and the other way round. Answers the run
     of each node that is a leaf."""
@@ -107,6 +115,7 @@ def main():
         places = towns.PLACES[k % len(towns.PLACES)]
         p, q = towns.sheet(rng, places, rng.randint(1, 24))[1], towns.sheet(rng, places, rng.randint(1, 24))[1]
         walks_mean_the_rule(p, q)
+        nearest_are_listed(p, q)
         runs_are_the_list(p, q)
     for count in (0, 1, 16, 40):
         keys = sorted({(rng.randint(1, 9), rng.randint(1, 40)) for _ in range(count)})

@@ -10,6 +10,7 @@
 --     pages-list         following the pages from (0, 0) gives the list
 --     list-exact         two records are listed exactly if they are a ring pair.  list-only, list-once: nothing else is, and nothing twice
 --     list-by-points     sheets with the same points give the same list, and the same pairs, number and end mark of every page
+--     nearest-listed     a chamber and a pump house at the least distance are a pair.  never-empty, first-visit: so of two sheets that are not empty the list is not, and its first page shows a pair
 --     opened-at-most-m   one walk of one sheet opens at most its nodes
 --     run-pairs          a leaf's run stores the ring pairs of its chambers, by place, then p id, and touches no other slot.  run-exact, run-only: these and no others.  run-order: in this order.  run-size: each with its squared diameter
 --     run-opened         the count beside it is that of the defined walks.  run-at-most-m: its walk of P opens at most the nodes of P
@@ -23,7 +24,7 @@ use mathlib.Core.List.{List, List·Memᴰ}
 use Prim.Native.Nat.{ℕ, _+_, _*_, _≤_, _<_}
 use native.Mathlib.Omega.{arith}
 use lib.IntN.{ℤ, pos}
-use lib.ListN.{length, getD, take, drop}
+use lib.ListN.{length, getD, take, drop, length-take}
 use borrow.Author.Tests.{eq-eqb}
 use Rattle.words.specs.Range.{lastId}
 use Rattle.words.proofs.TabLaws.{at-tab}
@@ -39,12 +40,15 @@ use Rattle.bits.specs.Set.{at, kept, cardIn}
 use Rattle.list.specs.declared.Key.{Key}
 use Rattle.list.specs.declared.Pair.{Pair}
 use Rattle.list.specs.declared.Page.{Page}
-use Rattle.list.specs.Pairs.{start, none}
+use Rattle.list.specs.Pairs.{start, none, after}
 use Rattle.list.specs.Pages.{pageOf, pagePairs, shown, followed}
 use Rattle.list.specs.Rows.{Rising}
 use Rattle.list.specs.RingList.{ringPair, sizeOf, pairAt, ringList}
 use Rattle.list.proofs.PageLaws.{page-shows, shown-member}
-use Rattle.list.proofs.RowLaws.{Placed, ring-iff, ring-only, ring-size, ring-once}
+use Rattle.list.specs.Nearest.{Nearest}
+use Rattle.list.proofs.Order.{after-all}
+use Rattle.list.proofs.NearestLaws as of-nearest
+use Rattle.list.proofs.RowLaws.{Placed, ring-ascends, ring-iff, ring-only, ring-size, ring-once}
 use Rattle.walk.specs.declared.Blocker.{Blocker}
 use Rattle.walk.specs.declared.Edge.{Edge}
 use Rattle.walk.specs.declared.Hit.the-variants.{Point as PointHit, Side}
@@ -235,6 +239,29 @@ module _ (P Q : List ℤ) (p-opens : WellFormed P) (q-opens : WellFormed Q) wher
   -- "each once".
   pub list-once : (a b : ℕ) → a < b → b < length (ringList (pointsOf P) (pointsOf Q)) → getD (ringList (pointsOf P) (pointsOf Q)) a none ≡ getD (ringList (pointsOf P) (pointsOf Q)) b none → ⊥
   list-once a b h k e = ring-once (pointsOf P) (pointsOf Q) (of-join.points-rise (facts P p-opens)) (of-join.points-rise (facts Q q-opens)) a b h k e
+
+  -- ---- nobody is left with an empty sheet
+
+  -- "every pump house and chamber at the least distance of all such couples is a ring pair", and so it is listed;
+  pub nearest-listed : (j i : ℕ) → Nearest (pointsOf P) (pointsOf Q) j i
+      → (ringPair (pointsOf P) (pointsOf Q) j i ≡ true) × List·Memᴰ (pairAt (pointsOf P) (pointsOf Q) j i) (ringList (pointsOf P) (pointsOf Q))
+  nearest-listed j i n =
+      let e = of-nearest.nearest-pair (pointsOf P) (pointsOf Q) j i n in
+      (e, list-exact j i (omega (arith, n .q-in, length-points Q)) (omega (arith, n .p-in, length-points P)) .1 e)
+
+  -- "so the list is not empty", of two sheets that are not,
+  module _ (some-p : 0 < points P) (some-q : 0 < points Q) where
+    pub never-empty : 0 < length (ringList (pointsOf P) (pointsOf Q))
+    never-empty = of-nearest.never-empty (pointsOf P) (pointsOf Q) (omega (arith, length-points P)) (omega (arith, length-points Q))
+
+    -- and its first page shows a pair.
+    pub first-visit : (size : ℕ) (r : Paged) → InRange start size → PageAnswers P Q start size r → 0 < r .page .count
+    unfolding pageOf shown
+    first-visit size r h a =
+        let l = ringList (pointsOf P) (pointsOf Q) in
+        let all : after start l ≡ l = after-all start l (ring-ascends (pointsOf P) (pointsOf Q) (of-join.points-rise (facts P p-opens)) (of-join.points-rise (facts Q q-opens))) in
+        let e : r .page .count ≡ length (take size l) = ap (λ (g : Page). g .count) (page-pairs start size r h a .1) ∙ ap (λ (x : List Pair). length (take size x)) all in
+        omega (arith, e, length-take size l, never-empty, h .some)
 
   -- ---- one run per leaf
 

@@ -3,9 +3,11 @@
 --     PageLaws      what a page shows, its end mark, following the pages
 --     SourceLaws    what list a page is of, and the number 13
 --     RowLaws       the list that a rule makes: it ascends and holds what the rule does; the ring list, and the ids in it
+--     NearestLaws   couples at the least distance are pairs, so the list of two sets that are not empty is not empty
 --     Examples      the document's listing and its pages, by computation
 pub mod Order
 pub mod PageLaws
 pub mod SourceLaws
 pub mod RowLaws
+pub mod NearestLaws
 pub mod Examples

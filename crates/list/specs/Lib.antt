@@ -3,7 +3,9 @@
 --     Pages       a page of a list; following the pages
 --     Rows        the list that any rule on positions makes
 --     RingList    the ring rule on two sets of points, and its list; sets of points as sheets hold them
+--     Nearest     the couples at the least distance
 pub mod Pairs
 pub mod Pages
 pub mod Rows
 pub mod RingList
+pub mod Nearest
