@@ -137,8 +137,9 @@ typedef struct { u64 bits[16]; u64 opened; twin_size last, count, latest[256]; }
 
 static int drops_box(spot q, spot p, const twin_word *o)
 {
-    spot a = {o[0], o[1]}, b = {o[0], o[3]}, c = {o[2], o[1]}, d = {o[2], o[3]};
-    if (!((dot(q, a, p) <= 0) & (dot(q, b, p) <= 0) & (dot(q, c, p) <= 0) & (dot(q, d, p) <= 0))) return 0;
+    spot c = {p.x < q.x ? o[2] : o[0], p.y < q.y ? o[3] : o[1]};
+    i64 d = dot(q, c, p);
+    if (d) return d < 0;
     return !same(p, q) && !(o[0] <= p.x && p.x <= o[2] && o[1] <= p.y && p.y <= o[3]);
 }
 

@@ -39,6 +39,15 @@ def examples():
         assert len(reading.runs_of_sixteen(n)) == m
 
 
+def one_corner_is_enough(rng):
+    """Of a box the corner farthest along the way from the kept point to q decides for all four."""
+    for _ in range(2000):
+        q, p, a, b = [(rng.randint(-4, 4), rng.randint(-4, 4)) for _ in range(4)]
+        box = (min(a[0], b[0]), min(a[1], b[1]), max(a[0], b[0]), max(a[1], b[1]))
+        far = (box[2] if p[0] < q[0] else box[0], box[3] if p[1] < q[1] else box[1])
+        assert reading.behind(q, p, far) == all(reading.behind(q, p, corner) for corner in reading.corners(box))
+
+
 def walks_mean_the_rule(p_words, q_words):
     """A pair is clear exactly if it is a ring pair, and is kept then; no walk of one sheet opens more than m nodes."""
     p, q = reading.Sheet(p_words), reading.Sheet(q_words)
@@ -110,6 +119,7 @@ def book():
 def main():
     examples()
     book()
+    one_corner_is_enough(Chance("corners"))
     rng = Chance("reading")
     for k in range(60):
         places = towns.PLACES[k % len(towns.PLACES)]

@@ -93,6 +93,8 @@ SKIPS = [
     (BOX_HOLDS, "    return xmin < x[0] < xmax and ymin <= x[1] <= ymax"),
     (BOX_HOLDS, "    return xmin <= x[0] <= xmax and ymin < x[1] < ymax"),
     (BOX_PLACES, " and p != q and p not in corners(box)"),
+    # of the corners, the one nearest along the way from p to q decides
+    (CORNERS_BEHIND, "return behind(q, p, (box[0] if p[0] < q[0] else box[2], box[1] if p[1] < q[1] else box[3])) and"),
 ]
 
 WALKS = [

@@ -2,6 +2,7 @@
 use libc::STDOUT_FILENO;
 use plane::Boxed;
 use plane::Spot;
+ghost use lib.Signed.{_≤ℤ_};
 ghost use Rattle.integers.specs.Order.{Within};
 ghost use Rattle.plane.specs.Rule.{SpotIn, BoxIn};
 
@@ -87,6 +88,14 @@ fn spot(x: i16, y: i16) -> Spot
     }
 }
 
+// The greater of two.
+fn greater(a: i64, b: i64) -> i64
+    requires { ⌜ Within 1000000000 a × Within 1000000000 b ⌝ }
+    ensures { λ r. ⌜ (a ≤ℤ r) × Within 1000000000 r ⌝ }
+{
+    if a < b { b } else { a }
+}
+
 // The box with these two corners.
 fn boxed(low: Spot, high: Spot) -> Boxed
     requires { ⌜ SpotIn low × SpotIn high ⌝ }
@@ -95,8 +104,8 @@ fn boxed(low: Spot, high: Spot) -> Boxed
     Boxed {
         xmin: low.x,
         ymin: low.y,
-        xmax: high.x,
-        ymax: high.y,
+        xmax: greater(low.x, high.x),
+        ymax: greater(low.y, high.y),
     }
 }
 

@@ -19,8 +19,8 @@ use borrow.Author.Tests.{eqb-true, eq-eqb, not-true, not-false}
 use Rattle.integers.specs.Bools.{and-left, and-right, and-both, decide, clash, test-iff}
 use Rattle.plane.specs.declared.Spot.{Spot}
 use Rattle.plane.specs.declared.Boxed.{Boxed}
-use Rattle.plane.specs.Rule.{SpotIn, BoxIn, spot, dot, same, sameSpot, inBox, blocks, drops, behind, dropsBox, size, gap, far, inside, OnSide, cornersIn, sideIn, FirstSide}
-use Rattle.plane.proofs.Plane.{In, corners-all, far-none, side-x, side-y}
+use Rattle.plane.specs.Rule.{SpotIn, BoxIn, spot, dot, same, sameSpot, inBox, blocks, drops, behind, dropsBox, farCorner, size, gap, far, inside, OnSide, cornersIn, sideIn, FirstSide}
+use Rattle.plane.proofs.Plane.{In, corner-most, far-none, side-x, side-y}
 
 -- ---- tests and orders
 
@@ -43,6 +43,16 @@ not-lt : (a : ℤ) → a ≡ pos 0 → a <ℤ pos 0 → ⊥
 not-lt a e h = let x : pos 0 <ℤ pos 0 = subst (λ (z : ℤ). z <ℤ pos 0) e h in x .lt
 
 -- ---- places
+
+-- what a conjunction of three says
+and₀ : (a b c : Bool) → (a && b && c) ≡ true → a ≡ true
+and₀ a b c e = and-left a b (and-left (a && b) c e)
+
+and₁ : (a b c : Bool) → (a && b && c) ≡ true → b ≡ true
+and₁ a b c e = and-right a b (and-left (a && b) c e)
+
+and₂ : (a b c : Bool) → (a && b && c) ≡ true → c ≡ true
+and₂ a b c e = and-right (a && b) c e
 
 same-number : (a b : ℤ) → same a b ≡ true → a ≡ b
 same-number a b e = let h = le-of a b (and-left (leZ a b) (leZ b a) e) in let k = le-of b a (and-right (leZ a b) (leZ b a) e) in omega zl
@@ -74,31 +84,64 @@ in-box : (o : Boxed) (z : Spot) → In o z → inBox o z ≡ true
 unfolding inBox
 in-box o z i = rw (of-le _ _ (i .left), of-le _ _ (i .right), of-le _ _ (i .low), of-le _ _ (i .high))
 
+box-in : (o : Boxed) (z : Spot) → inBox o z ≡ true → In o z
+unfolding inBox
+box-in o z e =
+    let e₁ = and-left (leZ (o .xmin) (z .x) && leZ (z .x) (o .xmax) && leZ (o .ymin) (z .y)) (leZ (z .y) (o .ymax)) e in
+    record {
+      left = le-of _ _ (and₀ (leZ (o .xmin) (z .x)) (leZ (z .x) (o .xmax)) (leZ (o .ymin) (z .y)) e₁);
+      right = le-of _ _ (and₁ (leZ (o .xmin) (z .x)) (leZ (z .x) (o .xmax)) (leZ (o .ymin) (z .y)) e₁);
+      low = le-of _ _ (and₂ (leZ (o .xmin) (z .x)) (leZ (z .x) (o .xmax)) (leZ (o .ymin) (z .y)) e₁);
+      high = le-of _ _ (and-right (leZ (o .xmin) (z .x) && leZ (z .x) (o .xmax) && leZ (o .ymin) (z .y)) (leZ (z .y) (o .ymax)) e);
+    }
+
 -- ---- the rules
 
--- what a conjunction of three says
-and₀ : (a b c : Bool) → (a && b && c) ≡ true → a ≡ true
-and₀ a b c e = and-left a b (and-left (a && b) c e)
+-- the tests of the four corners
+abbrev pub allBehind : Spot → Spot → Boxed → Bool
+allBehind q p o = behind q p (spot (o .xmin) (o .ymin)) && behind q p (spot (o .xmin) (o .ymax)) && behind q p (spot (o .xmax) (o .ymin)) && behind q p (spot (o .xmax) (o .ymax))
 
-and₁ : (a b c : Bool) → (a && b && c) ≡ true → b ≡ true
-and₁ a b c e = and-right a b (and-left (a && b) c e)
+-- if all are behind the line, so is the farthest
+all-far : (q p : Spot) (o : Boxed) → allBehind q p o ≡ true → behind q p (farCorner q p o) ≡ true
+all-far q p o e = by (ltZ (p .x) (q .x)) (ltZ (p .y) (q .y))
+  where
+    at : Bool → Bool → Spot
+    at s t = spot (cond s (o .xmax) (o .xmin)) (cond t (o .ymax) (o .ymin))
 
-and₂ : (a b c : Bool) → (a && b && c) ≡ true → c ≡ true
-and₂ a b c e = and-right (a && b) c e
+    three : (behind q p (at false false) && behind q p (at false true) && behind q p (at true false)) ≡ true
+    three = and-left (behind q p (at false false) && behind q p (at false true) && behind q p (at true false)) (behind q p (at true true)) e
+
+    by : (s t : Bool) → behind q p (at s t) ≡ true
+    by false false = and₀ (behind q p (at false false)) (behind q p (at false true)) (behind q p (at true false)) three
+    by false true = and₁ (behind q p (at false false)) (behind q p (at false true)) (behind q p (at true false)) three
+    by true false = and₂ (behind q p (at false false)) (behind q p (at false true)) (behind q p (at true false)) three
+    by true true = and-right (behind q p (at false false) && behind q p (at false true) && behind q p (at true false)) (behind q p (at true true)) e
+
+-- and if the farthest is, so is every place of the box
+far-behind : (q p : Spot) (o : Boxed) (z : Spot) → behind q p (farCorner q p o) ≡ true → In o z → behind q p z ≡ true
+far-behind q p o z e i = let h = corner-most q p o z i in let k = le-of (dot q (farCorner q p o) p) (pos 0) e in of-le (dot q z p) (pos 0) (below _ _ h k)
+  where
+    below : (x y : ℤ) → x ≤ℤ y → y ≤ℤ pos 0 → x ≤ℤ pos 0
+    below x y a b = omega zl
+
+-- so of a box the farthest corner alone decides
+one-corner : (q p : Spot) (o : Boxed) → BoxIn o → allBehind q p o ≡ behind q p (farCorner q p o)
+one-corner q p o b = test-iff _ _ (all-far q p o) (λ e. four e)
+  where
+    self : (z : ℤ) → z ≤ℤ z
+    self z = omega zl
+
+    four : behind q p (farCorner q p o) ≡ true → allBehind q p o ≡ true
+    four e =
+        rw (far-behind q p o (spot (o .xmin) (o .ymin)) e (record { left = self _; right = b .wide; low = self _; high = b .tall }), far-behind q p o (spot (o .xmin) (o .ymax)) e (record { left = self _; right = b .wide; low = b .tall; high = self _ }), far-behind q p o (spot (o .xmax) (o .ymin)) e (record { left = b .wide; right = self _; low = self _; high = b .tall }), far-behind q p o (spot (o .xmax) (o .ymax)) e (record { left = b .wide; right = self _; low = b .tall; high = self _ }))
 
 -- the half-plane rule: a box behind the line that does not contain the kept place holds only points that it drops
 pub box-drops : (q p : Spot) (o : Boxed) (z : Spot) → dropsBox q p o ≡ true → In o z → drops q p z ≡ true
 unfolding dropsBox drops blocks
 box-drops q p o z e i =
-    let a = behind q p (spot (o .xmin) (o .ymin)) in
-    let b = behind q p (spot (o .xmin) (o .ymax)) in
-    let c = behind q p (spot (o .xmax) (o .ymin)) in
-    let d = behind q p (spot (o .xmax) (o .ymax)) in
-    let all = and₀ (a && b && c && d) (not (sameSpot p q)) (not (inBox o p)) e in
-    let e₁ = and-left (a && b && c) d all in
-    let h = corners-all q p o z (record { ll = le-of _ _ (and₀ a b c e₁); lh = le-of _ _ (and₁ a b c e₁); hl = le-of _ _ (and₂ a b c e₁); hh = le-of _ _ (and-right (a && b && c) d all) }) i in
-    let out = and₂ (a && b && c && d) (not (sameSpot p q)) (not (inBox o p)) e in
-    rw (of-le _ _ h, and₁ (a && b && c && d) (not (sameSpot p q)) (not (inBox o p)) e, not-same p z (λ s. clash out (ap (λ (y : Spot). not (inBox o y)) s ∙ ap not (in-box o z i))))
+    let h = far-behind q p o z (all-far q p o (and₀ (allBehind q p o) (not (sameSpot p q)) (not (inBox o p)) e)) i in
+    let out = and₂ (allBehind q p o) (not (sameSpot p q)) (not (inBox o p)) e in
+    rw (h, and₁ (allBehind q p o) (not (sameSpot p q)) (not (inBox o p)) e, not-same p z (λ s. clash out (ap (λ (y : Spot). not (inBox o y)) s ∙ ap not (in-box o z i))))
 
 -- rule (1): a far box holds no point that blocks
 pub far-clear : (a b : Spot) (o : Boxed) (z : Spot) → far a b o ≡ true → In o z → blocks a b z ≡ false
@@ -236,18 +279,37 @@ module _ (a b z : Spot) (d : ℤ) (e : d ≡ dot a b z) where
   unfolding blocks
   circle-places f g h = let k : leZ d (pos 0) ≡ true = omega zl in rw (← e, k, f, g)
 
--- the tests of the four corners, and what is left where they hold
-abbrev pub allBehind : Spot → Spot → Boxed → Bool
-allBehind q p o = behind q p (spot (o .xmin) (o .ymin)) && behind q p (spot (o .xmin) (o .ymax)) && behind q p (spot (o .xmax) (o .ymin)) && behind q p (spot (o .xmax) (o .ymax))
+-- the product d of q, the farthest corner of the box, and p: before the line, behind it, and where it is not before
+module _ (q p : Spot) (o : Boxed) (b : BoxIn o) (d : ℤ) (e : d ≡ dot q (farCorner q p o) p) where
+  is : allBehind q p o ≡ leZ d (pos 0)
+  is = one-corner q p o b ∙ ap (λ (z : ℤ). leZ z (pos 0)) (sym e)
 
-module _ (q p : Spot) (o : Boxed) (t : Bool) (e : t ≡ allBehind q p o) where
-  pub front-no : not t ≡ true → false ≡ dropsBox q p o
+  pub front-no : ltZ (pos 0) d ≡ true → false ≡ dropsBox q p o
   unfolding dropsBox
-  front-no h = let f : allBehind q p o ≡ false = sym e ∙ not-true t h in rw f
+  front-no h = let f : leZ d (pos 0) ≡ false = omega zl in let g : allBehind q p o ≡ false = is ∙ f in rw g
 
-  pub behind-places : {r s : Bool} → r ≡ sameSpot p q → s ≡ inBox o p → not t ≡ false → (not r && not s) ≡ dropsBox q p o
+  pub behind-yes : ltZ d (pos 0) ≡ true → true ≡ dropsBox q p o
   unfolding dropsBox
-  behind-places g k h = let f : allBehind q p o ≡ true = sym e ∙ not-false t h in rw (f, g, k)
+  behind-yes h =
+      let f : leZ d (pos 0) ≡ true = omega zl in
+      let g : allBehind q p o ≡ true = is ∙ f in
+      rw (g, not-same p q apart, not-in)
+    where
+      strict : dot q (farCorner q p o) p <ℤ pos 0
+      strict = subst (λ (y : ℤ). y <ℤ pos 0) e (lt-of d (pos 0) h)
+
+      apart : p ≡ q → ⊥
+      apart z = strict-not-left q (farCorner q p o) p strict z
+
+      not-in : not (inBox o p) ≡ true
+      not-in = ⊎-elim (λ (t : inBox o p ≡ true). absurd (not-lt-zero (corner-most q p o p (box-in o p t)))) (λ (t : inBox o p ≡ false). ap not t) (decide (inBox o p))
+        where
+          not-lt-zero : dot q p p ≤ℤ dot q (farCorner q p o) p → ⊥
+          not-lt-zero k = let z = dot-right q p in omega (zl, strict, k, z)
+
+  pub line-places : {r s : Bool} → r ≡ sameSpot p q → s ≡ inBox o p → ltZ (pos 0) d ≡ false → (not r && not s) ≡ dropsBox q p o
+  unfolding dropsBox
+  line-places f g h = let k : leZ d (pos 0) ≡ true = omega zl in let t : allBehind q p o ≡ true = is ∙ k in rw (t, f, g)
 
 -- ---- the first side, from the tests of the four corners
 

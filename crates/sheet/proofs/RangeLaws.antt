@@ -7,7 +7,7 @@ use Prim.Native.Nat.{ℕ, _+_, _*_, _%_, _<_, _≤_}
 use native.Mathlib.Omega.{arith}
 use lib.IntN.{ℤ, pos}
 use lib.Signed.{_≤ℤ_}
-use Rattle.integers.specs.Order.{Within}
+use Rattle.integers.specs.Order.{zl, Within}
 use Rattle.words.specs.Range.{idWord, coordWord}
 use Rattle.words.proofs.RangeLaws.{coord-in}
 use Rattle.integers.specs.Bools.{and-left, and-right}
@@ -51,8 +51,13 @@ module _ {w : List ℤ} {n m : ℕ} (o : Opens w n m) where
         ymin-in = subst (Within 1_000_000_000) (s .bottom) (at 1 .y-in);
         xmax-in = subst (Within 1_000_000_000) (s .right) (at 2 .x-in);
         ymax-in = subst (Within 1_000_000_000) (s .top) (at 3 .y-in);
+        wide = through _ _ _ (s .within 0 (omega arith) .left) (s .within 0 (omega arith) .right);
+        tall = through _ _ _ (s .within 0 (omega arith) .low) (s .within 0 (omega arith) .high);
       }
     where
+      through : (x y z : ℤ) → x ≤ℤ y → y ≤ℤ z → x ≤ℤ z
+      through x y z a b = omega zl
+
       place : ℕ → ℕ
       place q = touching w n m (o .table) (o .tight) (levelOf w n j) j h refl q
 
