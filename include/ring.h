@@ -121,6 +121,13 @@ typedef struct RingPaged {
     RingPage page;
 } RingPaged;
 
+/* The answer of ring_shortest: of `pairs` the first `count` are used, the others are three zeros. */
+typedef struct RingShortlist {
+    uint32_t number;
+    size_t count;
+    RingPair pairs[16];
+} RingShortlist;
+
 /* The answer of ring_book_begin. */
 typedef struct RingBegun {
     uint32_t number;
@@ -192,6 +199,12 @@ RingWalked ring_pair_walk(const int32_t *p, size_t p_len, const int32_t *q, size
  * Refused  1 to 8 for P, then 1 to 8 for Q, then 9 where an id of the key is over 2,000,000,000, then 10 where the size is not 1 to 16. */
 RingPaged ring_page(const int32_t *p, size_t p_len, const int32_t *q, size_t q_len, RingKey key, size_t size);
 
+/* The shortest circles first: the k ring pairs with the smallest squared diameter, in order, ties by q id and then p id.
+ * Input    both sheets, and a k 1 to 16. The words are only read.
+ * Answer   the number of pairs, which is k, or that of all ring pairs where they are fewer, and the pairs.
+ * Refused  1 to 8 for P, then 1 to 8 for Q, then 10 where k is not 1 to 16. */
+RingShortlist ring_shortest(const int32_t *p, size_t p_len, const int32_t *q, size_t q_len, size_t k);
+
 /* Begins a book of the list of two editions: nothing held, open.
  * Input    two editions, each 1 to 1,000,000,000.
  * Answer   the book. A book begun again starts from nothing.
@@ -237,7 +250,7 @@ RingRun ring_leaf_run(const int32_t *p, size_t p_len, const int32_t *q, size_t q
  *    7  level, first or count wrong, or n and m disagree on zero
  *    8  a box is not tightest
  *    9  key out of range; a position not below its sheet's n
- *   10  size out of range
+ *   10  size out of range; k out of range
  *   11  held exceeds the slots
  *   12  book closed
  *   13  page of other editions

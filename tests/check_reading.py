@@ -30,6 +30,10 @@ def examples():
     for key, size, pairs, end in (((0, 0), 2, [(5, 1, 16), (5, 2, 36)], False), ((5, 2), 2, [(6, 2, 37)], True), ((6, 2), 2, [], True), ((5, 3), 2, [(6, 2, 37)], True)):
         number, page, _ = reading.page_call(P, Q, key, size)
         assert (number, page.pairs, page.end) == (0, pairs, end)
+    for k in range(1, 17):
+        assert reading.shortest_call(P, Q, k) == (0, [(5, 1, 16), (5, 2, 36), (6, 2, 37)][:k])
+    ties = [(5, 4, 9), (5, 7, 4), (6, 2, 9), (6, 3, 9), (7, 1, 4)]
+    assert reading.shortest_of(ties, 3) == [(5, 7, 4), (7, 1, 4), (5, 4, 9)]
     houses = reading.Sheet(reading.pack([(1, 5, 0), (2, 6, 0)], [0, 1], 7))
     assert reading.leaf_walk(houses, [(0, 0)]) == ([[0]], 1)
     assert reading.leaf_walk(houses, [(0, 0), (3, 0)]) == ([[], [0]], 1)

@@ -591,6 +591,26 @@ def run_call(p_words, q_words, leaf, slots):
     return 0, len(run), opened, run + slots[len(run):]
 
 
+# ---------------------------------------------------------------- the shortest circles
+
+# "give in order the k pairs with the smallest squared size, ties by q id and then p id [..], fewer if the list is shorter"
+def shortest_of(pairs, k):
+    """The k shortest pairs of a list."""
+    return sorted(pairs, key=lambda pair: (pair[2], pair[0], pair[1]))[:k]
+
+
+# "k from 1 to 16", "Refusals: 10 for k", after "1 to 8 for P, then for Q"
+def shortest_call(p_words, q_words, k):
+    """(number, pairs) of a request for the shortest circles."""
+    number = open_number(p_words) or open_number(q_words)
+    if number:
+        return number, []
+    if k < 1 or k > SIZE:
+        return 10, []
+    pairs = ring_list(Sheet(p_words).points, Sheet(q_words).points)
+    return 0, shortest_of(pairs, k)
+
+
 # ---------------------------------------------------------------- the book
 
 class Book:

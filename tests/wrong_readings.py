@@ -222,6 +222,42 @@ RUNS = SIZES + [
     ("opened, run + slots[len(run):]", "opened, slots[:len(slots) - len(run)] + run"),
 ] + SKIPS
 
+BY_SIZE = "    return sorted(pairs, key=lambda pair: (pair[2], pair[0], pair[1]))[:k]\n"
+SHEETS_OF_SHORTEST = '''shortest circles."""
+    number = open_number(p_words) or open_number(q_words)'''
+SIXTEEN_MOST = "    if k < 1 or k > SIZE:\n        return 10, []\n"
+
+SHORTEST = SIZES + [
+    # ties by p id and then q id; by q id alone, the last p id first; the last ids first; as they come in a list the other way round
+    (BY_SIZE, BY_SIZE.replace("pair[0], pair[1])", "pair[1], pair[0])")),
+    (BY_SIZE, BY_SIZE.replace("pair[0], pair[1])", "pair[0], -pair[1])")),
+    (BY_SIZE, BY_SIZE.replace("pair[0], pair[1])", "-pair[0], -pair[1])")),
+    (BY_SIZE, BY_SIZE.replace("sorted(pairs, key=lambda pair: (pair[2], pair[0], pair[1]))", "sorted(pairs[::-1], key=lambda pair: pair[2])")),
+    # by ids alone; the longest first; by the diameter in whole numbers; the k shortest, but by ids
+    (BY_SIZE, BY_SIZE.replace("(pair[2], pair[0], pair[1])", "(pair[0], pair[1])")),
+    (BY_SIZE, BY_SIZE.replace("(pair[2], pair", "(-pair[2], pair")),
+    (BY_SIZE, BY_SIZE.replace("(pair[2], pair", "(int(pair[2] ** 0.5), pair")),
+    (BY_SIZE, BY_SIZE.replace("return sorted(pairs", "return sorted(sorted(pairs").replace("[:k]", "[:k])")),
+    # of the first sixteen pairs of the list; of all but its last; the shortest of each chamber alone; each size once
+    (BY_SIZE, BY_SIZE.replace("sorted(pairs,", "sorted(pairs[:16],")),
+    (BY_SIZE, BY_SIZE.replace("sorted(pairs,", "sorted(pairs[:-1],")),
+    (BY_SIZE, BY_SIZE.replace("sorted(pairs,", "sorted([pair for pair in pairs if pair[2] == min(other[2] for other in pairs if other[0] == pair[0])],")),
+    (BY_SIZE, BY_SIZE.replace("sorted(pairs,", "sorted({pair[2]: pair for pair in pairs[::-1]}.values(),")),
+    # one more; one fewer; refused where the list is shorter
+    (BY_SIZE, BY_SIZE.replace("[:k]", "[:k + 1]")),
+    (BY_SIZE, BY_SIZE.replace("[:k]", "[:max(1, k - 1)]")),
+    ("    return 0, shortest_of(pairs, k)\n", "    return (0, shortest_of(pairs, k)) if len(pairs) >= k else (10, [])\n"),
+    # the numbers: 0 is taken; 17 is; 16 is not; Q's before P's; Q's not at all; that of k before the sheets'
+    (SIXTEEN_MOST, SIXTEEN_MOST.replace("k < 1", "k < 0")),
+    (SIXTEEN_MOST, SIXTEEN_MOST.replace("> SIZE", "> SIZE + 1")),
+    (SIXTEEN_MOST, SIXTEEN_MOST.replace("> SIZE", "> SIZE - 1")),
+    (SHEETS_OF_SHORTEST, SHEETS_OF_SHORTEST.replace("(p_words)", "(words)").replace("(q_words)", "(p_words)").replace("(words)", "(q_words)")),
+    (SHEETS_OF_SHORTEST, SHEETS_OF_SHORTEST.replace(" or open_number(q_words)", "")),
+    (SHEETS_OF_SHORTEST, SHEETS_OF_SHORTEST.replace("    number =", "    if k < 1 or k > SIZE + 0:\n        return 10, []\n    number =")),
+    # unused pairs that are not zeros
+    ("UNUSED = (0, 0, 0)", "UNUSED = (0, 0, 1)"),
+]
+
 BOOK = [
     ("DIAMETER = 8_000_000_000_000", "DIAMETER = 7_999_999_999_999"),
     ("DIAMETER = 8_000_000_000_000", "DIAMETER = 8_000_000_000_001"),
@@ -236,7 +272,7 @@ BOOK = [
 ]
 
 STEP = 100
-WRONG = {"try_sheets": SHEETS, "try_walks": WALKS, "try_pages": PAGES, "try_runs": RUNS, "the book": BOOK}
+WRONG = {"try_sheets": SHEETS, "try_walks": WALKS, "try_pages": PAGES, "try_runs": RUNS, "try_shortest": SHORTEST, "the book": BOOK}
 
 
 def misread(old, new):

@@ -1,7 +1,7 @@
 /*
  * Every call of ring.h with random and damaged inputs: null with length 0, wrong lengths, extreme numbers, words changed at random.
  * Answers are held to a plain second reading of the rules: the numbers of open up to 6, of pack, next key and take; the list, by trying every pair against
- * every record; a leaf's run likewise, its nodes opened by a plain walk; the marker, doubled. Lent memory is held to a copy made before the call, with guards
+ * every record; the shortest pairs and a leaf's run likewise, its nodes opened by a plain walk; the marker, doubled. Lent memory is held to a copy made before the call, with guards
  * on both sides.
  * Prints one line, and ends with 1 where an answer differs or a number of refusal never came up.
  */
@@ -389,6 +389,36 @@ static void try_page(void) {
     HOLD(same_page(&r.page, &expected));
 }
 
+/* by size, then q id, then p id */
+static bool sooner(RingPair v, RingPair w) { return v.size != w.size ? v.size < w.size : v.q != w.q ? v.q < w.q : v.p < w.p; }
+
+/* the k shortest pairs: each the first of all that come after the last one */
+static size_t shortest_of(size_t k, RingPair *pairs) {
+    size_t count = 0;
+    for (bool more = true; more && count < k; count += more) {
+        more = false;
+        for (size_t j = 0; j < count_of(&Q); j++)
+            for (size_t i = 0; i < count_of(&P); i++) {
+                RingPair v = pair_of(j, i);
+                if ((count && !sooner(pairs[count - 1], v)) || (more && !sooner(v, pairs[count])) || !is_pair(j, i)) continue;
+                pairs[count] = v, more = true;
+            }
+    }
+    return count;
+}
+
+static void try_shortest(void) {
+    size_t j, i, k = below(6) ? 1 + below(16) : wild_size(), count = 0;
+    RingPair expected[16];
+    uint32_t number = two_sheets(14, &j, &i);
+    if (!number) number = k < 1 || k > 16 ? 10 : 0;
+    memset(expected, 0, sizeof expected);
+    if (!number) count = shortest_of(k, expected);
+    RingShortlist r = ring_shortest(at(&P), P.len, at(&Q), Q.len, k);
+    saw(r.number), hold_saved();
+    HOLD(r.number == number && r.count == count && memcmp(r.pairs, expected, sizeof expected) == 0);
+}
+
 static uint32_t some_edition(void) { return below(2) ? 1 + (uint32_t)below(1000000000) : wild(); }
 
 static void try_begin(void) {
@@ -571,7 +601,7 @@ static void try_leaf(void) {
 }
 
 int main(void) {
-    static void (*const tries[])(void) = {try_open, try_pack, try_point, try_filter, try_pair, try_page, try_begin, try_next, try_take, try_marker, try_leaf};
+    static void (*const tries[])(void) = {try_open, try_pack, try_point, try_filter, try_pair, try_page, try_shortest, try_begin, try_next, try_take, try_marker, try_leaf};
     size_t exports = sizeof tries / sizeof tries[0];
     guard(&P), guard(&Q);
     for (size_t k = 0; k < exports; k++)

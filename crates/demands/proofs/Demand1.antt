@@ -58,12 +58,15 @@ use Rattle.marker.specs.Mark.{markNo, numberOf, Middle, MiddleAt}
 use Rattle.marker.specs.declared.Marker.{Marker}
 use Rattle.marker.specs.declared.Marked.{Marked}
 use Rattle.marker.specs.declared.Marked.the-variants as marking
+use Rattle.shortest.specs.declared.Shortlist.{Shortlist}
+use Rattle.shortest.specs.Answer.{shortNo, shortRefused}
+use Rattle.shortest.proofs.AnswerLaws as of-shortest
 use Rattle.runs.specs.declared.Run.{Run}
 use Rattle.runs.specs.declared.RunArray.{RunArray}
 use Rattle.runs.specs.Run.{runNo, runRefused, runAnswer, runSlots, lentOf as lentForRun}
 use Rattle.runs.proofs.Once as of-runs
 use Rattle.runs.proofs.Meaning as of-run
-use Rattle.demands.specs.Promises.{OpenAnswers, HeadAnswers, PointAnswers, FilterAnswers, RingAnswers, PageAnswers, PackAnswers, MarkAnswers, BeginAnswers, NextAnswers, TakeAnswers, TakeArrayAnswers, RunAnswers, RunArrayAnswers, ViewOpens}
+use Rattle.demands.specs.Promises.{OpenAnswers, HeadAnswers, PointAnswers, FilterAnswers, RingAnswers, PageAnswers, ShortAnswers, PackAnswers, MarkAnswers, BeginAnswers, NextAnswers, TakeAnswers, TakeArrayAnswers, RunAnswers, RunArrayAnswers, ViewOpens}
 use Rattle.demands.proofs.Alike.{take-array, take-array-slots, run-array, run-array-slots}
 
 -- the number k is one of refusal
@@ -117,6 +120,13 @@ pub page-no : (P Q : List ℤ) (key : Key) (size : ℕ) (r : Paged) → PageAnsw
     → (r .number ≡ pageNo P Q key size) × (Refuses (pageNo P Q key size) → r ≡ pageRefused (pageNo P Q key size))
 page-no P Q key size r a =
     (ap (λ (x : Paged). x .number) (a .promised) ∙ of-page.page-no P Q key size, λ ne. a .promised ∙ page-refused P Q key size (pageNo P Q key size) refl ne)
+
+-- ---- the shortest circles, 1 to 8 for P, then for Q, then 10: refused, the number of pairs is 0, and each pair is three zeros
+
+pub short-no : (P Q : List ℤ) (k : ℕ) (r : Shortlist) → ShortAnswers P Q k r
+    → (r .number ≡ shortNo P Q k) × (Refuses (shortNo P Q k) → r ≡ shortRefused (shortNo P Q k))
+short-no P Q k r a =
+    (ap (λ (x : Shortlist). x .number) (a .promised) ∙ of-shortest.short-no P Q k, λ ne. a .promised ∙ of-shortest.answer-refused P Q k (shortNo P Q k) refl ne)
 
 -- ---- begin, 3
 

@@ -3,6 +3,7 @@
 --     Demand1     every input is answered, by the number that is defined
 --     Demand2     the list is that of the ring rule, and the calls answer for it
 --     ByRow       in what order a list by rows has its pairs
+--     Shortest    the shortest circles of the list, in order
 --     Demand3     the book's story, with the pages that the shipped page request answers
 --     Worlds      the premises of demand 3 can be had
 --     Says        where a promise is stated anew, it is the `ensures` of its call
@@ -16,6 +17,7 @@ pub mod Once
 pub mod Demand1
 pub mod ByRow
 pub mod Demand2
+pub mod Shortest
 pub mod Demand3
 pub mod OverC
 pub mod Worlds

@@ -25,16 +25,18 @@ use Rattle.book.specs.declared.Asked.{Asked}
 use Rattle.book.specs.declared.Taken.{Taken}
 use Rattle.book.specs.declared.TakenArray.{TakenArray}
 use Rattle.marker.specs.declared.Marked.{Marked}
+use Rattle.shortest.specs.declared.Shortlist.{Shortlist}
 use Rattle.runs.specs.declared.Run.{Run}
 use Rattle.runs.specs.declared.RunArray.{RunArray}
 use Rattle.ring.proofs.Once as of-ring
 use Rattle.ring.proofs.PageLaws as of-page
+use Rattle.shortest.proofs.AnswerLaws as of-shortest
 use Rattle.view.proofs.Once as of-view
 use Rattle.book.proofs.Once as of-book
 use Rattle.pack.proofs.Once as of-pack
 use Rattle.marker.proofs.Once as of-marker
 use Rattle.runs.proofs.Once as of-runs
-use Rattle.demands.specs.Promises.{OpenAnswers, HeadAnswers, PointAnswers, FilterAnswers, RingAnswers, PageAnswers, PackAnswers, MarkAnswers, BeginAnswers, NextAnswers, TakeAnswers, NextArrayAnswers, TakeArrayAnswers, RunAnswers, RunArrayAnswers, ViewOpens, ViewPoints, ViewFilters, ViewRings, ViewPages, OpenHead, PointOpened, PointThrough, FilterThrough, RingThrough, PageThrough}
+use Rattle.demands.specs.Promises.{OpenAnswers, HeadAnswers, PointAnswers, FilterAnswers, RingAnswers, PageAnswers, ShortAnswers, PackAnswers, MarkAnswers, BeginAnswers, NextAnswers, TakeAnswers, NextArrayAnswers, TakeArrayAnswers, RunAnswers, RunArrayAnswers, ViewOpens, ViewPoints, ViewFilters, ViewRings, ViewPages, OpenHead, PointOpened, PointThrough, FilterThrough, RingThrough, PageThrough}
 
 -- ---- ring
 
@@ -55,6 +57,9 @@ ring-once P Q j i r r′ a b = of-ring.ring-once P Q j i r r′ (a .promised) (b
 
 pub page-once : (P Q : List ℤ) (key : Key) (size : ℕ) (r r′ : Paged) → PageAnswers P Q key size r → PageAnswers P Q key size r′ → r ≡ r′
 page-once P Q key size r r′ a b = of-page.page-once P Q key size r r′ (a .promised) (b .promised)
+
+pub shortest-once : (P Q : List ℤ) (k : ℕ) (r r′ : Shortlist) → ShortAnswers P Q k r → ShortAnswers P Q k r′ → r ≡ r′
+shortest-once P Q k r r′ a b = of-shortest.short-once P Q k r r′ (a .promised) (b .promised)
 
 -- ---- pack: one answer, and one final state of the lent words
 

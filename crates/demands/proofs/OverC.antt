@@ -39,6 +39,7 @@ use Rattle.book.specs.declared.Asked.{Asked}
 use Rattle.book.specs.declared.Taken.{Taken}
 use Rattle.book.specs.Rules.{beginNo, begunNo, begunFor, nextNo, askedNo, asked}
 use Rattle.book.proofs.Once as of-book
+use Rattle.shortest.specs.declared.Shortlist.{Shortlist}
 use Rattle.runs.specs.declared.Run.{Run}
 use Rattle.marker.specs.Mark.{markNo, numberOf}
 use Rattle.marker.specs.declared.Marked.{Marked}
@@ -56,13 +57,14 @@ use Rattle.ffi.proofs.ring_point.Reads as point-c
 use Rattle.ffi.proofs.ring_filter_walk.Reads as filter-c
 use Rattle.ffi.proofs.ring_pair_walk.Reads as walk-c
 use Rattle.ffi.proofs.ring_page.Reads as page-c
+use Rattle.ffi.proofs.ring_shortest.Reads as shortest-c
 use Rattle.ffi.proofs.ring_book_begin.Reads as begin-c
 use Rattle.ffi.proofs.ring_marker.Reads as mark-c
 use Rattle.ffi.proofs.ring_book_next_key as next-c
 use Rattle.ffi.proofs.ring_book_take as take-c
 use Rattle.ffi.proofs.ring_leaf_run as run-c
-use Rattle.demands.specs.Promises.{Place, slice, HeadAnswers, PointAnswers, FilterAnswers, RingAnswers, PageAnswers, PackAnswers, MarkAnswers, BeginAnswers, NextAnswers, TakeAnswers, RunAnswers}
-use Rattle.demands.specs.OverC.{OpenC, PackC, PointC, FilterC, WalkC, PageC, BeginC, MarkC, NextC}
+use Rattle.demands.specs.Promises.{Place, slice, HeadAnswers, PointAnswers, FilterAnswers, RingAnswers, PageAnswers, ShortAnswers, PackAnswers, MarkAnswers, BeginAnswers, NextAnswers, TakeAnswers, RunAnswers}
+use Rattle.demands.specs.OverC.{OpenC, PackC, PointC, FilterC, WalkC, PageC, ShortC, BeginC, MarkC, NextC}
 use Rattle.demands.proofs.Once as once
 
 -- ---- every input is taken
@@ -84,6 +86,9 @@ walk-c-takes κs a = tt
 
 pub page-c-takes : (κs : Lfts 2) (a : _) → page-c.Asked κs a
 page-c-takes κs a = tt
+
+pub shortest-c-takes : (κs : Lfts 2) (a : _) → shortest-c.Asked κs a
+shortest-c-takes κs a = tt
 
 pub begin-c-takes : (κs : Lfts 0) (a : _) → begin-c.Asked κs a
 begin-c-takes κs a = tt
@@ -130,6 +135,9 @@ filter-over P Q j r a = record { κs = a .κs; p-at = a .p-at; q-at = a .q-at; p
 
 pub page-over : (P Q : List ℤ) (key : Key) (size : ℕ) (r : Paged) → PageC P Q key size r → PageAnswers P Q key size r
 page-over P Q key size r a = record { κs = a .κs; p-at = a .p-at; q-at = a .q-at; promised = a .promised }
+
+pub shortest-over : (P Q : List ℤ) (k : ℕ) (r : Shortlist) → ShortC P Q k r → ShortAnswers P Q k r
+shortest-over P Q k r a = record { κs = a .κs; p-at = a .p-at; q-at = a .q-at; promised = a .promised }
 
 pub point-over : (w : List ℤ) (i : ℕ) (c : PointAnswer) (r : Pointed) → PointC w i c → PointAnswers w i r → c ≡ pointOver r
 point-over w i c r a b = a .promised ∙ ap pointOver (sym (b .promised))
@@ -210,6 +218,9 @@ walk-c-once P Q j i r r′ a b = a .promised ∙ sym (b .promised)
 
 pub page-c-once : (P Q : List ℤ) (key : Key) (size : ℕ) (r r′ : Paged) → PageC P Q key size r → PageC P Q key size r′ → r ≡ r′
 page-c-once P Q key size r r′ a b = once.page-once P Q key size r r′ (page-over P Q key size r a) (page-over P Q key size r′ b)
+
+pub shortest-c-once : (P Q : List ℤ) (k : ℕ) (r r′ : Shortlist) → ShortC P Q k r → ShortC P Q k r′ → r ≡ r′
+shortest-c-once P Q k r r′ a b = once.shortest-once P Q k r r′ (shortest-over P Q k r a) (shortest-over P Q k r′ b)
 
 pub begin-c-once : (s : Source) (r r′ : BookAnswer) → BeginC s r → BeginC s r′ → r ≡ r′
 begin-c-once s r r′ a b = a .promised ∙ sym (b .promised)

@@ -16,6 +16,7 @@ use Rattle.ring.proofs.point.point.Reads as point
 use Rattle.ring.proofs.filter.filter_walk.Reads as filter-walk
 use Rattle.ring.proofs.ringwalk.ring_walk.Reads as ring-walk
 use Rattle.ring.proofs.page.page.Reads as page
+use Rattle.shortest.proofs.shortest.Reads as shortest
 use Rattle.pack.proofs.pack.Reads as pack
 use Rattle.marker.proofs.mark.Reads as mark
 use Rattle.book.proofs.Book.begin.Reads as begin
@@ -54,6 +55,9 @@ ring-walk-takes κs a = tt
 
 pub page-takes : (κs : Lfts 2) (a : _) → page.Asked κs a
 page-takes κs a = tt
+
+pub shortest-takes : (κs : Lfts 2) (a : _) → shortest.Asked κs a
+shortest-takes κs a = tt
 
 pub pack-takes : (κs : Lfts 3) (a : _) → pack.Asked κs a
 pack-takes κs a = tt

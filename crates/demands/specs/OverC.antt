@@ -11,6 +11,7 @@ use Rattle.list.specs.declared.Source.{Source}
 use Rattle.ring.specs.declared.Head.{Head}
 use Rattle.ring.specs.declared.Filtered.{Filtered}
 use Rattle.ring.specs.declared.Paged.{Paged}
+use Rattle.shortest.specs.declared.Shortlist.{Shortlist}
 use Rattle.book.specs.declared.Book.{Book}
 use Rattle.book.specs.Rules.{asked}
 use Rattle.ffi.specs.declared.PointAnswer.{PointAnswer}
@@ -25,6 +26,7 @@ use Rattle.ffi.proofs.ring_point.Reads as point-c
 use Rattle.ffi.proofs.ring_filter_walk.Reads as filter-c
 use Rattle.ffi.proofs.ring_pair_walk.Reads as walk-c
 use Rattle.ffi.proofs.ring_page.Reads as page-c
+use Rattle.ffi.proofs.ring_shortest.Reads as shortest-c
 use Rattle.ffi.proofs.ring_book_begin.Reads as begin-c
 use Rattle.ffi.proofs.ring_marker.Reads as mark-c
 use Rattle.demands.specs.Promises.{Place, slice}
@@ -72,6 +74,13 @@ pub record PageC (P Q : List ℤ) (key : Key) (size : ℕ) (r : Paged) : Type 0 
   pub p-at : Place
   pub q-at : Place
   pub promised : page-c.Post κs (slice p-at P, (slice q-at Q, (key, (size, tt)))) r (slice p-at P, (slice q-at Q, (key, (size, tt))))
+
+-- `ring_shortest(P, Q, k)` answers r
+pub record ShortC (P Q : List ℤ) (k : ℕ) (r : Shortlist) : Type 0 where
+  pub κs : Lfts 2
+  pub p-at : Place
+  pub q-at : Place
+  pub promised : shortest-c.Post κs (slice p-at P, (slice q-at Q, (k, tt))) r (slice p-at P, (slice q-at Q, (k, tt)))
 
 -- `ring_book_begin(source)` answers r
 pub record BeginC (source : Source) (r : BookAnswer) : Type 0 where

@@ -34,6 +34,7 @@ use Rattle.book.specs.declared.Taken.{Taken}
 use Rattle.book.specs.declared.TakenArray.{TakenArray}
 use Rattle.book.specs.Rules.{asked, taken, takenSlots}
 use Rattle.marker.specs.declared.Marked.{Marked}
+use Rattle.shortest.specs.declared.Shortlist.{Shortlist}
 use Rattle.runs.specs.declared.Run.{Run}
 use Rattle.runs.specs.declared.RunArray.{RunArray}
 use Rattle.runs.specs.Run.{runAnswer, runSlots}
@@ -43,6 +44,7 @@ use Rattle.ring.proofs.point.point.Reads as point
 use Rattle.ring.proofs.filter.filter_walk.Reads as filter-walk
 use Rattle.ring.proofs.ringwalk.ring_walk.Reads as ring-walk
 use Rattle.ring.proofs.page.page.Reads as page
+use Rattle.shortest.proofs.shortest.Reads as shortest
 use Rattle.pack.proofs.pack.Reads as pack
 use Rattle.marker.proofs.mark.Reads as mark
 use Rattle.book.proofs.Book.begin.Reads as begin
@@ -105,6 +107,15 @@ pub record PageAnswers (P Q : List ℤ) (key : Key) (size : ℕ) (r : Paged) : T
   pub p-at : Place
   pub q-at : Place
   pub promised : page.Post κs (slice p-at P, (slice q-at Q, (key, (size, tt)))) r (slice p-at P, (slice q-at Q, (key, (size, tt))))
+
+-- ---- the shortest circles
+
+-- `shortest::shortest(P, Q, k)` answers r
+pub record ShortAnswers (P Q : List ℤ) (k : ℕ) (r : Shortlist) : Type 0 where
+  pub κs : Lfts 2
+  pub p-at : Place
+  pub q-at : Place
+  pub promised : shortest.Post κs (slice p-at P, (slice q-at Q, (k, tt))) r (slice p-at P, (slice q-at Q, (k, tt)))
 
 -- ---- pack, marker
 

@@ -10,12 +10,14 @@ use ring::Filtered;
 use ring::Head;
 use ring::Paged;
 use runs::Run;
+use shortest::Shortlist;
 ghost use mathlib.Core.Path.{_≡_};
 ghost use lib.ListN.{length};
 ghost use Rattle.sheet.specs.Limits.{form1};
 ghost use Rattle.pack.specs.Pack.{packNo, packOut};
 ghost use Rattle.ring.specs.Answers.{headOf, pointed, filtered, walked};
 ghost use Rattle.ring.specs.Page.{pageAnswer};
+ghost use Rattle.shortest.specs.Answer.{shortAnswer};
 ghost use Rattle.book.specs.Rules.{begunFor, asked, taken, takenSlots};
 ghost use Rattle.runs.specs.Run.{runAnswer, runSlots};
 ghost use Rattle.ffi.specs.Over.{pointOver, hitOver, walkOver, bookOver, nextOver, keyOver, markOver, markedAt};
@@ -247,6 +249,14 @@ pub extern "C" fn ring_page(p: &[i32], q: &[i32], key: Key, size: usize) -> Page
     ensures { λ r. ⌜ r ≡ pageAnswer (now (p .entry)) (now (q .entry)) key size ⌝ }
 {
     ring::page::page(p, q, key, size)
+}
+
+// The k ring pairs with the smallest squared size, in order: 0, or 1 to 8 of P, of Q, 10.
+#[no_mangle]
+pub extern "C" fn ring_shortest(p: &[i32], q: &[i32], k: usize) -> Shortlist
+    ensures { λ r. ⌜ r ≡ shortAnswer (now (p .entry)) (now (q .entry)) k ⌝ }
+{
+    shortest::shortest(p, q, k)
 }
 
 // A book of two editions with nothing held: 0, or 3.

@@ -1,0 +1,153 @@
+// The shortest circles first: of all ring pairs of two sheets the k with the smallest squared size, in order.
+use list::Key;
+use list::Pair;
+ghost use mathlib.Core.Path.{_≡_};
+ghost use Prim.Native.Nat.{_≤_, _<_};
+ghost use lib.ListN.{take};
+ghost use Rattle.sheet.specs.Open.{Opens};
+ghost use Rattle.shortest.specs.Order.{shorter};
+ghost use Rattle.shortest.specs.Answer.{pairsOf, shortGiven, shortRefused, shortAnswer};
+ghost use Rattle.shortest.specs.Search.{Ordered, Fair, putAt, nextOf};
+
+// What the call answers: 0, how many pairs and the pairs, the unused three zeros; or the number of refusal and zeros.
+#[repr(C)]
+pub struct Shortlist {
+    pub number: u32,
+    pub count: usize,
+    pub pairs: [Pair; 16],
+}
+
+// The shortest pairs of those passed, in order, and where the list goes on.
+struct Search {
+    pairs: [Pair; 16],
+    count: usize,
+    key: Key,
+    end: bool,
+}
+
+// Whether `v` is shorter than `w`: by squared size, then q id, then p id.
+fn is_shorter(v: Pair, w: Pair) -> bool
+    ensures { λ r. ⌜ r ≡ shorter v w ⌝ }
+{
+    let later = list::is_after(list::key_of(v), list::key_of(w));
+    (v.size < w.size) | ((v.size == w.size) & later)
+}
+
+// The pair `v` put in its place among the first n, which move up to make room.
+fn with_pair(g: Search, n: usize, v: Pair) -> Search
+    requires { ⌜ (n < 16) × Ordered (take n (g .pairs)) ⌝ }
+    ensures { λ r. ⌜ r ≡ putAt n v g ⌝ }
+{
+    let mut r = g;
+    r.count = n + 1;
+    let mut i = n;
+    while 0 < i {
+        let w = r.pairs[i - 1];
+        if !is_shorter(v, w) {
+            r.pairs[i] = v;
+            return r;
+        }
+        r.pairs[i] = w;
+        i -= 1;
+    }
+    r.pairs[0] = v;
+    r
+}
+
+// The next page of the list: a pair that is not shorter than the last of k is dropped at once.
+fn with_page(
+    p: &[i32],
+    np: usize,
+    mp: usize,
+    q: &[i32],
+    nq: usize,
+    mq: usize,
+    k: usize,
+    g: Search,
+) -> Search
+    requires { ⌜ Opens (now p) np mp × Opens (now q) nq mq × (np ≤ 1024) × (1 ≤ k) × (k ≤ 16) × Fair k g ⌝ }
+    ensures { λ r. ⌜ r ≡ nextOf (pairsOf (now (p .entry)) (now (q .entry))) k g ⌝ }
+{
+    let d = join::page_made(p, np, mp, q, nq, mq, g.key, 16);
+    let n = d.count;
+    let mut r = g;
+    let mut i = 0;
+    while i < n {
+        let v = d.pairs[i];
+        let at = r.count;
+        if at < k {
+            r = with_pair(r, at, v);
+        } else {
+            let last = r.pairs[k - 1];
+            if is_shorter(v, last) {
+                r = with_pair(r, k - 1, v);
+            }
+        }
+        i += 1;
+    }
+    if n != 0 {
+        r.key = list::key_of(d.pairs[n - 1]);
+    }
+    r.end = !d.more;
+    r
+}
+
+// The k shortest pairs of two sheets that open, page after page.
+fn given(p: &[i32], np: usize, mp: usize, q: &[i32], nq: usize, mq: usize, k: usize) -> Shortlist
+    requires { ⌜ Opens (now p) np mp × Opens (now q) nq mq × (np ≤ 1024) × (1 ≤ k) × (k ≤ 16) ⌝ }
+    ensures { λ r. ⌜ r ≡ shortGiven (now (p .entry)) (now (q .entry)) k ⌝ }
+{
+    let mut g = Search {
+        pairs: [Pair {
+            q: 0,
+            p: 0,
+            size: 0,
+        }; 16],
+        count: 0,
+        key: Key { q: 0, p: 0 },
+        end: false,
+    };
+    while !g.end {
+        g = with_page(p, np, mp, q, nq, mq, k, g);
+    }
+    let pairs = g.pairs;
+    Shortlist {
+        number: 0,
+        count: g.count,
+        pairs: pairs,
+    }
+}
+
+// A refused call: its number, and zeros.
+fn refused(number: u32) -> Shortlist
+    ensures { λ r. ⌜ r ≡ shortRefused number ⌝ }
+{
+    Shortlist {
+        number: number,
+        count: 0,
+        pairs: [Pair {
+            q: 0,
+            p: 0,
+            size: 0,
+        }; 16],
+    }
+}
+
+// The k ring pairs with the smallest squared size, in order, ties by q id and then p id; all of them where they are fewer.
+// Refused by 1 to 8 of P, then of Q, then by 10 where k is not 1 to 16.
+pub fn shortest(p: &[i32], q: &[i32], k: usize) -> Shortlist
+    ensures { λ r. ⌜ r ≡ shortAnswer (now (p .entry)) (now (q .entry)) k ⌝ }
+{
+    let a = ring::open::head_of(p);
+    if a.number != 0 {
+        return refused(a.number);
+    }
+    let b = ring::open::head_of(q);
+    if b.number != 0 {
+        return refused(b.number);
+    }
+    if !((1 <= k) & (k <= 16)) {
+        return refused(10);
+    }
+    given(p, a.n, a.m, q, b.n, b.m, k)
+}
