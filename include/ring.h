@@ -45,10 +45,12 @@ typedef struct RingPair {
     uint64_t size;
 } RingPair;
 
-/* What list a page or a book is of: the editions of both sheets. */
+/* What list a page or a book is of: the editions of both sheets, and the threshold: the list of all pairs where it is 0, and otherwise of the pairs of those
+ * chambers that have at least so many. */
 typedef struct RingSource {
     uint32_t p_edition;
     uint32_t q_edition;
+    uint32_t threshold;
 } RingSource;
 
 /* One page of a list. Of `pairs` the first `count` are used, the others are three zeros. `end` is set exactly when no pair follows the last one shown, or
@@ -120,6 +122,13 @@ typedef struct RingPaged {
     uint64_t opened;
     RingPage page;
 } RingPaged;
+
+/* The answer of ring_partners: how many ring pairs the chamber has, or t where it has more, and whether that is t. */
+typedef struct RingPartners {
+    uint32_t number;
+    size_t count;
+    bool enough;
+} RingPartners;
 
 /* The answer of ring_shortest: of `pairs` the first `count` are used, the others are three zeros. */
 typedef struct RingShortlist {
@@ -193,11 +202,19 @@ RingFiltered ring_filter_walk(const int32_t *p, size_t p_len, const int32_t *q, 
  * Refused  1 to 8 for P, then 1 to 8 for Q, then 9 where j is not below Q's n or i is not below P's. */
 RingWalked ring_pair_walk(const int32_t *p, size_t p_len, const int32_t *q, size_t q_len, size_t j, size_t i);
 
-/* The first `size` ring pairs strictly after a key. The key need not be a listed pair.
- * Input    both sheets, a key, and a size 1 to 16. The words are only read.
- * Answer   the page: both editions, the key, the pairs in the list's order, their number, the end mark.
- * Refused  1 to 8 for P, then 1 to 8 for Q, then 9 where an id of the key is over 2,000,000,000, then 10 where the size is not 1 to 16. */
-RingPaged ring_page(const int32_t *p, size_t p_len, const int32_t *q, size_t q_len, RingKey key, size_t size);
+/* The first `size` ring pairs strictly after a key, of the list of the threshold: all pairs where it is 0, and otherwise those of the chambers that have at least
+ * so many. The key need not be a listed pair.
+ * Input    both sheets, a key, a size 1 to 16, and a threshold 0 to 1,000. The words are only read.
+ * Answer   the page: both editions and the threshold, the key, the pairs in the list's order, their number, the end mark. With a threshold above 0 the nodes
+ *          opened are those of all kept partners of each chamber reached.
+ * Refused  1 to 8 for P, then 1 to 8 for Q, then 9 where an id of the key is over 2,000,000,000, then 10 where the size is not 1 to 16, then 21. */
+RingPaged ring_page(const int32_t *p, size_t p_len, const int32_t *q, size_t q_len, RingKey key, size_t size, uint32_t threshold);
+
+/* Whether the chamber with this id has at least t ring partners.
+ * Input    both sheets, the id of a chamber, and a t from 1 to 1,000. The words are only read.
+ * Answer   the smaller of t and the number of its pairs in the list, and whether that is t.
+ * Refused  1 to 8 for P, then 1 to 8 for Q, then 20 where no chamber has the id, then 21. */
+RingPartners ring_partners(const int32_t *p, size_t p_len, const int32_t *q, size_t q_len, uint32_t id, uint32_t t);
 
 /* The shortest circles first: the k ring pairs with the smallest squared diameter, in order, ties by q id and then p id.
  * Input    both sheets, and a k 1 to 16. The words are only read.
@@ -205,10 +222,10 @@ RingPaged ring_page(const int32_t *p, size_t p_len, const int32_t *q, size_t q_l
  * Refused  1 to 8 for P, then 1 to 8 for Q, then 10 where k is not 1 to 16. */
 RingShortlist ring_shortest(const int32_t *p, size_t p_len, const int32_t *q, size_t q_len, size_t k);
 
-/* Begins a book of the list of two editions: nothing held, open.
- * Input    two editions, each 1 to 1,000,000,000.
+/* Begins a book of the list of two editions and a threshold: nothing held, open.
+ * Input    two editions, each 1 to 1,000,000,000, and a threshold 0 to 1,000.
  * Answer   the book. A book begun again starts from nothing.
- * Refused  3. */
+ * Refused  3, then 21. */
 RingBegun ring_book_begin(RingSource source);
 
 /* The key to ask for next: that of the last held pair, and (0, 0) where nothing is held.
@@ -221,7 +238,8 @@ RingNext ring_book_next_key(RingBook book, const RingPair *slots, size_t slots_l
  * order: one that is not the next is refused and changes nothing.
  * Input    the book, its slots, and a page.
  * Answer   0 and the book from now on. Slots that were held before, and slots past those held after, are not written.
- * Refused  11 the book holds more than there are slots; 12 it is closed; 13 the page is of other editions; 14 its key is not the book's next key;
+ * Refused  11 the book holds more than there are slots; 12 it is closed; 13 the page is of other editions; 31 it is of another threshold; 14 its key is not the
+ *          book's next key;
  *          15 it has over 16 pairs, an id outside 1 to 2,000,000,000, a size over 8,000,000,000,000, pairs not ascending strictly after the key, or no pair
  *          and no end mark;
  *          16 it has more pairs than slots are left. In this order, and no slot is written. */
@@ -260,6 +278,9 @@ RingRun ring_leaf_run(const int32_t *p, size_t p_len, const int32_t *q, size_t q
  *   17  lent output not exactly the sheet's length
  *   18  point words not 3n, or order list not n long
  *   19  no such leaf
+ *   20  unknown q id
+ *   21  threshold outside 0 to 1,000, or 0 in ring_partners
+ *   31  page of another threshold
  */
 
 #ifdef __cplusplus

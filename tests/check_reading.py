@@ -34,6 +34,10 @@ def examples():
         assert reading.shortest_call(P, Q, k) == (0, [(5, 1, 16), (5, 2, 36), (6, 2, 37)][:k])
     ties = [(5, 4, 9), (5, 7, 4), (6, 2, 9), (6, 3, 9), (7, 1, 4)]
     assert reading.shortest_of(ties, 3) == [(5, 7, 4), (7, 1, 4), (5, 4, 9)]
+    listed = reading.ring_list(reading.Sheet(P).points, reading.Sheet(Q).points)
+    assert [reading.list_of(listed, t) for t in range(4)] == [listed, listed, listed[:2], []]
+    assert [reading.partners_call(P, Q, q_id, t) for q_id, t in ((5, 1), (5, 2), (5, 3), (6, 1), (6, 2), (7, 1), (5, 0), (7, 0))] == [
+        (0, 1, True), (0, 2, True), (0, 2, False), (0, 1, True), (0, 1, False), (20, 0, False), (21, 0, False), (20, 0, False)]
     houses = reading.Sheet(reading.pack([(1, 5, 0), (2, 6, 0)], [0, 1], 7))
     assert reading.leaf_walk(houses, [(0, 0)]) == ([[0]], 1)
     assert reading.leaf_walk(houses, [(0, 0), (3, 0)]) == ([[], [0]], 1)
@@ -82,18 +86,19 @@ def runs_are_the_list(p_words, q_words):
     return runs
 
 
-def book_of_lost_pages(rng, pairs):
+def book_of_lost_pages(rng, pairs, t):
     """Pages lost, repeated and late: the book holds the first so many pairs, and all of them once it is closed."""
     editions = (3, 4)
-    _, book = reading.begin(editions)
+    _, book = reading.begin(editions, t)
+    full, pairs = pairs, reading.list_of(pairs, t)
     slots, made = [(9, 9, 9)] * len(pairs), []
     for _ in range(400):
-        key = reading.next_key(book, slots)[1] if rng.random() < 0.7 else reading.key_of(rng.choice(pairs + [reading.UNUSED]))
-        made.append(reading.page_of(pairs, editions, key, rng.randint(1, 16)))
+        key = reading.next_key(book, slots)[1] if rng.random() < 0.7 else reading.key_of(rng.choice(full + [reading.UNUSED]))
+        made.append(reading.page_of(full, editions, key, rng.randint(1, 16), rng.choice([t, t, t, t, t + 1])))
         page = rng.choice(made[-3:])
         before = (book.held, book.closed, list(slots))
         number = reading.take(book, slots, page)
-        assert number in (0, 12, 14) and (number == 0 or before == (book.held, book.closed, slots))
+        assert number in (0, 12, 31, 14) and (number == 0 or before == (book.held, book.closed, slots))
         assert slots[:book.held] == pairs[:book.held] and slots[book.held:] == [(9, 9, 9)] * (len(pairs) - book.held)
         assert not book.closed or book.held == len(pairs)
     assert book.closed
@@ -107,6 +112,17 @@ def taken(rules, pairs, count, unused):
     return number, book.held, slots[:2]
 
 
+def begun(rules, editions, t):
+    """The number of begin."""
+    return rules.begin(editions, t)[0]
+
+
+def taken_of(rules, editions, t, key):
+    """The number by which an empty book of editions (3, 4) and t 2 takes a page of others."""
+    _, book = rules.begin((3, 4), 2)
+    return rules.take(book, [(9, 9, 9)] * 3, rules.Page(editions, key, [(5, 1, 4)], True, t))
+
+
 def book():
     """Pages at the bounds of number 15, and what a book must answer: cases for the wrong readings of it."""
     most = reading.DIAMETER
@@ -115,6 +131,8 @@ def book():
     asked += [(taken, [(5, 1, 4)], 1, [(5, 2, most + 1)])]
     asked += [(taken, [(one, other, 4)], 1, []) for one in (0, 1, reading.ID, reading.ID + 1) for other in (0, 1, reading.ID, reading.ID + 1)]
     asked += [(taken, [(5, 2, 4), (5, other, 4)], 2, []) for other in (1, 2, 3)]
+    asked += [(begun, editions, t) for editions in ((3, 4), (0, 4), (3, reading.EDITION + 1)) for t in (0, 1, reading.THRESHOLD, reading.THRESHOLD + 1, 2 ** 32 - 1)]
+    asked += [(taken_of, editions, t, key) for editions in ((3, 4), (3, 5), (4, 3)) for t in (0, 1, 2, 3) for key in ((0, 0), (5, 0))]
     lines = [ask(reading, *given) for ask, *given in asked]
     assert [line[0] for line in lines[:10]] == [0, 0, 0, 0, 15, 15, 15, 0, 15, 0]
     return types.SimpleNamespace(program="the book", asked=asked, lines=lines)
@@ -133,4 +151,5 @@ def main():
         runs_are_the_list(p, q)
     for count in (0, 1, 16, 40):
         keys = sorted({(rng.randint(1, 9), rng.randint(1, 40)) for _ in range(count)})
-        book_of_lost_pages(rng, [key + (rng.randint(0, reading.DIAMETER),) for key in keys])
+        for t in (0, 1, 2, 5, 40):
+            book_of_lost_pages(rng, [key + (rng.randint(0, reading.DIAMETER),) for key in keys], t)

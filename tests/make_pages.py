@@ -1,11 +1,13 @@
 #!/usr/bin/env python3
-"""The cases of crates/try_pages: pairs of sheets with page requests over them: pairs, number, end mark, nodes opened.
+"""The cases of crates/try_pages: pairs of sheets with page requests over them: pairs, number, end mark, nodes opened; and the question whether a chamber has
+at least t partners.
 
     make_pages.py         writes crates/try_pages/stdin and stdout
 
-The input, in words: 1, the lengths of P's and Q's sheet, the number of requests, P's words, Q's words, and for each request the key's q id and p id and
-the size; 0 ends it. A negative word stands for the largest number that a call can be given. A line has the request, its number of refusal, the nodes
-opened, and the page whole: both editions, the key, the number of pairs, the end mark, sixteen pairs with their sizes.
+The input, in words: 1, the lengths of P's and Q's sheet, the number of requests, P's words, Q's words, and for each request the key's q id and p id,
+the size and the threshold; 2 and the same, but for each question a q id and a t; 0 ends it. A negative word stands for the largest number that a call can be
+given. A line has the request, its number of refusal, the nodes opened, and the page whole: both editions, the threshold, the key, the number of pairs, the end
+mark, sixteen pairs with their sizes; or the question, its number of refusal, the count and the yes.
 """
 import collections
 
@@ -20,13 +22,18 @@ LARGEST = 2 ** 64 - 1
 PAST = reading.ID + 1
 
 
-def page_line(rules, p, q, key, size, listed):
-    number, page, opened = rules.page_call(p, q, key, size, listed)
+def page_line(rules, p, q, key, size, t, listed):
+    number, page, opened = rules.page_call(p, q, key, size, t, listed)
     if number:
         page = rules.Page((0, 0), (0, 0), [], False)
     shown = page.pairs + [rules.UNUSED] * (16 - len(page.pairs))
-    fields = [number, opened, *page.editions, *page.key, len(page.pairs), int(page.end)] + [word for pair in shown for word in pair]
-    return "page %d %d %d: %s" % (key + (size, " ".join(map(str, fields))))
+    fields = [number, opened, *page.editions, page.t, *page.key, len(page.pairs), int(page.end)] + [word for pair in shown for word in pair]
+    return "page %d %d %d %d: %s" % (key + (size, t, " ".join(map(str, fields))))
+
+
+def partners_line(rules, p, q, q_id, t, listed):
+    number, count, enough = rules.partners_call(p, q, q_id, t, listed)
+    return "partners %d %d: %d %d %d" % (q_id, t, number, count, enough)
 
 
 class Pages:
@@ -36,34 +43,45 @@ class Pages:
         self.seen = collections.Counter()
 
     def add(self, label, p, q, requests, listed=None):
+        requests = [request + (0,) * (4 - len(request)) for request in requests]
         words = [1, len(p), len(q), len(requests)] + p + q + [word for request in requests for word in request]
         asked = []
-        for key_q, key_p, size in requests:
-            key = tuple(LARGEST_ID if word < 0 else word for word in (key_q, key_p))
-            asked.append((page_line, p, q, key, LARGEST if size < 0 else size, listed))
+        for key_q, key_p, size, t in requests:
+            key_q, key_p, t = (LARGEST_ID if word < 0 else word for word in (key_q, key_p, t))
+            asked.append((page_line, p, q, (key_q, key_p), LARGEST if size < 0 else size, t, listed))
         for line in self.cases.add(label, words, asked):
-            size = int(line.split(":")[0].split()[3])
-            number, _, _, _, _, _, count, end = map(int, line.split(": ")[1].split()[:8])
+            size, t = map(int, line.split(":")[0].split()[3:5])
+            number, _, _, _, _, _, _, count, end = map(int, line.split(": ")[1].split()[:9])
             self.seen[number] += 1
             if not number:
                 self.seen["end mark" if end else "no end mark"] += 1
                 self.seen["full last page"] += end and count == size
                 self.seen["empty page"] += end and count == 0
+                self.seen["page of a t"] += t > 0 and count > 0
         self.pairs += 1
 
+    def ask(self, label, p, q, questions, listed=None):
+        words = [2, len(p), len(q), len(questions)] + p + q + [word for question in questions for word in question]
+        asked = [(partners_line, p, q) + tuple(LARGEST_ID if word < 0 else word for word in question) + (listed,) for question in questions]
+        for line in self.cases.add(label, words, asked):
+            number, count, enough = map(int, line.split(": ")[1].split())
+            self.seen["question", number] += 1
+            if not number:
+                self.seen["yes" if enough else "no"] += 1
 
-def followed(rng, listed, sizes):
+
+def followed(rng, listed, sizes, t=0):
     """The requests of a reader who begins at (0, 0) and goes on from the last pair until the end mark, and once more after it."""
     requests, key, seen = [], (0, 0), []
     while True:
         size = rng.choice(sizes)
-        requests.append(key + (size,))
-        page = reading.page_of(listed, (0, 0), key, size)
+        requests.append(key + (size, t))
+        page = reading.page_of(listed, (0, 0), key, size, t)
         seen += page.pairs
         key = reading.key_of(page.pairs[-1]) if page.pairs else key
         if page.end:
-            assert seen == listed
-            return requests + [key + (rng.choice(sizes),)]
+            assert seen == reading.list_of(listed, t)
+            return requests + [key + (rng.choice(sizes), t)]
 
 
 def some_keys(rng, p, q, listed, count):
@@ -172,6 +190,47 @@ def refused(out, rng):
         out.add("an empty sheet", p, q, ENDS + OUTSIDE[:1])
 
 
+T_OUTSIDE = [(0, 0, 1, 1001), (0, 0, 16, -1), (0, 0, 0, 1001), (0, 0, 17, -1), (PAST, 0, 1, 1001), (PAST, 0, 0, -1), (0, 0, 1, 1000), (0, 0, 16, 999)]
+
+
+def thresholds(out, rng):
+    """Pages of the least t and of the greatest with a pair, followed and from keys amid a chamber's pairs; each chamber asked for its number of partners and one more."""
+    for k in range(28):
+        places = [towns.town, towns.land, towns.circle, towns.grid][k % 4]
+        _, p = towns.sheet(rng, places, rng.randint(2, 18))
+        _, q = towns.sheet(rng, places, rng.randint(1, 18))
+        houses, chambers = reading.Sheet(p), reading.Sheet(q)
+        listed = reading.ring_list(houses.points, chambers.points)
+        many = collections.Counter(pair[0] for pair in listed)
+        most = max(many.values(), default=0)
+        requests = []
+        for t in sorted({1, 2, most, most + 1}):
+            requests += followed(rng, listed, [2, 3, 16], t)
+            requests += [key + (t,) for key in some_keys(rng, houses, chambers, listed, 2)]
+        out.add("%s, each t" % places.__name__, p, q, requests + rng.sample(T_OUTSIDE, 3), listed)
+        ids = [point[0] for point in chambers.points]
+        questions = [(q_id, t) for q_id in ids for t in sorted({max(1, many[q_id]), many[q_id] + 1})]
+        questions += [(q_id, t) for q_id in (rng.choice(ids), 0, rng.choice(ids) + 1, max(ids) + 1, reading.ID, -1, houses.points[0][0]) for t in (0, 1, 1000, 1001, -1)]
+        out.ask("%s, partners" % places.__name__, p, q, questions, listed)
+
+
+def refused_questions(out, rng):
+    """P's sheet, then Q's, then the id, then t."""
+    for p, q, number in towns.both_faulty(rng):
+        assert reading.partners_call(p, q, 0, 0)[0] == number
+        out.ask("bad P and bad Q, partners", p, q, [(0, 0), (5, 1)])
+    for number in range(1, 9):
+        _, right = towns.sheet(rng, towns.grid, rng.randint(1, 5))
+        wrong = towns.faulty(rng, number)
+        for p, q in ((wrong, right), (right, wrong)):
+            assert reading.partners_call(p, q, 0, 0)[0] == number
+            out.ask("bad sheet and bad question", p, q, [(0, 1), (1, 0), (-1, -1)])
+    empty = reading.pack([], [], 3)
+    _, some = towns.sheet(rng, towns.grid, 4)
+    for p, q in ((empty, some), (some, empty), (empty, empty)):
+        out.ask("an empty sheet, partners", p, q, [(q_id, t) for q_id in [point[0] for point in reading.Sheet(q).points] + [0, 1] for t in (0, 1, 1001)])
+
+
 def large_pairs(out, rng):
     """1,000 points each. The list is too long to make by brute force here: from a key among the last few q, what follows is short."""
     points = [[(n,) + place for n, place in zip(trees.ids(rng, 1000, reading.ID), towns.land(rng, 1000))] for _ in range(2)]
@@ -180,7 +239,8 @@ def large_pairs(out, rng):
     listed = sorted(reading.pair_of(points[0], points[1], j, i) for j in last for i in range(1000) if reading.is_ring_pair(points[0], points[1], j, i))
     key = points[1][994][0]
     requests = [(key, reading.ID, 5), (key, reading.ID, 16), reading.key_of(listed[len(listed) // 2]) + (2,), reading.key_of(listed[-1]) + (1,), reading.key_of(listed[-2]) + (1,)]
-    out.add("1,000 points", p, q, requests, listed)
+    out.add("1,000 points", p, q, requests + [(key, reading.ID, 16, t) for t in (1, 4, 1000)], listed)
+    out.ask("1,000 points, partners", p, q, [(points[1][j][0], t) for j in last for t in (1, 5, 1000)], listed)
 
 
 def cases():
@@ -192,10 +252,13 @@ def cases():
     more_pairs(out, rng)
     one_sheet(out, rng)
     refused(out, rng)
+    thresholds(out, rng)
+    refused_questions(out, rng)
     large_pairs(out, rng)
     assert out.pairs >= 100
     assert all(out.seen[number] >= 10 for number in range(11)), out.seen
-    assert all(out.seen[what] >= 10 for what in ("end mark", "no end mark", "full last page", "empty page")), out.seen
+    assert all(out.seen[what] >= 10 for what in ("end mark", "no end mark", "full last page", "empty page", "page of a t", "yes", "no", 21)), out.seen
+    assert all(out.seen["question", number] >= 2 for number in list(range(9)) + [20, 21]), out.seen
     return out.cases
 
 

@@ -14,6 +14,7 @@ NODES = 400
 LEVEL = 7
 COVERED = 16
 SIZE = 16
+THRESHOLD = 1_000
 DIAMETER = 8_000_000_000_000
 
 
@@ -263,6 +264,15 @@ def ring_list(p_points, q_points):
     return sorted(pairs)
 
 
+# "Which chambers have at least t partners?" "list all such chambers by id with all their pairs"; "0 for the full list"
+def list_of(pairs, t):
+    """The list of t, of the full list."""
+    partners = {}
+    for pair in pairs:
+        partners[pair[0]] = partners.get(pair[0], 0) + 1
+    return [pair for pair in pairs if partners[pair[0]] >= t]
+
+
 # ---------------------------------------------------------------- the filter walk
 
 # "(q-p)·(p'-p) <= 0"
@@ -451,17 +461,18 @@ def point_call(words, i):
 # ---------------------------------------------------------------- pages
 
 class Page:
-    """"The page holds both editions, the key, the first `size` ring pairs strictly after the key (fewer if fewer follow), their number and an end mark" """
+    """"The page holds both editions, the key, the first `size` ring pairs strictly after the key (fewer if fewer follow), their number and an end mark".
+    "Pages and books now carry t, 0 for the full list" """
 
-    def __init__(self, editions, key, pairs, end):
-        self.editions, self.key, self.pairs, self.end = editions, key, pairs, end
+    def __init__(self, editions, key, pairs, end, t=0):
+        self.editions, self.key, self.pairs, self.end, self.t = editions, key, pairs, end, t
 
 
 # "an end mark, set exactly when no ring pair follows the last one shown, or follows the key if none is shown"
-def page_of(pairs, editions, key, size):
-    """The page of a list of ring pairs. No tree is in it."""
-    following = [pair for pair in pairs if key_of(pair) > key]
-    return Page(editions, key, following[:size], len(following) <= size)
+def page_of(pairs, editions, key, size, t=0):
+    """The page of the list of t. No tree is in it."""
+    following = [pair for pair in list_of(pairs, t) if key_of(pair) > key]
+    return Page(editions, key, following[:size], len(following) <= size, t)
 
 
 # "each q in id order from the lowest id not below the key's is filtered once, its kept partners after the key are ring-walked in id order, and the work
@@ -488,8 +499,31 @@ def page_opened(p, q, key, size):
     return opened, found
 
 
-# 9: "key out of range", each 0 to 2,000,000,000; 10: size out of range, 1 to 16
-def page_call(p_words, q_words, key, size, pairs=None):
+# "With t above 0 a page's count takes in all kept partners of each chamber reached, the last one too."
+def page_opened_of(p, q, key, size, t):
+    """The same, of the list of a t above 0."""
+    opened, found = 0, []
+    for j in range(q.n):
+        if q.points[j][0] < key[0]:
+            continue
+        kept, more = filter_walk(p, q.place(j))
+        opened += more
+        partners = []
+        for i in kept:
+            answer, more = pair_walk(p, q, j, i)
+            opened += more
+            if answer == CLEAR:
+                partners.append(pair_of(p.points, q.points, j, i))
+        for pair in partners:
+            if len(partners) >= t and key_of(pair) > key:
+                if len(found) == size:
+                    return opened, found
+                found.append(pair)
+    return opened, found
+
+
+# 9: "key out of range", each 0 to 2,000,000,000; 10: size out of range, 1 to 16; "21 t outside 0 to 1,000 [..] after 10 for a page"
+def page_call(p_words, q_words, key, size, t=0, pairs=None):
     """(number, page, opened) of a page request. `pairs` is the list of ring pairs, made anew where it is not handed in."""
     number = open_number(p_words) or open_number(q_words)
     if number:
@@ -498,13 +532,36 @@ def page_call(p_words, q_words, key, size, pairs=None):
         return 9, None, 0
     if size < 1 or size > SIZE:
         return 10, None, 0
+    if t < 0 or t > THRESHOLD:
+        return 21, None, 0
     p, q = Sheet(p_words), Sheet(q_words)
     if pairs is None:
         pairs = ring_list(p.points, q.points)
-    page = page_of(pairs, (p.edition, q.edition), key, size)
-    opened, found = page_opened(p, q, key, size)
+    page = page_of(pairs, (p.edition, q.edition), key, size, t)
+    opened, found = page_opened_of(p, q, key, size, t) if t > 0 else page_opened(p, q, key, size)
     assert found == page.pairs
     return 0, page, opened
+
+
+# ---------------------------------------------------------------- whether a chamber has at least t partners
+
+# "For one q id and a t, give the smaller of t and the number of its pairs in the list, and a yes exactly when that is t." "20 unknown q id (single question
+# only); 21 t outside 0 to 1,000, or 0 in the single question", after "1 to 8 for P, then for Q"
+def partners_call(p_words, q_words, q_id, t, pairs=None):
+    """(number, count, yes) of the single question. `pairs` as above."""
+    number = open_number(p_words) or open_number(q_words)
+    if number:
+        return number, 0, False
+    p, q = Sheet(p_words), Sheet(q_words)
+    if not any(point[0] == q_id for point in q.points):
+        return 20, 0, False
+    if t < 1 or t > THRESHOLD:
+        return 21, 0, False
+    if pairs is None:
+        pairs = ring_list(p.points, q.points)
+    many = len([pair for pair in pairs if pair[0] == q_id])
+    count = min(t, many)
+    return 0, count, count == t
 
 
 # ---------------------------------------------------------------- one run per leaf
@@ -614,17 +671,19 @@ def shortest_call(p_words, q_words, k):
 # ---------------------------------------------------------------- the book
 
 class Book:
-    """"A book is begun for two editions with nothing held, open, key (0, 0)." """
+    """"A book is begun for two editions with nothing held, open, key (0, 0)." "Pages and books now carry t" """
 
-    def __init__(self, editions):
-        self.editions, self.held, self.closed = editions, 0, False
+    def __init__(self, editions, t):
+        self.editions, self.t, self.held, self.closed = editions, t, 0, False
 
 
-# 3: edition out of range
-def begin(editions):
+# 3: edition out of range; "21 t outside 0 to 1,000 [..] after [..] 3 for begin"
+def begin(editions, t=0):
     if any(edition < 1 or edition > EDITION for edition in editions):
         return 3, None
-    return 0, Book(editions)
+    if t < 0 or t > THRESHOLD:
+        return 21, None
+    return 0, Book(editions, t)
 
 
 # "Its next key is its last pair." 11: held exceeds the slice's length. "Asking the next key refuses only by 11."
@@ -649,6 +708,9 @@ def take(book, slots, page, page_count=None):
     # 13: page of other editions
     if page.editions != book.editions:
         return 13
+    # 31: "page of another t, after 13 and before 14"
+    if page.t != book.t:
+        return 31
     # 14: page key is not the book's next key
     if page.key != next_key(book, slots)[1]:
         return 14

@@ -34,7 +34,24 @@ SHEETS_OF_PAGE = '''handed in."""
 KEY_THEN_SIZE = '''        return 9, None, 0
     if size < 1 or size > SIZE:
         return 10, None, 0
+    if t < 0 or t > THRESHOLD:
+        return 21, None, 0
     p, q'''
+AFTER_KEY = "            if len(partners) >= t and key_of(pair) > key:\n"
+WALKED_WHOLE = '''            answer, more = pair_walk(p, q, j, i)
+            opened += more
+            if answer == CLEAR:
+                partners.append('''
+KNOWN_THEN_T = '''    if not any(point[0] == q_id for point in q.points):
+        return 20, 0, False
+    if t < 1 or t > THRESHOLD:
+        return 21, 0, False
+'''
+T_THEN_KNOWN = '''    if t < 1 or t > THRESHOLD:
+        return 21, 0, False
+    if not any(point[0] == q_id for point in q.points):
+        return 20, 0, False
+'''
 
 SHEETS = [
     ("POINTS = 1_000", "POINTS = 999"),
@@ -151,23 +168,52 @@ PAGES = SIZES + [
     # unused pairs that are not zeros
     ("UNUSED = (0, 0, 0)", "UNUSED = (0, 0, 1)"),
     # "Setting the end mark only when the page is not full"
-    ("following[:size], len(following) <= size)", "following[:size], len(following) < size)"),
+    ("following[:size], len(following) <= size, t)", "following[:size], len(following) < size, t)"),
     # "a page maker honest on the first page and then closing with an empty one"
-    ("[pair for pair in pairs if key_of(pair) > key]", "[pair for pair in pairs if key_of(pair) > key and key == (0, 0)]"),
-    ("[pair for pair in pairs if key_of(pair) > key]", "[pair for pair in pairs if key_of(pair) >= key]"),
-    ("[pair for pair in pairs if key_of(pair) > key]", "[pair for pair in pairs if pair[0] > key[0] or pair in pairs and pair[1] > key[1]]"),
+    ("in list_of(pairs, t) if key_of(pair) > key]", "in list_of(pairs, t) if key_of(pair) > key and key == (0, 0)]"),
+    ("in list_of(pairs, t) if key_of(pair) > key]", "in list_of(pairs, t) if key_of(pair) >= key]"),
+    ("in list_of(pairs, t) if key_of(pair) > key]", "in list_of(pairs, t) if pair[0] > key[0] or pair in pairs and pair[1] > key[1]]"),
     ("        if q_id < key[0]:\n", "        if q_id <= key[0]:\n"),
     ("            if key_of(pair) <= key:\n                continue\n            answer, more = pair_walk(p, q, j, i)\n            opened += more\n",
      "            answer, more = pair_walk(p, q, j, i)\n            opened += more\n            if key_of(pair) <= key:\n                continue\n"),
-    ("            answer, more = pair_walk(p, q, j, i)\n", "            if len(found) == size:\n                return opened, found\n            answer, more = pair_walk(p, q, j, i)\n"),
-    ("                found.append(pair)\n", "                found.append(pair)\n        if len(found) == size:\n            return opened, found\n"),
+    ("                continue\n            answer, more = pair_walk(p, q, j, i)\n", "                continue\n            if len(found) == size:\n                return opened, found\n            answer, more = pair_walk(p, q, j, i)\n"),
+    ("                    return opened, found\n                found.append(pair)\n    return opened, found\n\n\n# \"With t", "                    return opened, found\n                found.append(pair)\n        if len(found) == size:\n            return opened, found\n    return opened, found\n\n\n# \"With t"),
     ("SIZE = 16", "SIZE = 15"),
     ("if size < 1 or size > SIZE:", "if size < 0 or size > SIZE:"),
     (KEY_THEN_SIZE, KEY_THEN_SIZE.replace("return 9", "return 9 if 1 <= size <= SIZE else 10")),
     (SHEETS_OF_PAGE, SHEETS_OF_PAGE.replace("(p_words)", "(words)").replace("(q_words)", "(p_words)").replace("(words)", "(q_words)")),
     ("    if key[0] < 0 or key[0] > ID or key[1] < 0 or key[1] > ID:", "    if key[0] < 0 or key[0] > ID:"),
     ("ID = 2_000_000_000", "ID = 2_000_000_001"),
-    ("page = page_of(pairs, (p.edition, q.edition), key, size)", "page = page_of(pairs, (q.edition, p.edition), key, size)"),
+    ("page = page_of(pairs, (p.edition, q.edition), key, size, t)", "page = page_of(pairs, (q.edition, p.edition), key, size, t)"),
+    # the list of t: strictly more than t partners; of each pump house and not of each chamber; the chambers with at most t; of the pairs after the key alone;
+    # only the first t pairs of a chamber
+    ("if partners[pair[0]] >= t]", "if partners[pair[0]] > t]"),
+    ("        partners[pair[0]] = partners.get(pair[0], 0) + 1\n    return [pair for pair in pairs if partners[pair[0]] >= t]", "        partners[pair[1]] = partners.get(pair[1], 0) + 1\n    return [pair for pair in pairs if partners[pair[1]] >= t]"),
+    ("if partners[pair[0]] >= t]", "if t == 0 or partners[pair[0]] <= t]"),
+    ("in list_of(pairs, t) if key_of(pair) > key]", "in list_of([pair for pair in pairs if key_of(pair) > key], t)]"),
+    ("if partners[pair[0]] >= t]", "if t == 0 or partners[pair[0]] >= t > sum(other[0] == pair[0] and other < pair for other in pairs)]"),
+    # the count of t: of the kept partners after the key alone; up to the first pair beyond the size; of the ring pairs alone; of chambers that are listed alone
+    (WALKED_WHOLE, "            if key_of(pair_of(p.points, q.points, j, i)) <= key:\n                partners += [pair_of(p.points, q.points, j, i)] * (pair_walk(p, q, j, i)[0] == CLEAR)\n                continue\n" + WALKED_WHOLE),
+    (AFTER_KEY + "                if len(found) == size:\n                    return opened, found\n", AFTER_KEY + "                if len(found) == size:\n                    return opened - sum(pair_walk(p, q, j, i)[1] for i in kept if p.points[i][0] > pair[1]), found\n"),
+    (WALKED_WHOLE, WALKED_WHOLE.replace("            opened += more\n            if answer == CLEAR:\n", "            if answer == CLEAR:\n                opened += more\n")),
+    ("        for pair in partners:\n", "        if len(partners) < t:\n            opened -= sum(pair_walk(p, q, j, i)[1] for i in kept)\n        for pair in partners:\n"),
+    # the work goes on for t after the page is full; stops at its last pair
+    ("                    return opened, found\n                found.append(pair)\n    return opened, found\n\n\n# 9:", "                    continue\n                found.append(pair)\n    return opened, found\n\n\n# 9:"),
+    ("                found.append(pair)\n    return opened, found\n\n\n# 9:", "                found.append(pair)\n        if len(found) == size:\n            return opened, found\n    return opened, found\n\n\n# 9:"),
+    # 21: its bounds; before 10; not for a page; 0 is a t of the question too; 20 after 21; not at all
+    ("THRESHOLD = 1_000", "THRESHOLD = 999"),
+    ("THRESHOLD = 1_000", "THRESHOLD = 1_001"),
+    (KEY_THEN_SIZE, KEY_THEN_SIZE.replace("return 10", "return 10 if 0 <= t <= THRESHOLD else 21")),
+    (KEY_THEN_SIZE, KEY_THEN_SIZE.replace("return 21", "t = 0 if t < 0 else THRESHOLD #")),
+    ("    if t < 1 or t > THRESHOLD:", "    if t < 0 or t > THRESHOLD:"),
+    (KNOWN_THEN_T, T_THEN_KNOWN),
+    (KNOWN_THEN_T, KNOWN_THEN_T.replace("any(point[0] == q_id", "any(point[0] >= q_id")),
+    (KNOWN_THEN_T, T_THEN_KNOWN.replace("return 20, 0, False", "pass")),
+    # the question: the number of all pairs; the kept partners; a yes only beyond t; a count of the pump house's pairs
+    ("    count = min(t, many)\n", "    count = many\n"),
+    ("    return 0, count, count == t\n", "    return 0, count, many > t\n"),
+    ("in pairs if pair[0] == q_id])", "in pairs if pair[1] == q_id])"),
+    ("of the single question. `pairs` as above.\"\"\"\n    number = open_number(p_words) or open_number(q_words)", "of the single question. `pairs` as above.\"\"\"\n    number = open_number(q_words) or open_number(p_words)"),
 ]
 
 SHEETS_OF_RUN = '''of a run."""
@@ -269,6 +315,15 @@ BOOK = [
     ("ID = 2_000_000_000", "ID = 2_000_000_001"),
     ("        if pair[0] < 1 or pair[0] > ID or pair[1] < 1", "        if pair[0] < 1 or pair[0] > ID or pair[1] < 0"),
     ("or key_of(pair) <= last:", "or key_of(pair) < last:"),
+    # 31: before 13; after 14; not at all; only for a page of the full list
+    ("    if page.editions != book.editions:\n        return 13\n", "    if page.t != book.t:\n        return 31\n    if page.editions != book.editions:\n        return 13\n"),
+    ("    if page.t != book.t:\n        return 31\n", "    if page.t != book.t:\n        return 31 if page.key == next_key(book, slots)[1] else 14\n"),
+    ("    if page.t != book.t:\n        return 31\n", ""),
+    ("    if page.t != book.t:\n", "    if page.t != book.t and not page.t:\n"),
+    # 21 of begin: before 3; its bound
+    ("    if any(edition < 1 or edition > EDITION for edition in editions):\n        return 3, None\n", "    if t > THRESHOLD:\n        return 21, None\n    if any(edition < 1 or edition > EDITION for edition in editions):\n        return 3, None\n"),
+    ("THRESHOLD = 1_000", "THRESHOLD = 999"),
+    ("THRESHOLD = 1_000", "THRESHOLD = 1_001"),
 ]
 
 STEP = 100

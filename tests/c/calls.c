@@ -15,7 +15,7 @@
 #define GUARD 0x5ead5eed
 
 static uint64_t seed = 88172645463325252ull;
-static unsigned long calls, wrong, first_wrong, seen[20], named[4];
+static unsigned long calls, wrong, first_wrong, seen[32], named[4];
 
 #define HOLD(test) ((test) ? (void)0 : (void)(wrong++ ? 0 : (first_wrong = __LINE__)))
 
@@ -40,8 +40,8 @@ static size_t wild_size(void) { return below(4) ? wild() : below(2) ? (size_t)ch
 
 static void saw(uint32_t number) {
     calls++;
-    HOLD(number <= 19);
-    if (number <= 19) seen[number]++;
+    HOLD(number <= 21 || number == 31);
+    if (number <= 31) seen[number]++;
 }
 
 /* ---- sheets: words between guards, and a copy of all */
@@ -220,6 +220,7 @@ static uint32_t take_no(const RingBook *b, const RingPair *slots, size_t len, co
     if (b->held > len) return 11;
     if (b->closed) return 12;
     if (g->source.p_edition != b->source.p_edition || g->source.q_edition != b->source.q_edition) return 13;
+    if (g->source.threshold != b->source.threshold) return 31;
     RingKey next = key_of(slots, b->held);
     if (g->key.q != next.q || g->key.p != next.p) return 14;
     if (page_bad(g)) return 15;
@@ -227,7 +228,8 @@ static uint32_t take_no(const RingBook *b, const RingPair *slots, size_t len, co
 }
 
 static bool same_book(RingBook a, RingBook b) {
-    return a.held == b.held && a.closed == b.closed && a.source.p_edition == b.source.p_edition && a.source.q_edition == b.source.q_edition;
+    return a.held == b.held && a.closed == b.closed && a.source.p_edition == b.source.p_edition && a.source.q_edition == b.source.q_edition
+        && a.source.threshold == b.source.threshold;
 }
 
 /* ---- the calls */
@@ -351,16 +353,23 @@ static void try_pair(void) {
     }
 }
 
-/* the page that the list gives, by trying every pair */
-static RingPage page_of(RingKey key, size_t size) {
+/* how many ring pairs the chamber at a position has */
+static size_t partners_of(size_t j) {
+    size_t many = 0;
+    for (size_t i = 0; i < count_of(&P); i++) many += is_pair(j, i);
+    return many;
+}
+
+/* the page that the list of t gives, by trying every pair */
+static RingPage page_of(RingKey key, size_t size, uint32_t t) {
     RingPage g;
     memset(&g, 0, sizeof g);
-    g.source.p_edition = (uint32_t)P.words[P.len - 2], g.source.q_edition = (uint32_t)Q.words[Q.len - 2];
+    g.source.p_edition = (uint32_t)P.words[P.len - 2], g.source.q_edition = (uint32_t)Q.words[Q.len - 2], g.source.threshold = t;
     g.key = key, g.end = true;
     for (size_t j = 0; j < count_of(&Q) && g.end; j++)
         for (size_t i = 0; i < count_of(&P) && g.end; i++) {
             RingPair v = pair_of(j, i);
-            if (!after(key, v) || !is_pair(j, i)) continue;
+            if (!after(key, v) || !is_pair(j, i) || (t && partners_of(j) < t)) continue;
             if (g.count < size) g.pairs[g.count++] = v;
             else g.end = false;
         }
@@ -368,11 +377,15 @@ static RingPage page_of(RingKey key, size_t size) {
 }
 
 static bool same_page(const RingPage *a, const RingPage *b) {
-    return a->source.p_edition == b->source.p_edition && a->source.q_edition == b->source.q_edition && a->key.q == b->key.q && a->key.p == b->key.p
-        && a->count == b->count && a->end == b->end && memcmp(a->pairs, b->pairs, sizeof a->pairs) == 0;
+    return a->source.p_edition == b->source.p_edition && a->source.q_edition == b->source.q_edition && a->source.threshold == b->source.threshold
+        && a->key.q == b->key.q && a->key.p == b->key.p && a->count == b->count && a->end == b->end && memcmp(a->pairs, b->pairs, sizeof a->pairs) == 0;
 }
 
+/* a threshold: few, or anything */
+static uint32_t some_threshold(void) { return below(3) == 0 ? 0 : below(6) ? (uint32_t)below(6) : below(2) ? 999 + (uint32_t)below(3) : wild(); }
+
 static void try_page(void) {
+    uint32_t t = some_threshold();
     size_t j, i, size = below(6) ? 1 + below(16) : wild_size();
     RingKey key = {0, 0};
     RingPage expected;
@@ -380,12 +393,12 @@ static void try_page(void) {
     if (!number && j < count_of(&Q) && i < count_of(&P)) key.q = (uint32_t)Q.words[3 * j] + (uint32_t)below(2), key.p = (uint32_t)P.words[3 * i];
     if (below(6) == 0) key.q = wild();
     if (below(6) == 0) key.p = wild();
-    if (!number) number = key.q > 2000000000 || key.p > 2000000000 ? 9 : size < 1 || size > 16 ? 10 : 0;
-    RingPaged r = ring_page(at(&P), P.len, at(&Q), Q.len, key, size);
+    if (!number) number = key.q > 2000000000 || key.p > 2000000000 ? 9 : size < 1 || size > 16 ? 10 : t > 1000 ? 21 : 0;
+    RingPaged r = ring_page(at(&P), P.len, at(&Q), Q.len, key, size, t);
     saw(r.number), hold_saved();
     HOLD(r.number == number);
     if (r.number) memset(&expected, 0, sizeof expected), HOLD(r.opened == 0);
-    else expected = page_of(key, size);
+    else expected = page_of(key, size, t);
     HOLD(same_page(&r.page, &expected));
 }
 
@@ -419,15 +432,33 @@ static void try_shortest(void) {
     HOLD(r.number == number && r.count == count && memcmp(r.pairs, expected, sizeof expected) == 0);
 }
 
+static void try_partners(void) {
+    size_t j, i, many = 0;
+    uint32_t number = two_sheets(14, &j, &i), id = wild(), t = some_threshold();
+    bool known = !number && j < count_of(&Q);
+    if (known) id = (uint32_t)Q.words[3 * j] + (below(4) == 0);
+    if (!number) {
+        known = false;
+        for (size_t k = 0; k < count_of(&Q); k++)
+            if ((uint32_t)Q.words[3 * k] == id) known = true, many = partners_of(k);
+        number = !known ? 20 : t < 1 || t > 1000 ? 21 : 0;
+    }
+    RingPartners r = ring_partners(at(&P), P.len, at(&Q), Q.len, id, t);
+    saw(r.number), hold_saved();
+    HOLD(r.number == number);
+    HOLD(r.count == (number ? 0 : many < t ? many : t) && r.enough == (!number && many >= t));
+}
+
 static uint32_t some_edition(void) { return below(2) ? 1 + (uint32_t)below(1000000000) : wild(); }
 
 static void try_begin(void) {
-    RingSource s = {some_edition(), some_edition()}, none = {0, 0};
+    RingSource s = {some_edition(), some_edition(), some_threshold()}, none = {0, 0, 0};
     bool ok = in(1, s.p_edition, 1000000000) && in(1, s.q_edition, 1000000000);
-    RingBook begun = {0, false, ok ? s : none};
+    uint32_t number = !ok ? 3 : s.threshold > 1000 ? 21 : 0;
+    RingBook begun = {0, false, number ? none : s};
     RingBegun r = ring_book_begin(s);
     saw(r.number);
-    HOLD(r.number == (ok ? 0u : 3u) && same_book(r.book, begun));
+    HOLD(r.number == number && same_book(r.book, begun));
 }
 
 /* ---- a book's slots, between guards, and a copy */
@@ -442,7 +473,7 @@ static size_t make_slots(RingBook *b) {
         if (room[k].q == room[k - 1].q && room[k].p <= room[k - 1].p) room[k].p = room[k - 1].p + 1;
     b->held = below(8) ? below(len + 1) : below(2) ? len + 1 + below(3) : wild_size();
     b->closed = below(9) == 0;
-    b->source.p_edition = some_edition(), b->source.q_edition = some_edition();
+    b->source.p_edition = some_edition(), b->source.q_edition = some_edition(), b->source.threshold = some_threshold();
     return len;
 }
 
@@ -474,7 +505,7 @@ static RingPage make_page(const RingBook *b, size_t len) {
 
 /* one thing wrong with a page, or nothing */
 static void spoil_page(RingPage *g) {
-    switch (below(22)) {
+    switch (below(24)) {
     case 0: g->source.p_edition = wild(); break;
     case 1: g->source.q_edition++; break;
     case 2: g->key.q = wild(); break;
@@ -487,6 +518,8 @@ static void spoil_page(RingPage *g) {
     case 9: g->key.p = wild(); break;
     case 10: g->pairs[below(3)].size = 8000000000001; break;
     case 11: g->pairs[below(16)].size = wild_size(); break;
+    case 12: g->source.threshold++; break;
+    case 13: g->source.threshold = wild(); break;
     }
 }
 
@@ -601,15 +634,15 @@ static void try_leaf(void) {
 }
 
 int main(void) {
-    static void (*const tries[])(void) = {try_open, try_pack, try_point, try_filter, try_pair, try_page, try_shortest, try_begin, try_next, try_take, try_marker, try_leaf};
+    static void (*const tries[])(void) = {try_open, try_pack, try_point, try_filter, try_pair, try_page, try_partners, try_shortest, try_begin, try_next, try_take, try_marker, try_leaf};
     size_t exports = sizeof tries / sizeof tries[0];
     guard(&P), guard(&Q);
     for (size_t k = 0; k < exports; k++)
         for (int i = 0; i < TIMES; i++) tries[k]();
-    unsigned long unseen = 0, unnamed = 0;
-    for (int k = 0; k < 20; k++) unseen += seen[k] == 0;
+    unsigned long unseen = seen[31] == 0, unnamed = 0;
+    for (int k = 0; k < 22; k++) unseen += seen[k] == 0;
     for (int k = 0; k < 4; k++) unnamed += named[k] == 0;
-    printf("c calls: %zu exports, %lu calls with %lu served, %lu of the numbers 0 to 19 never seen, %lu sides never named, %lu answers wrong", exports, calls, seen[0], unseen, unnamed, wrong);
+    printf("c calls: %zu exports, %lu calls with %lu served, %lu of the numbers 0 to 21 and 31 never seen, %lu sides never named, %lu answers wrong", exports, calls, seen[0], unseen, unnamed, wrong);
     if (wrong) printf(" (the first at line %lu)", first_wrong);
     printf("\n");
     return wrong || unseen || unnamed;

@@ -12,18 +12,48 @@ use lib.ListN.{length, take, drop, getD, length-append, length-drop}
 use lib.Seq.{drop-cons, paste, length-take-le}
 use borrow.Author.Tests.{ltb-false, lt-ltb, le-ltb, not-true, not-false}
 use Rattle.integers.specs.Bools.{decide}
+use Rattle.words.specs.Range.{editionOk}
 use Rattle.list.specs.declared.Key.{Key}
 use Rattle.list.specs.declared.Pair.{Pair}
+use Rattle.list.specs.declared.Source.{Source}
 use Rattle.list.specs.declared.Page.{Page}
 use Rattle.list.specs.Pairs.{none, keyOf, follows, ascends, lastOr}
-use Rattle.list.specs.Pages.{sourceNo, pagePairs}
+use Rattle.list.specs.Pages.{thresholdNo, sourceNo, pagePairs}
 use Rattle.book.specs.declared.Book.{Book}
 use Rattle.book.specs.declared.Decided.{Decided}
 use Rattle.book.specs.declared.Taken.{Taken}
 use Rattle.book.specs.declared.TakenArray.{TakenArray}
-use Rattle.book.specs.Rules.{lastKey, lastSlot, pairOk, pairsOk, sameKey, pageMost, pageBad, firstNo, takeNoAt, takeNo, accepted, refused, decidedAt, decided, taken, takenSlots, askedAt, asked, lentOf, withSlots, takenArray}
+use Rattle.book.specs.declared.Begun.the-variants as begun
+use Rattle.book.specs.Rules.{beginNo, begunBy, begunBook, begunFor, lastKey, lastSlot, pairOk, pairsOk, sameKey, pageMost, pageBad, firstNo, takeNoAt, takeNo, accepted, refused, decidedAt, decided, taken, takenSlots, askedAt, asked, lentOf, withSlots, takenArray}
 use Rattle.book.proofs.TakeLaws.{no-refusal-at, by-zero, by-number, same-key, passed, or-zero}
 use Rattle.book.proofs.Rows.{width}
+
+-- ---- begin
+
+module _ (s : Source) (a b : Bool) (ea : a ≡ editionOk (s .«p_edition»)) (eb : b ≡ editionOk (s .«q_edition»)) where
+  both : not (editionOk (s .«p_edition») && editionOk (s .«q_edition»)) ≡ not (a && b)
+  both = sym (ap₂ (λ (x y : Bool). not (x && y)) ea eb)
+
+  pub begin-3 : not (a && b) ≡ true → begun.Refused 3 ≡ begunFor s
+  unfolding begunFor beginNo begunBy
+  begin-3 e = rw (both ∙ e)
+
+  module _ (e : not (a && b) ≡ false) (n : ℕ) (d : n ≡ thresholdNo (s .threshold)) where
+    number-is : beginNo s ≡ n
+    unfolding beginNo
+    number-is = rw (both ∙ e) (sym d)
+
+    pub begin-21 : (n ≡ 0 → ⊥) → begun.Refused n ≡ begunFor s
+    unfolding begunFor
+    begin-21 ne = refused-by n ne ∙ ap (λ (k : ℕ). begunBy k (begunBook s)) (sym number-is)
+      where
+        refused-by : (k : ℕ) → (k ≡ 0 → ⊥) → begun.Refused k ≡ begunBy k (begunBook s)
+        refused-by zero ne = absurd (ne refl)
+        refused-by (suc k) ne = unfold begunBy in refl
+
+    pub begin-0 : n ≡ 0 → begun.Open (begunBook s) ≡ begunFor s
+    unfolding begunFor begunBy
+    begin-0 z = ap (λ (k : ℕ). begunBy k (begunBook s)) (sym (number-is ∙ z))
 
 -- ---- the loop over a page's pairs
 

@@ -9,7 +9,7 @@ use Rattle.list.specs.declared.Pair.{Pair}
 use Rattle.list.specs.declared.Source.{Source}
 use Rattle.list.specs.declared.Page.{Page}
 use Rattle.list.specs.Pairs.{start, none, keyOf, follows, ascends}
-use Rattle.list.specs.Pages.{sourceNo, pagePairs}
+use Rattle.list.specs.Pages.{thresholdNo, sourceNo, pagePairs}
 use Rattle.words.specs.Range.{idOk, editionOk, sizeOk}
 use Rattle.book.specs.declared.Book.{Book}
 use Rattle.book.specs.declared.Begun.the-variants as begun
@@ -18,10 +18,14 @@ use Rattle.book.specs.Rules.{beginNo, begunBook, begunBy, begunFor, last
 
 -- editions 7 and 9, whose list is (5, 1), (5, 2), (6, 2)
 abbrev ours : Source
-ours = record { «p_edition» = 7; «q_edition» = 9 }
+ours = record { «p_edition» = 7; «q_edition» = 9; threshold = 0 }
 
 abbrev others : Source
-others = record { «p_edition» = 8; «q_edition» = 9 }
+others = record { «p_edition» = 8; «q_edition» = 9; threshold = 2 }
+
+-- the same editions, of another t
+abbrev less : Source
+less = record { «p_edition» = 7; «q_edition» = 9; threshold = 2 }
 
 abbrev at : ℕ → ℕ → Pair
 at q p = record { q = q; p = p; size = 16 }
@@ -43,12 +47,16 @@ abbrev slots : List Pair
 slots = at 5 1 ∷ at 5 2 ∷ at 1 1 ∷ at 1 2 ∷ []
 
 begins : begunFor ours ≡ begun.Open (book 0 false)
-unfolding begunFor begunBy beginNo begunBook editionOk
+unfolding begunFor begunBy beginNo begunBook editionOk thresholdNo
 begins = refl
 
-no-edition : begunFor (record { «p_edition» = 7; «q_edition» = 0 }) ≡ begun.Refused 3
+no-edition : begunFor (record { «p_edition» = 7; «q_edition» = 0; threshold = 1001 }) ≡ begun.Refused 3
 unfolding begunFor begunBy beginNo editionOk
 no-edition = refl
+
+no-threshold : begunFor (record { «p_edition» = 7; «q_edition» = 9; threshold = 1001 }) ≡ begun.Refused 21
+unfolding begunFor begunBy beginNo editionOk thresholdNo
+no-threshold = refl
 
 asks-first : asked (book 0 false) slots ≡ record { next = next.After start; book = book 0 false }
 unfolding asked askedAt nextBy nextNo lastKey
@@ -84,10 +92,15 @@ twelve : number (book 2 true) (page others (at 5 2) true []) 12
 unfolding takeNo takeNoAt
 twelve = refl
 
--- other editions, and another key
+-- other editions, and another t and key
 thirteen : number (book 2 false) (page others (at 5 1) true []) 13
 unfolding takeNo takeNoAt firstNo sourceNo
 thirteen = refl
+
+-- another t, and another key
+thirty-one : number (book 2 false) (page less (at 5 1) true []) 31
+unfolding takeNo takeNoAt firstNo sourceNo
+thirty-one = refl
 
 -- another key, and no pair and no end mark
 fourteen : number (book 2 false) (page ours (at 5 1) false []) 14

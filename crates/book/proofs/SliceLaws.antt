@@ -3,6 +3,7 @@
 -- Assumes nothing.
 use mathlib.Core.Path.{_≡_, refl, sym, ap, _∙_}
 use mathlib.Core.Bool.{Bool, true, false, cond, not}
+use mathlib.Core.Logic.{_⊎_, ⊎-elim}
 use mathlib.Core.List.{List}
 use Prim.Native.Nat.{ℕ, zero, suc, _+_, _-_, _≤_, _<_}
 use native.Mathlib.Omega.{arith}
@@ -17,7 +18,7 @@ use Rattle.list.specs.declared.Page.{Page}
 use Rattle.list.specs.Pairs.{start, ascends, lastOr}
 use Rattle.list.specs.Pages.{sourceNo, pagePairs}
 use Rattle.list.proofs.Order.{last-at}
-use Rattle.list.proofs.SourceLaws.{source-same, source-13}
+use Rattle.list.proofs.SourceLaws.{source-same, source-numbers}
 use Rattle.book.specs.declared.Book.{Book}
 use Rattle.book.specs.declared.Next.the-variants as next
 use Rattle.book.specs.declared.Decided.{Decided}
@@ -84,8 +85,12 @@ first-16 a b r e = go (sourceNo a b) refl
     go : (n : ℕ) → sourceNo a b ≡ n → (sourceNo a b ≡ 0) × (r ≡ 16)
     go zero x = (x, sym (ap (λ (m : ℕ). firstNo m r) x) ∙ e)
     go (suc n) x =
-        let y : _≡_ {A = ℕ} 13 16 = sym (source-13 a b (λ z. let v : _≡_ {A = ℕ} (suc n) 0 = sym x ∙ z in omega arith)) ∙ x ∙ sym (ap (λ (m : ℕ). firstNo m r) x) ∙ e in
-        absurd (omega arith)
+        let y : sourceNo a b ≡ 16 = x ∙ sym (ap (λ (m : ℕ). firstNo m r) x) ∙ e in
+        absurd
+        (⊎-elim
+        (λ (z : sourceNo a b ≡ 0). omega arith)
+        (λ (z : (sourceNo a b ≡ 13) ⊎ (sourceNo a b ≡ 31)). ⊎-elim (λ (u : sourceNo a b ≡ 13). omega arith) (λ (u : sourceNo a b ≡ 31). omega arith) z)
+        (source-numbers a b))
 
 room-at : (b : Book) (len m : ℕ) (k : Key) (g : Page) → takeNoAt b len k g ≡ 16 → b .held + g .count ≤ m → (b .held ≤ len) × (takeNoAt b m k g ≡ 0)
 unfolding takeNoAt

@@ -2,29 +2,30 @@
 -- answers its own next request adds a pair or closes it.
 -- Assumes nothing.
 use mathlib.Core.Path.{_≡_, refl, sym, ap, ap₂, subst, _∙_}
-use mathlib.Core.Bool.{Bool, true, false, not, _&&_, _||_, true≢false, and-false}
+use mathlib.Core.Bool.{Bool, true, false, cond, not, _&&_, _||_, true≢false, and-false}
 use mathlib.Core.Logic.{_⊎_, inl, inr, ⊎-elim}
 use mathlib.Core.List.{List, [], _∷_, _++_, List·Memᴰ, List·Memᴰ·head, List·Memᴰ·tail}
 use Prim.Native.Nat.{ℕ, zero, suc, _+_, _-_, _≤_, _<_}
 use native.Mathlib.Omega.{arith}
 use lib.ListN.{length, take, drop, length-take, length-drop, take-append-drop}
 use lib.Seq.{paste, take-paste, take-add, take-length, length-paste}
-use lib.Dec.{eqb, ltb}
-use borrow.Author.Tests.{ltb-true, ltb-false, le-ltb, ne-eqb, not-true}
+use lib.Dec.{eqb, ltb, leb}
+use borrow.Author.Tests.{leb-true, ltb-true, ltb-false, le-ltb, ne-eqb, not-true}
 use Rattle.integers.specs.Bools.{decide, and-left, and-right, and-both, or-both-false}
 use Rattle.plane.specs.Point.{Point}
-use Rattle.words.specs.Range.{idOk, sizeOk}
+use Rattle.words.specs.Range.{editionOk, idOk, sizeOk}
 use Rattle.list.specs.declared.Key.{Key}
 use Rattle.list.specs.declared.Pair.{Pair}
 use Rattle.list.specs.declared.Source.{Source}
 use Rattle.list.specs.declared.Page.{Page}
 use Rattle.list.specs.Pairs.{start, keyOf, follows, ascends, after, lastOr}
-use Rattle.list.specs.Pages.{sourceNo, shown, pageOf, pagePairs}
-use Rattle.list.specs.RingList.{ringList}
+use Rattle.list.specs.Pages.{lastThreshold, thresholdNo, sourceNo, shown, pageOf, pagePairs}
+use Rattle.list.specs.RingList.{thresholdList}
 use Rattle.list.proofs.Order.{asc-left, after-asc, after-last}
 use Rattle.list.proofs.PageLaws.{page-shows, shown-count, length-padded, end-mark}
 use Rattle.list.proofs.SourceLaws.{source-same}
-use Rattle.list.proofs.RowLaws.{ring-ascends, ring-ids, ring-sizes}
+use Rattle.list.proofs.RowLaws.{ring-ids, ring-sizes}
+use Rattle.list.proofs.ThresholdLaws.{threshold-in, threshold-ascends}
 use Rattle.book.specs.declared.Book.{Book}
 use Rattle.book.specs.declared.Begun.the-variants as begun
 use Rattle.book.specs.Rules.{beginNo, begunBy, begunBook, begunFor, lastKey, pairOk, pairsOk, pageMost, pageBad, takeNo, advanced, taken, takenSlots}
@@ -230,9 +231,24 @@ begun-is : (s : Source) (b : Book) → begunFor s ≡ begun.Open b → begunBook
 unfolding begunFor
 begun-is s b e = by-begun (beginNo s) (begunBook s) b e
 
+-- .. was not refused, so its t is at most 1,000
+open-no : (n : ℕ) (b c : Book) → begunBy n b ≡ begun.Open c → n ≡ 0
+unfolding begunBy
+open-no zero b c e = refl
+open-no (suc n) b c e = let z : _≡_ {A = ℕ} 0 1 = cc in absurd (omega arith)
+
+begun-in : (s : Source) (b : Book) → begunFor s ≡ begun.Open b → s .threshold ≤ lastThreshold
+unfolding begunFor beginNo thresholdNo
+begun-in s b e = by (not (editionOk (s .«p_edition») && editionOk (s .«q_edition»))) (leb (s .threshold) lastThreshold) refl (open-no _ (begunBook s) b e)
+  where
+    by : (a t : Bool) → leb (s .threshold) lastThreshold ≡ t → _≡_ {A = ℕ} (cond a 3 (cond t 0 21)) 0 → s .threshold ≤ lastThreshold
+    by true t d z = absurd (omega arith)
+    by false true d z = leb-true (s .threshold) lastThreshold d
+    by false false d z = absurd (omega arith)
+
 module _ (w : World) where
   list-asc : (s : Source) → ascends start (listOf w s) ≡ true
-  list-asc s = ring-ascends (w .pumps (s .«p_edition»)) (w .chambers (s .«q_edition»)) (w .pumps-sound (s .«p_edition») .rising) (w .chambers-sound (s .«q_edition») .rising)
+  list-asc s = threshold-ascends (w .pumps (s .«p_edition»)) (w .chambers (s .«q_edition»)) (w .pumps-sound (s .«p_edition») .rising) (w .chambers-sound (s .«q_edition») .rising) (s .threshold)
 
   list-ok : (s : Source) → pairsOk (listOf w s) ≡ true
   list-ok s =
@@ -240,13 +256,17 @@ module _ (w : World) where
       let Q = w .chambers (s .«q_edition») in
       let sp = w .pumps-sound (s .«p_edition») in
       let sq = w .chambers-sound (s .«q_edition») in
-      ok-of (listOf w s) (λ v m. let z = ring-ids P Q (sp .rising) (sq .rising) v m in pair-ok v (z .0) (z .1) (ring-sizes P Q sp sq v m))
+      ok-of (listOf w s)
+      (λ v m.
+      let n = threshold-in P Q (sp .rising) (sq .rising) (s .threshold) v m in
+      let z = ring-ids P Q (sp .rising) (sq .rising) v n in
+      pair-ok v (z .0) (z .1) (ring-sizes P Q sp sq v n))
 
   -- what a page request answers on two sheets with these points is honest, where the points are those of their editions
   pub honest-from : (s : Source) (k : Key) (size : ℕ) (P Q : List Point) (g : Page) → 0 < size → size ≤ 16 → w .pumps (s .«p_edition») ≡ P → w .chambers (s .«q_edition») ≡ Q
-      → g ≡ pageOf s (ringList P Q) k size → Honest w g
+      → g ≡ pageOf s (thresholdList (s .threshold) P Q) k size → Honest w g
   honest-from s k size P Q g some most p q e =
-      record { of = s; after = k; size = size; some = some; most = most; is = e ∙ sym (ap₂ (λ (x y : List Point). pageOf s (ringList x y) k size) p q) }
+      record { of = s; after = k; size = size; some = some; most = most; is = e ∙ sym (ap₂ (λ (x y : List Point). pageOf s (thresholdList (s .threshold) x y) k size) p q) }
 
   -- the list of a book
   abbrev pub bookList : Book → List Pair
@@ -271,6 +291,12 @@ module _ (w : World) where
       (sym (same-book-source b slots g))
       (keeps-take (bookList b) (list-asc (b .source)) b slots g k (honest-on b slots g k h))
   story (lent {b} {slots} other r h e) = let k = story r in record { room = h; few = k .few; same = e ∙ k .same; shut = k .shut }
+
+  -- its t is one that a page request may ask for
+  pub begun-fair : {b : Book} {s : List Pair} → Reached w b s → b .source .threshold ≤ lastThreshold
+  begun-fair (began s b slots e) = subst (λ (x : Book). x .source .threshold ≤ lastThreshold) (begun-is s b e) (unfold begunBook in begun-in s b e)
+  begun-fair (took {b} {slots} g r h) = rw (same-book-source b slots g) (begun-fair r)
+  begun-fair (lent other r h e) = begun-fair r
 
   -- "a book begun empty always holds exactly the first so many pairs of its list"
   pub held-prefix : {b : Book} {s : List Pair} → Reached w b s → (b .held ≤ length s) × (b .held ≤ length (bookList b)) × (take (b .held) s ≡ take (b .held) (bookList b))

@@ -11,7 +11,7 @@ use Rattle.list.specs.declared.Pair.{Pair}
 use Rattle.list.specs.declared.Source.{Source}
 use Rattle.list.specs.declared.Page.{Page}
 use Rattle.list.specs.Pairs.{start, none, keyOf, ascends}
-use Rattle.list.specs.Pages.{sourceNo, pagePairs}
+use Rattle.list.specs.Pages.{thresholdNo, sourceNo, pagePairs}
 use Rattle.book.specs.declared.Book.{Book}
 use Rattle.book.specs.declared.Begun.{Begun}
 use Rattle.book.specs.declared.Begun.the-variants as begun
@@ -22,13 +22,18 @@ use Rattle.book.specs.declared.Taken.{Taken}
 use Rattle.book.specs.declared.Decided.{Decided}
 use Rattle.book.specs.declared.TakenArray.{TakenArray}
 
+-- "The first that applies, in the order listed": a number, or what comes after it where it is 0
+unfoldable pub firstNo : ℕ → ℕ → ℕ
+firstNo zero rest = rest
+firstNo (suc n) rest = suc n
+
 -- ---- begin
 
--- 3: an edition out of range
+-- 3: an edition out of range; 21 "t outside 0 to 1,000 [..] after [..] 3 for begin"
 unfoldable pub beginNo : Source → ℕ
-beginNo s = cond (editionOk (s .«p_edition») && editionOk (s .«q_edition»)) 0 3
+beginNo s = cond (not (editionOk (s .«p_edition») && editionOk (s .«q_edition»))) 3 (thresholdNo (s .threshold))
 
--- "A book is begun for two editions with nothing held, open, key (0, 0)."
+-- "A book is begun for two editions with nothing held, open, key (0, 0)." "Pages and books now carry t": it is begun for that too.
 unfoldable pub begunBook : Source → Book
 begunBook s = record { held = 0; closed = false; source = s }
 
@@ -103,13 +108,8 @@ unfoldable pub pageBad : Page → Bool
 pageBad g =
     ltb pageMost (g .count) || not (pairsOk (pagePairs g)) || not (ascends (g .key) (pagePairs g)) || (eqb (g .count) 0 && not (g .end))
 
--- "The first that applies, in the order listed": a number, or what comes after it where it is 0
-unfoldable pub firstNo : ℕ → ℕ → ℕ
-firstNo zero rest = rest
-firstNo (suc n) rest = suc n
-
 -- the number of refusal in the document's order, 0 where the page is taken: for a slice of `len` slots of which the last held one has the key k.
--- 11 held exceeds the slice's length; 12 book closed; 13 page of other editions; 14 page key is not the book's next key; 15; 16 more pairs than
+-- 11 held exceeds the slice's length; 12 book closed; 13 page of other editions, 31 of another t; 14 page key is not the book's next key; 15; 16 more pairs than
 -- slots left
 unfoldable pub takeNoAt : Book → ℕ → Key → Page → ℕ
 takeNoAt b len k g =

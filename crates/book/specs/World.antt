@@ -9,7 +9,7 @@ use Rattle.list.specs.declared.Pair.{Pair}
 use Rattle.list.specs.declared.Source.{Source}
 use Rattle.list.specs.declared.Page.{Page}
 use Rattle.list.specs.Pages.{pageOf}
-use Rattle.list.specs.RingList.{ringList, Sound}
+use Rattle.list.specs.RingList.{thresholdList, Sound}
 use Rattle.book.specs.declared.Book.{Book}
 use Rattle.book.specs.declared.Begun.the-variants as begun
 use Rattle.book.specs.Rules.{begunFor, lastKey, taken, takenSlots}
@@ -22,9 +22,9 @@ pub record World : Type 0 where
   pub chambers-sound : (e : ℕ) → Sound (chambers e)
 
 module _ (w : World) where
-  -- the list of a page or a book
+  -- the list of a page or a book: that of its editions and its t
   abbrev pub listOf : Source → List Pair
-  listOf s = ringList (w .pumps (s .«p_edition»)) (w .chambers (s .«q_edition»))
+  listOf s = thresholdList (s .threshold) (w .pumps (s .«p_edition»)) (w .chambers (s .«q_edition»))
 
   -- a page that answers some request on two sheets of this world
   pub record Honest (g : Page) : Type 0 where

@@ -187,19 +187,23 @@ fn pair_of(g: Page, k: usize) -> Pair
 }
 
 impl Book {
-    // A book of a list, with nothing held; 3 where an edition is out of range.
+    // A book of a list, with nothing held; 3 where an edition is out of range, then 21 where the threshold is.
     pub fn begin(source: Source) -> Begun
         ensures { λ r. ⌜ r ≡ begunFor source ⌝ }
     {
-        if words::is_edition(source.p_edition) & words::is_edition(source.q_edition) {
-            let b = Book {
-                held: 0,
-                closed: false,
-                source: source,
-            };
-            return Begun::Open(b);
+        if !(words::is_edition(source.p_edition) & words::is_edition(source.q_edition)) {
+            return Begun::Refused(3);
         }
-        Begun::Refused(3)
+        let no = list::threshold_no(source.threshold);
+        if no != 0 {
+            return Begun::Refused(no);
+        }
+        let b = Book {
+            held: 0,
+            closed: false,
+            source: source,
+        };
+        Begun::Open(b)
     }
 
     // The key to ask for next: that of the last held pair, read from its slot, and (0, 0) where nothing is held; 11 where more is held than there are slots.

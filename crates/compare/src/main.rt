@@ -250,7 +250,7 @@ fn turned(p: &[i32], q: &[i32], size: usize, t: Turn, pairs: [Pair; 16]) -> Turn
 }
 
 fn is_source(s: Source) -> bool {
-    (s.p_edition == 7) & (s.q_edition == 9)
+    (s.p_edition == 7) & (s.q_edition == 9) & (s.threshold == 0)
 }
 
 fn is_key(a: Key, b: Key) -> bool {
@@ -276,7 +276,7 @@ fn next_page(p: &[i32], q: &[i32], ps: &[i32], qs: &[i32], l: Listing) -> Listin
     let size = std::num::wrapping_add_usize(drawn(l.seed, 16), 1);
     let key = l.key;
     let at = l.at;
-    let r = ring::page::page(ps, qs, key, size);
+    let r = ring::page::page(ps, qs, key, size, 0);
     let page = r.page;
     let shown = page.key;
     let source = page.source;

@@ -15,6 +15,7 @@ use Rattle.ring.specs.declared.Pointed.{Pointed}
 use Rattle.ring.specs.declared.Filtered.{Filtered}
 use Rattle.ring.specs.declared.Walked.{Walked}
 use Rattle.ring.specs.declared.Paged.{Paged}
+use Rattle.ring.specs.declared.Partnered.{Partnered}
 use Rattle.view.specs.declared.Sheet.{Sheet}
 use Rattle.view.specs.Shown.{openOf}
 use Rattle.book.specs.declared.Book.{Book}
@@ -23,7 +24,7 @@ use Rattle.book.specs.declared.TakenArray.{TakenArray}
 use Rattle.book.specs.Rules.{takenSlots, lentOf, takenArray}
 use Rattle.runs.specs.declared.RunArray.{RunArray}
 use Rattle.runs.specs.Run as runs
-use Rattle.demands.specs.Promises.{Place, HeadAnswers, PointAnswers, FilterAnswers, RingAnswers, PageAnswers, NextAnswers, TakeAnswers, NextArrayAnswers, TakeArrayAnswers, RunAnswers, RunArrayAnswers, ViewPoints, ViewFilters, ViewRings, ViewPages, OpenHead, PointOpened, PointThrough, FilterThrough, RingThrough, PageThrough}
+use Rattle.demands.specs.Promises.{Place, HeadAnswers, PointAnswers, FilterAnswers, RingAnswers, PageAnswers, PartnersAnswers, NextAnswers, TakeAnswers, NextArrayAnswers, TakeArrayAnswers, RunAnswers, RunArrayAnswers, ViewPoints, ViewFilters, ViewRings, ViewPages, ViewPartners, OpenHead, PointOpened, PointThrough, FilterThrough, RingThrough, PageThrough, PartnersThrough}
 
 -- ---- through a view
 
@@ -39,8 +40,11 @@ view-filter p q j r a = record { κs = ([], ([], tt)); p-at = place (p .words); 
 pub view-ring : (p q : Sheet) (j i : ℕ) (r : Walked) → ViewRings p q j i r → RingAnswers (now (p .words)) (now (q .words)) j i r
 view-ring p q j i r a = record { κs = ([], ([], tt)); p-at = place (p .words); q-at = place (q .words); promised = a }
 
-pub view-page : (p q : Sheet) (key : Key) (size : ℕ) (r : Paged) → ViewPages p q key size r → PageAnswers (now (p .words)) (now (q .words)) key size r
-view-page p q key size r a = record { κs = ([], ([], tt)); p-at = place (p .words); q-at = place (q .words); promised = a }
+pub view-partners : (p q : Sheet) (id t : ℕ) (r : Partnered) → ViewPartners p q id t r → PartnersAnswers (now (p .words)) (now (q .words)) id t r
+view-partners p q id t r a = record { κs = ([], ([], tt)); p-at = place (p .words); q-at = place (q .words); promised = a }
+
+pub view-page : (p q : Sheet) (key : Key) (size t : ℕ) (r : Paged) → ViewPages p q key size t r → PageAnswers (now (p .words)) (now (q .words)) key size t r
+view-page p q key size t r a = record { κs = ([], ([], tt)); p-at = place (p .words); q-at = place (q .words); promised = a }
 
 -- ---- for callers that hold no view
 
@@ -61,8 +65,11 @@ filter-through P np mp Q nq mq j r a = record { κs = a .κs; p-at = a .p-at; q-
 pub ring-through : (P : List ℤ) (np mp : ℕ) (Q : List ℤ) (nq mq j i : ℕ) (r : Walked) → RingThrough P np mp Q nq mq j i r → RingAnswers P Q j i r
 ring-through P np mp Q nq mq j i r a = record { κs = a .κs; p-at = a .p-at; q-at = a .q-at; promised = a .promised }
 
-pub page-through : (P : List ℤ) (np mp : ℕ) (Q : List ℤ) (nq mq : ℕ) (key : Key) (size : ℕ) (r : Paged) → PageThrough P np mp Q nq mq key size r → PageAnswers P Q key size r
-page-through P np mp Q nq mq key size r a = record { κs = a .κs; p-at = a .p-at; q-at = a .q-at; promised = a .promised }
+pub partners-through : (P : List ℤ) (np mp : ℕ) (Q : List ℤ) (nq mq id t : ℕ) (r : Partnered) → PartnersThrough P np mp Q nq mq id t r → PartnersAnswers P Q id t r
+partners-through P np mp Q nq mq id t r a = record { κs = a .κs; p-at = a .p-at; q-at = a .q-at; promised = a .promised }
+
+pub page-through : (P : List ℤ) (np mp : ℕ) (Q : List ℤ) (nq mq : ℕ) (key : Key) (size t : ℕ) (r : Paged) → PageThrough P np mp Q nq mq key size t r → PageAnswers P Q key size t r
+page-through P np mp Q nq mq key size t r a = record { κs = a .κs; p-at = a .p-at; q-at = a .q-at; promised = a .promised }
 
 -- ---- slots kept in an array: the first so many are lent, the others are as they were
 

@@ -4,7 +4,7 @@
 --
 -- That every input is taken is proofs/Takes. Here is one theorem for each call: the number of its answer is the defined one, 0 where no rule is broken; and an answer with another number is that number and
 -- nothing else. None has a premise but that the call answered. The definitions of the numbers stand in the document's order: `openNo` of sheet/specs/Open,
--- `packNo` of pack/specs/Pack, `pointNo`, `filterNo`, `ringNo` of ring/specs/Numbers, `pageNo` of ring/specs/Page, `beginNo`, `nextNo`, `takeNo` of
+-- `packNo` of pack/specs/Pack, `pointNo`, `filterNo`, `ringNo` of ring/specs/Numbers, `pageNo` of ring/specs/Page, `partnersNo` of ring/specs/Partners, `beginNo`, `nextNo`, `takeNo` of
 -- book/specs/Rules, `markNo` of marker/specs/Mark, `runNo` of runs/specs/Run. For the calls through views and on arrays see proofs/Alike. What is lent as `&` cannot be written; what is lent as `&mut` (pack, take, leaf_run) is spoken of here.
 -- Assumes nothing.
 use mathlib.Core.Path.{_≡_, refl, sym, ap, subst, _∙_}
@@ -24,6 +24,7 @@ use Rattle.list.specs.declared.Page.{Page}
 use Rattle.ring.specs.Numbers.{pointNo, filterNo, ringNo}
 use Rattle.ring.specs.Answers.{pointedNo, unfiltered, walkedNo}
 use Rattle.ring.specs.Page.{pageNo, pageRefused}
+use Rattle.ring.specs.Partners.{partnersNo, partnersRefused}
 use Rattle.ring.specs.declared.Head.{Head}
 use Rattle.ring.specs.declared.Pointed.{Pointed}
 use Rattle.ring.specs.declared.Pointed.the-variants as pointing
@@ -31,6 +32,7 @@ use Rattle.ring.specs.declared.Filtered.{Filtered}
 use Rattle.ring.specs.declared.Walked.{Walked}
 use Rattle.ring.specs.declared.Walked.the-variants as walking
 use Rattle.ring.specs.declared.Paged.{Paged}
+use Rattle.ring.specs.declared.Partnered.{Partnered}
 use Rattle.ring.proofs.HeadLaws.{head-number, head-shut}
 use Rattle.ring.proofs.PointLaws.{point-refused}
 use Rattle.ring.proofs.FilterLaws.{filter-refused}
@@ -38,6 +40,7 @@ use Rattle.ring.proofs.RingLaws.{ring-refused}
 use Rattle.ring.proofs.PageLaws.{page-refused}
 use Rattle.ring.proofs.Once as of-ring
 use Rattle.ring.proofs.PageLaws as of-page
+use Rattle.ring.proofs.PartnersLaws as of-partners
 use Rattle.view.specs.declared.Opened.{Opened}
 use Rattle.view.specs.Shown.{shown}
 use Rattle.view.proofs.Once as of-view
@@ -66,7 +69,7 @@ use Rattle.runs.specs.declared.RunArray.{RunArray}
 use Rattle.runs.specs.Run.{runNo, runRefused, runAnswer, runSlots, lentOf as lentForRun}
 use Rattle.runs.proofs.Once as of-runs
 use Rattle.runs.proofs.Meaning as of-run
-use Rattle.demands.specs.Promises.{OpenAnswers, HeadAnswers, PointAnswers, FilterAnswers, RingAnswers, PageAnswers, ShortAnswers, PackAnswers, MarkAnswers, BeginAnswers, NextAnswers, TakeAnswers, TakeArrayAnswers, RunAnswers, RunArrayAnswers, ViewOpens}
+use Rattle.demands.specs.Promises.{OpenAnswers, HeadAnswers, PointAnswers, FilterAnswers, RingAnswers, PageAnswers, ShortAnswers, PackAnswers, MarkAnswers, BeginAnswers, NextAnswers, TakeAnswers, TakeArrayAnswers, RunAnswers, RunArrayAnswers, ViewOpens, PartnersAnswers}
 use Rattle.demands.proofs.Alike.{take-array, take-array-slots, run-array, run-array-slots}
 
 -- the number k is one of refusal
@@ -114,12 +117,12 @@ pub ring-no : (P Q : List ℤ) (j i : ℕ) (r : Walked) → RingAnswers P Q j i 
     → (walkedNo r ≡ ringNo P Q j i) × (Refuses (ringNo P Q j i) → r ≡ walking.Refused (ringNo P Q j i))
 ring-no P Q j i r a = (ap walkedNo (a .promised) ∙ of-ring.ring-no P Q j i, λ ne. a .promised ∙ sym (ring-refused P Q j i (ringNo P Q j i) refl ne))
 
--- ---- the page request, 1 to 8 for P, then for Q, then 9, then 10: refused, the page is all zero, and so is its count
+-- ---- the page request, 1 to 8 for P, then for Q, then 9, then 10, then 21: refused, the page is all zero, and so is its count
 
-pub page-no : (P Q : List ℤ) (key : Key) (size : ℕ) (r : Paged) → PageAnswers P Q key size r
-    → (r .number ≡ pageNo P Q key size) × (Refuses (pageNo P Q key size) → r ≡ pageRefused (pageNo P Q key size))
-page-no P Q key size r a =
-    (ap (λ (x : Paged). x .number) (a .promised) ∙ of-page.page-no P Q key size, λ ne. a .promised ∙ page-refused P Q key size (pageNo P Q key size) refl ne)
+pub page-no : (P Q : List ℤ) (key : Key) (size t : ℕ) (r : Paged) → PageAnswers P Q key size t r
+    → (r .number ≡ pageNo P Q key size t) × (Refuses (pageNo P Q key size t) → r ≡ pageRefused (pageNo P Q key size t))
+page-no P Q key size t r a =
+    (ap (λ (x : Paged). x .number) (a .promised) ∙ of-page.page-no P Q key size t, λ ne. a .promised ∙ page-refused P Q key size t (pageNo P Q key size t) refl ne)
 
 -- ---- the shortest circles, 1 to 8 for P, then for Q, then 10: refused, the number of pairs is 0, and each pair is three zeros
 
@@ -128,7 +131,14 @@ pub short-no : (P Q : List ℤ) (k : ℕ) (r : Shortlist) → ShortAnswers P Q k
 short-no P Q k r a =
     (ap (λ (x : Shortlist). x .number) (a .promised) ∙ of-shortest.short-no P Q k, λ ne. a .promised ∙ of-shortest.answer-refused P Q k (shortNo P Q k) refl ne)
 
--- ---- begin, 3
+-- ---- the question for a chamber's partners, 1 to 8 for P, then for Q, then 20, then 21: refused, the count is 0, and there is no yes
+
+pub partners-no : (P Q : List ℤ) (id t : ℕ) (r : Partnered) → PartnersAnswers P Q id t r
+    → (r .number ≡ partnersNo P Q id t) × (Refuses (partnersNo P Q id t) → r ≡ partnersRefused (partnersNo P Q id t))
+partners-no P Q id t r a =
+    (ap (λ (x : Partnered). x .number) (a .promised) ∙ of-partners.partners-no P Q id t, λ ne. a .promised ∙ of-partners.partners-refused P Q id t (partnersNo P Q id t) refl ne)
+
+-- ---- begin, 3, then 21
 
 only-begun : (k : ℕ) (r : Begun) → begunNo r ≡ k → Refuses k → r ≡ begun.Refused k
 unfolding begunNo

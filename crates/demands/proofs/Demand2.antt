@@ -5,9 +5,11 @@
 --     kept-partner       the filter walk keeps every ring partner.  kept-count, kept-unused: its count is that of the positions kept, and unused bits are 0
 --     clear-iff          the ring walk is clear exactly for a ring pair; point-blocks, side-blocks: what it names does block, and a side that it names is the first that qualifies
 --     pair-exact         a ring pair is a kept position whose ring walk is clear, and no other
---     page-pairs         a page is that of the list: pairs, number, end mark.  page-opened: the count beside it is that of the defined walks
+--     page-pairs         a page is that of t's list: pairs, number, end mark.  page-full: for t 0, of the full list.  page-opened: the count beside it is that of the defined walks
 --     pair-size          each pair that a page shows has the squared diameter of the places of its two records
---     pages-list         following the pages from (0, 0) gives the list
+--     pages-list         following the pages from (0, 0) gives t's list
+--     threshold-exact    a pair stands in t's list exactly if it stands in the full list and its chamber has at least t pairs there.  threshold-whole: such a chamber has all its pairs in it.  threshold-full: the list of 0 is the full list
+--     partners-exact     the single question: the smaller of t and the number of the chamber's pairs in the list, and a yes exactly when that is t.  partners-yes: exactly when there are at least t
 --     list-exact         two records are listed exactly if they are a ring pair.  list-only, list-once: nothing else is, and nothing twice
 --     list-by-points     sheets with the same points give the same list, and the same pairs, number and end mark of every page
 --     nearest-listed     a chamber and a pump house at the least distance are a pair.  never-empty, first-visit: so of two sheets that are not empty the list is not, and its first page shows a pair
@@ -18,14 +20,16 @@
 --     return-trip        pack, then open, gives the same points back
 -- Assumes nothing.
 use mathlib.Core.Path.{_≡_, refl, sym, ap, ap₂, subst, _∙_}
-use mathlib.Core.Bool.{true, _&&_}
-use mathlib.Core.Logic.{_↔_}
-use mathlib.Core.List.{List, List·Memᴰ}
+use mathlib.Core.Bool.{true, false, cond, _&&_}
+use mathlib.Core.Logic.{_↔_, ⊎-elim}
+use mathlib.Core.List.{List, [], List·Memᴰ}
 use Prim.Native.Nat.{ℕ, _+_, _*_, _≤_, _<_}
 use native.Mathlib.Omega.{arith}
+use lib.Dec.{eqb, leb}
 use lib.IntN.{ℤ, pos}
 use lib.ListN.{length, getD, take, drop, length-take}
-use borrow.Author.Tests.{eq-eqb}
+use borrow.Author.Tests.{eq-eqb, eqb-true, le-leb, leb-true}
+use Rattle.integers.specs.Bools.{decide}
 use Rattle.words.specs.Range.{lastId}
 use Rattle.words.proofs.TabLaws.{at-tab}
 use Rattle.plane.specs.Point.{Point, pointAt, idAt, spotAt}
@@ -40,15 +44,16 @@ use Rattle.bits.specs.Set.{at, kept, cardIn}
 use Rattle.list.specs.declared.Key.{Key}
 use Rattle.list.specs.declared.Pair.{Pair}
 use Rattle.list.specs.declared.Page.{Page}
-use Rattle.list.specs.Pairs.{start, none, after}
-use Rattle.list.specs.Pages.{pageOf, pagePairs, shown, followed}
+use Rattle.list.specs.Pairs.{start, none, after, chamberPairs}
+use Rattle.list.specs.Pages.{pageOf, pagePairs, shown, followed, lastThreshold}
 use Rattle.list.specs.Rows.{Rising}
-use Rattle.list.specs.RingList.{ringPair, sizeOf, pairAt, ringList}
+use Rattle.list.specs.RingList.{ringPair, sizeOf, pairAt, ringList, thresholdList}
 use Rattle.list.proofs.PageLaws.{page-shows, shown-member}
 use Rattle.list.specs.Nearest.{Nearest}
 use Rattle.list.proofs.Order.{after-all}
 use Rattle.list.proofs.NearestLaws as of-nearest
 use Rattle.list.proofs.RowLaws.{Placed, ring-ascends, ring-iff, ring-only, ring-size, ring-once}
+use Rattle.list.proofs.ThresholdLaws.{threshold-none, threshold-pairs, threshold-iff, threshold-in}
 use Rattle.walk.specs.declared.Blocker.{Blocker}
 use Rattle.walk.specs.declared.Edge.{Edge}
 use Rattle.walk.specs.declared.Hit.the-variants.{Point as PointHit, Side}
@@ -59,21 +64,25 @@ use Rattle.walk.specs.Claims.{BlocksPair, BlocksPairBySide, overP, overQ}
 use Rattle.walk.proofs.Meaning as of-walk
 use Rattle.join.specs.Work.{pageOpened}
 use Rattle.join.specs.Sheets.{walksOf}
+use Rattle.join.specs.Threshold.{walksFor, smaller}
 use Rattle.join.proofs.Meaning as of-join
 use Rattle.ring.specs.Numbers.{first, sheetsNo, positionNo, pointNo, filterNo, ringNo}
 use Rattle.ring.specs.Answers.{assetOf, filteredTo, walkedClear}
 use Rattle.ring.specs.Page.{sizeNo, sourceOf, pageGiven, pageAnswer}
+use Rattle.ring.specs.Partners.{partnersCount, partnersGiven}
 use Rattle.ring.specs.declared.Pointed.{Pointed}
 use Rattle.ring.specs.declared.Pointed.the-variants.{At}
 use Rattle.ring.specs.declared.Filtered.{Filtered}
 use Rattle.ring.specs.declared.Walked.{Walked}
 use Rattle.ring.specs.declared.Walked.the-variants.{Done}
 use Rattle.ring.specs.declared.Paged.{Paged}
+use Rattle.ring.specs.declared.Partnered.{Partnered}
 use Rattle.ring.proofs.NumberLaws.{first-passes, position-in}
 use Rattle.ring.proofs.FilterLaws.{filter-given}
 use Rattle.ring.proofs.RingLaws.{ring-given}
 use Rattle.ring.proofs.PointLaws.{point-given}
 use Rattle.ring.proofs.PageLaws as of-page
+use Rattle.ring.proofs.PartnersLaws as of-partners
 use Rattle.pack.specs.Pack.{pointsIn}
 use Rattle.pack.specs.Claims.{Returned}
 use Rattle.pack.proofs.ReturnTrip as of-pack
@@ -86,19 +95,20 @@ use Rattle.runs.specs.Run.{leafNo, runNo, runGiven, runAnswer}
 use Rattle.runs.proofs.DecideLaws.{leaf-here}
 use Rattle.runs.proofs.Meaning as of-run
 use Rattle.runs.proofs.Once as of-runs
-use Rattle.demands.specs.Promises.{OpenAnswers, PointAnswers, FilterAnswers, RingAnswers, PageAnswers, PackAnswers, RunAnswers}
+use Rattle.demands.specs.Promises.{OpenAnswers, PointAnswers, FilterAnswers, RingAnswers, PageAnswers, PartnersAnswers, PackAnswers, RunAnswers}
 use Rattle.demands.proofs.ByRow.{InTurn, in-turn}
 
 -- the words are a sheet: "every well-formed sheet"
 abbrev pub WellFormed : List ℤ → Type 0
 WellFormed w = openNo form1 w ≡ 0
 
--- a key with ids 0 to 2,000,000,000, and a size 1 to 16
-pub record InRange (key : Key) (size : ℕ) : Type 0 where
+-- a key with ids 0 to 2,000,000,000, a size 1 to 16, and a t 0 to 1,000
+pub record InRange (key : Key) (size t : ℕ) : Type 0 where
   pub q-in : key .q ≤ lastId
   pub p-in : key .p ≤ lastId
   pub some : 1 ≤ size
   pub most : size ≤ 16
+  pub fair : t ≤ lastThreshold
 
 facts : (w : List ℤ) → WellFormed w → Opens w (points w) (nodes w)
 facts w e = open-facts form1 form1-fair w e
@@ -182,47 +192,108 @@ module _ (P Q : List ℤ) (p-opens : WellFormed P) (q-opens : WellFormed Q) wher
 
   -- ---- pages
 
-  page-is : (key : Key) (size : ℕ) (r : Paged) → InRange key size → PageAnswers P Q key size r → r ≡ pageGiven P Q key size
-  page-is key size r h a = a .promised ∙ of-page.page-served P Q key size sheets (h .q-in) (h .p-in) (h .some) (h .most)
+  -- "0 for the full list"
+  pub threshold-full : thresholdList 0 (pointsOf P) (pointsOf Q) ≡ ringList (pointsOf P) (pointsOf Q)
+  threshold-full = threshold-none (pointsOf P) (pointsOf Q)
+
+  rise-p : Rising (idAt (pointsOf P)) (length (pointsOf P))
+  rise-p = of-join.points-rise (facts P p-opens)
+
+  rise-q : Rising (idAt (pointsOf Q)) (length (pointsOf Q))
+  rise-q = of-join.points-rise (facts Q q-opens)
+
+  page-is : (key : Key) (size t : ℕ) (r : Paged) → InRange key size t → PageAnswers P Q key size t r → r ≡ pageGiven P Q key size t
+  page-is key size t r h a = a .promised ∙ of-page.page-served P Q key size t sheets (h .q-in) (h .p-in) (h .some) (h .most) (h .fair)
 
   -- "The page holds both editions, the key, the first `size` ring pairs strictly after the key (fewer if fewer follow), their number and an end mark, set exactly
-  -- when no ring pair follows the last one shown, or follows the key if none is shown." "Unused pairs are three zeros."
-  pub page-pairs : (key : Key) (size : ℕ) (r : Paged) → InRange key size → PageAnswers P Q key size r
-      → (r .number ≡ 0) × (r .page ≡ pageOf (sourceOf P Q) (ringList (pointsOf P) (pointsOf Q)) key size)
+  -- when no ring pair follows the last one shown, or follows the key if none is shown." "Unused pairs are three zeros." "Pages and books now carry t, 0 for the full list".
+  pub page-pairs : (key : Key) (size t : ℕ) (r : Paged) → InRange key size t → PageAnswers P Q key size t r
+      → (r .number ≡ 0) × (r .page ≡ pageOf (sourceOf P Q t) (thresholdList t (pointsOf P) (pointsOf Q)) key size)
   unfolding pageGiven
-  page-pairs key size r h a = let e = page-is key size r h a in (ap (λ (x : Paged). x .number) e, ap (λ (x : Paged). x .page) e)
+  page-pairs key size t r h a = let e = page-is key size t r h a in (ap (λ (x : Paged). x .number) e, ap (λ (x : Paged). x .page) e)
+
+  -- "0 for the full list"
+  pub page-full : (key : Key) (size : ℕ) (r : Paged) → InRange key size 0 → PageAnswers P Q key size 0 r
+      → r .page ≡ pageOf (sourceOf P Q 0) (ringList (pointsOf P) (pointsOf Q)) key size
+  page-full key size r h a = page-pairs key size 0 r h a .1 ∙ ap (λ (l : List Pair). pageOf (sourceOf P Q 0) l key size) threshold-full
 
   -- the size of a listed pair, by the words of the sheets
   listed-size : (v : Pair) → List·Memᴰ v (ringList (pointsOf P) (pointsOf Q))
       → (j i : ℕ) → j < points Q → i < points P → idAt (pointsOf Q) j ≡ v .q → idAt (pointsOf P) i ≡ v .p → v .size ≡ sizeOf (spotOf Q j) (spotOf P i)
   listed-size v m j i j-in i-in e f =
-      ring-size (pointsOf P) (pointsOf Q) (of-join.points-rise (facts P p-opens)) (of-join.points-rise (facts Q q-opens)) v m j i (omega (arith, length-points Q)) (omega (arith, length-points P)) e f
+      ring-size (pointsOf P) (pointsOf Q) rise-p rise-q v m j i (omega (arith, length-points Q)) (omega (arith, length-points P)) e f
       ∙ ap₂ sizeOf (spot-of Q j j-in) (spot-of P i i-in)
 
   -- "Each pair in pages [..] now has its squared diameter beside the ids": that of the places of the two records with these ids.
-  pub pair-size : (key : Key) (size : ℕ) (r : Paged) → InRange key size → PageAnswers P Q key size r → (v : Pair) → List·Memᴰ v (pagePairs (r .page))
+  pub pair-size : (key : Key) (size t : ℕ) (r : Paged) → InRange key size t → PageAnswers P Q key size t r → (v : Pair) → List·Memᴰ v (pagePairs (r .page))
       → (j i : ℕ) → j < points Q → i < points P → idAt (pointsOf Q) j ≡ v .q → idAt (pointsOf P) i ≡ v .p → v .size ≡ sizeOf (spotOf Q j) (spotOf P i)
-  pair-size key size r h a v m =
-      let l = ringList (pointsOf P) (pointsOf Q) in
-      let s : pagePairs (r .page) ≡ shown l key size = ap pagePairs (page-pairs key size r h a .1) ∙ page-shows key (sourceOf P Q) l size in
-      listed-size v (shown-member l key size v (subst (List·Memᴰ v) s m))
+  pair-size key size t r h a v m =
+      let l = thresholdList t (pointsOf P) (pointsOf Q) in
+      let s : pagePairs (r .page) ≡ shown l key size = ap pagePairs (page-pairs key size t r h a .1) ∙ page-shows key (sourceOf P Q t) l size in
+      listed-size v (threshold-in (pointsOf P) (pointsOf Q) rise-p rise-q t v (shown-member l key size v (subst (List·Memᴰ v) s m)))
 
-  -- "Beside the page stands its count of nodes opened": that of the walks as they are defined, the filter walks' kept sets on sixteen words.
-  pub page-opened : (key : Key) (size : ℕ) (r : Paged) → InRange key size → PageAnswers P Q key size r
-      → r .opened ≡ pageOpened (walksOf 16 P Q) key size (points P) (points Q)
+  -- "Beside the page stands its count of nodes opened": that of the walks as they are defined, the filter walks' kept sets on sixteen words. "With t above 0 a page's count
+  -- takes in all kept partners of each chamber reached, the last one too": `walksFor` of join/specs/Threshold.
+  pub page-opened : (key : Key) (size t : ℕ) (r : Paged) → InRange key size t → PageAnswers P Q key size t r
+      → r .opened ≡ pageOpened (walksFor (walksOf 16 P Q) (points P) t) key size (points P) (points Q)
   unfolding pageGiven
-  page-opened key size r h a = ap (λ (x : Paged). x .opened) (page-is key size r h a)
+  page-opened key size t r h a = ap (λ (x : Paged). x .opened) (page-is key size t r h a)
 
-  -- Following the pages from (0, 0), each next key the last pair shown, whatever the sizes from 1 to 16, gives the whole list, each pair once. `ask` is the page
+  -- Following the pages from (0, 0), each next key the last pair shown, whatever the sizes from 1 to 16, gives the whole list of t, each pair once. `ask` is the page
   -- request: for every key and size it gives an answer that the promise admits.
-  pub pages-list : (ask : Key → ℕ → Paged) → ((key : Key) (size : ℕ) → PageAnswers P Q key size (ask key size))
+  pub pages-list : (t : ℕ) → t ≤ lastThreshold → (ask : Key → ℕ → Paged) → ((key : Key) (size : ℕ) → PageAnswers P Q key size t (ask key size))
       → (sizes : ℕ → ℕ) → ((k : ℕ) → sizeNo (sizes k) ≡ 0)
-      → followed (length (ringList (pointsOf P) (pointsOf Q))) sizes (λ key size. ask key size .page) start ≡ ringList (pointsOf P) (pointsOf Q)
-  pages-list ask a sizes s =
+      → followed (length (thresholdList t (pointsOf P) (pointsOf Q))) sizes (λ key size. ask key size .page) start ≡ thresholdList t (pointsOf P) (pointsOf Q)
+  pages-list t most ask a sizes s =
       let asked : Key → ℕ → Page = λ key size. ask key size .page in
-      let defined : Key → ℕ → Page = λ key size. pageAnswer P Q key size .page in
-      let same : asked ≡ defined = λ t key size. a key size .promised t .page in
-      ap (λ (f : Key → ℕ → Page). followed (length (ringList (pointsOf P) (pointsOf Q))) sizes f start) same ∙ of-page.pages-list P Q sheets sizes s
+      let defined : Key → ℕ → Page = λ key size. pageAnswer P Q key size t .page in
+      let same : asked ≡ defined = λ i key size. a key size .promised i .page in
+      ap (λ (f : Key → ℕ → Page). followed (length (thresholdList t (pointsOf P) (pointsOf Q))) sizes f start) same ∙ of-page.pages-list P Q sheets t most sizes s
+
+  -- ---- which chambers have at least t partners
+
+  -- the pairs of the chamber with this id in the full list
+  abbrev pub pairsWith : ℕ → List Pair
+  pairsWith id = chamberPairs id (ringList (pointsOf P) (pointsOf Q))
+
+  -- A pair stands in the list of t exactly if it stands in the full list and its chamber has at least t pairs there.
+  pub threshold-exact : (t : ℕ) (v : Pair) → List·Memᴰ v (thresholdList t (pointsOf P) (pointsOf Q)) ↔ (List·Memᴰ v (ringList (pointsOf P) (pointsOf Q)) × (t ≤ length (pairsWith (v .q))))
+  threshold-exact t v = threshold-iff (pointsOf P) (pointsOf Q) rise-p rise-q t v
+
+  -- "list all such chambers by id with all their pairs": of a chamber that has at least t pairs the list of t has them all, of another none.
+  pub threshold-whole : (t j : ℕ) → j < points Q
+      → chamberPairs (idAt (pointsOf Q) j) (thresholdList t (pointsOf P) (pointsOf Q)) ≡ cond (leb t (length (pairsWith (idAt (pointsOf Q) j)))) (pairsWith (idAt (pointsOf Q) j)) []
+  threshold-whole t j j-in = threshold-pairs (pointsOf P) (pointsOf Q) rise-p rise-q t j (omega (arith, length-points Q))
+
+  -- "For one q id and a t, give the smaller of t and the number of its pairs in the list, and a yes exactly when that is t."
+  module _ (id t : ℕ) (r : Partnered) (a : PartnersAnswers P Q id t r) (j : ℕ) (j-in : j < points Q) (named : idAt (pointsOf Q) j ≡ id) (some : 1 ≤ t) (most : t ≤ lastThreshold) where
+    partners-are : r ≡ partnersGiven P Q id t
+    partners-are = a .promised ∙ of-partners.partners-served P Q id t sheets j (omega (arith, length-points Q)) named some most
+
+    pub partners-exact : (r .number ≡ 0) × (r .count ≡ smaller t (length (pairsWith id))) × (r .enough ≡ eqb (r .count) t)
+    unfolding partnersGiven partnersCount
+    partners-exact = (
+      ap (λ (x : Partnered). x .number) partners-are,
+      ap (λ (x : Partnered). x .count) partners-are,
+      subst (λ (x : Partnered). x .enough ≡ eqb (x .count) t) (sym partners-are) refl,
+    )
+
+    -- so the yes says that the chamber has at least t pairs in the list
+    pub partners-yes : (r .enough ≡ true) ↔ (t ≤ length (pairsWith id))
+    unfolding smaller
+    partners-yes = (λ e. there (eqb-true (r .count) t (sym (partners-exact .2) ∙ e)), λ l. partners-exact .2 ∙ eq-eqb (r .count) t (partners-exact .1 ∙ back l))
+      where
+        back : t ≤ length (pairsWith id) → smaller t (length (pairsWith id)) ≡ t
+        back l = rw (le-leb t (length (pairsWith id)) l)
+
+        there : r .count ≡ t → t ≤ length (pairsWith id)
+        there e =
+            ⊎-elim
+            (λ (x : leb t (length (pairsWith id)) ≡ true). leb-true t (length (pairsWith id)) x)
+            (λ (x : leb t (length (pairsWith id)) ≡ false).
+            let z : smaller t (length (pairsWith id)) ≡ length (pairsWith id) = rw x in
+            omega (arith, z, partners-exact .1, e))
+            (decide (leb t (length (pairsWith id))))
 
   -- ---- the list
 
@@ -230,15 +301,15 @@ module _ (P Q : List ℤ) (p-opens : WellFormed P) (q-opens : WellFormed Q) wher
   pub list-exact : (j i : ℕ) → j < points Q → i < points P
       → List·Memᴰ (pairAt (pointsOf P) (pointsOf Q) j i) (ringList (pointsOf P) (pointsOf Q)) ↔ (ringPair (pointsOf P) (pointsOf Q) j i ≡ true)
   list-exact j i j-in i-in =
-      ring-iff (pointsOf P) (pointsOf Q) (of-join.points-rise (facts P p-opens)) (of-join.points-rise (facts Q q-opens)) j i (omega (arith, length-points Q)) (omega (arith, length-points P))
+      ring-iff (pointsOf P) (pointsOf Q) rise-p rise-q j i (omega (arith, length-points Q)) (omega (arith, length-points P))
 
   -- it holds no pair but those of two such records,
   pub list-only : (v : Pair) → List·Memᴰ v (ringList (pointsOf P) (pointsOf Q)) → Placed (ringPair (pointsOf P) (pointsOf Q)) (pairAt (pointsOf P) (pointsOf Q)) (length (pointsOf P)) (length (pointsOf Q)) v
-  list-only v m = ring-only (pointsOf P) (pointsOf Q) (of-join.points-rise (facts P p-opens)) (of-join.points-rise (facts Q q-opens)) v m
+  list-only v m = ring-only (pointsOf P) (pointsOf Q) rise-p rise-q v m
 
   -- "each once".
   pub list-once : (a b : ℕ) → a < b → b < length (ringList (pointsOf P) (pointsOf Q)) → getD (ringList (pointsOf P) (pointsOf Q)) a none ≡ getD (ringList (pointsOf P) (pointsOf Q)) b none → ⊥
-  list-once a b h k e = ring-once (pointsOf P) (pointsOf Q) (of-join.points-rise (facts P p-opens)) (of-join.points-rise (facts Q q-opens)) a b h k e
+  list-once a b h k e = ring-once (pointsOf P) (pointsOf Q) rise-p rise-q a b h k e
 
   -- ---- nobody is left with an empty sheet
 
@@ -255,12 +326,12 @@ module _ (P Q : List ℤ) (p-opens : WellFormed P) (q-opens : WellFormed Q) wher
     never-empty = of-nearest.never-empty (pointsOf P) (pointsOf Q) (omega (arith, length-points P)) (omega (arith, length-points Q))
 
     -- and its first page shows a pair.
-    pub first-visit : (size : ℕ) (r : Paged) → InRange start size → PageAnswers P Q start size r → 0 < r .page .count
+    pub first-visit : (size : ℕ) (r : Paged) → InRange start size 0 → PageAnswers P Q start size 0 r → 0 < r .page .count
     unfolding pageOf shown
     first-visit size r h a =
         let l = ringList (pointsOf P) (pointsOf Q) in
         let all : after start l ≡ l = after-all start l (ring-ascends (pointsOf P) (pointsOf Q) (of-join.points-rise (facts P p-opens)) (of-join.points-rise (facts Q q-opens))) in
-        let e : r .page .count ≡ length (take size l) = ap (λ (g : Page). g .count) (page-pairs start size r h a .1) ∙ ap (λ (x : List Pair). length (take size x)) all in
+        let e : r .page .count ≡ length (take size l) = ap (λ (g : Page). g .count) (page-full start size r h a) ∙ ap (λ (x : List Pair). length (take size x)) all in
         omega (arith, e, length-take size l, never-empty, h .some)
 
   -- ---- one run per leaf
@@ -383,15 +454,15 @@ module _ (P Q : List ℤ) (p-opens : WellFormed P) (q-opens : WellFormed Q) wher
 
 -- "It depends on the points alone": whatever the editions, the orders and the trees of two pairs of sheets.
 module _ (P P′ Q Q′ : List ℤ) (p-opens : WellFormed P) (p-opens′ : WellFormed P′) (q-opens : WellFormed Q) (q-opens′ : WellFormed Q′) (same-p : pointsOf P ≡ pointsOf P′) (same-q : pointsOf Q ≡ pointsOf Q′) where
-  pub same-list : ringList (pointsOf P) (pointsOf Q) ≡ ringList (pointsOf P′) (pointsOf Q′)
-  same-list = of-join.same-list P P′ Q Q′ same-p same-q
+  pub same-list : (t : ℕ) → thresholdList t (pointsOf P) (pointsOf Q) ≡ thresholdList t (pointsOf P′) (pointsOf Q′)
+  same-list t = of-join.same-list P P′ Q Q′ same-p same-q t
 
-  pub list-by-points : (key : Key) (size : ℕ) (r r′ : Paged) → InRange key size → PageAnswers P Q key size r → PageAnswers P′ Q′ key size r′
+  pub list-by-points : (key : Key) (size t : ℕ) (r r′ : Paged) → InRange key size t → PageAnswers P Q key size t r → PageAnswers P′ Q′ key size t r′
       → (r .page .pairs ≡ r′ .page .pairs) × (r .page .count ≡ r′ .page .count) × (r .page .end ≡ r′ .page .end)
-  list-by-points key size r r′ h a b =
-      let e = page-pairs P Q p-opens q-opens key size r h a .1 in
-      let f = page-pairs P′ Q′ p-opens′ q-opens′ key size r′ h b .1 in
-      let l = of-join.list-by-points P P′ Q Q′ same-p same-q (sourceOf P Q) (sourceOf P′ Q′) key size in
+  list-by-points key size t r r′ h a b =
+      let e = page-pairs P Q p-opens q-opens key size t r h a .1 in
+      let f = page-pairs P′ Q′ p-opens′ q-opens′ key size t r′ h b .1 in
+      let l = of-join.list-by-points P P′ Q Q′ same-p same-q t (sourceOf P Q t) (sourceOf P′ Q′ t) key size in
       (ap (λ (g : Page). g .pairs) e ∙ l .0 ∙ sym (ap (λ (g : Page). g .pairs) f), ap (λ (g : Page). g .count) e ∙ l .1 ∙ sym (ap (λ (g : Page). g .count) f), ap (λ (g : Page). g .end) e ∙ l .2 ∙ sym (ap (λ (g : Page). g .end) f))
 
 -- ---- the return trip

@@ -3,7 +3,7 @@
 -- when it holds all, and while it is open with room for all, each page that answers its own next request adds a pair or closes it."
 --
 -- The premises are in specs/World: `History w b s` is a book b with its slots s after any such history, every step of which is an answer that the promise of a shipped
--- call admits (`Book::begin`, `ring::page::page`, `Book::take`). `bookList w b` is the ring list of the book's two editions.
+-- call admits (`Book::begin`, `ring::page::page`, `Book::take`). `bookList w b` is the list of the book's t, of its two editions: "demand 3 holds for each t's list".
 --
 --     held-prefix     it holds the first so many pairs of its list
 --     held-size       each with the squared diameter of the places of its two records
@@ -31,10 +31,11 @@ use Rattle.list.specs.declared.Source.{Source}
 use Rattle.list.specs.declared.Page.{Page}
 use Rattle.list.specs.Pairs.{start, lastOr}
 use Rattle.list.specs.Pages.{shown, pageOf}
-use Rattle.list.specs.RingList.{sizeOf, ringList}
+use Rattle.list.specs.RingList.{sizeOf, ringList, thresholdList}
 use Rattle.list.proofs.Order.{last-holds}
 use Rattle.list.proofs.PageLaws.{shown-count, length-padded}
 use Rattle.list.proofs.RowLaws.{ring-size, ring-keys}
+use Rattle.list.proofs.ThresholdLaws.{threshold-in}
 use Rattle.join.proofs.Meaning.{points-sound}
 use Rattle.ring.specs.Numbers.{sheetsNo}
 use Rattle.ring.specs.Page.{askedNo, pageNo, sourceOf, pageGiven, pageAnswer}
@@ -68,18 +69,18 @@ module _ (w : Editions) where
       }
 
   -- the list of two sheets of this world is that of their editions
-  list-is : (P Q : List ℤ) → PumpSheet w P → ChamberSheet w Q → ringList (pointsOf P) (pointsOf Q) ≡ listOf worldOf (sourceOf P Q)
+  list-is : (P Q : List ℤ) → PumpSheet w P → ChamberSheet w Q → (t : ℕ) → thresholdList t (pointsOf P) (pointsOf Q) ≡ listOf worldOf (sourceOf P Q t)
   unfolding sourceOf
-  list-is P Q p q = ap (λ (x : List Point). ringList x (pointsOf Q)) (p .same) ∙ ap (ringList (pointsOf (w .pumps (sourceOf P Q .«p_edition»)))) (q .same)
+  list-is P Q p q t = ap (λ (x : List Point). thresholdList t x (pointsOf Q)) (p .same) ∙ ap (thresholdList t (pointsOf (w .pumps (sourceOf P Q t .«p_edition»)))) (q .same)
 
   -- "not altered or invented": a page that was answered is honest
   pub honest : (g : Page) → Answered w g → Honest worldOf g
   unfolding pageNo pageGiven sourceOf
   honest g a =
-      let no : pageNo (a .P) (a .Q) (a .key) (a .size) ≡ 0 = sym (demand1.page-no (a .P) (a .Q) (a .key) (a .size) (a .r) (a .answers) .0) ∙ a .given in
-      let sizes = asked-size (a .key) (a .size) (sym (first-passes (sheetsNo (a .P) (a .Q)) (askedNo (a .key) (a .size)) (demand2.sheets (a .P) (a .Q) (a .p-sheet .opens) (a .q-sheet .opens))) ∙ no) in
-      of-story.honest-from worldOf (sourceOf (a .P) (a .Q)) (a .key) (a .size) (pointsOf (a .P)) (pointsOf (a .Q)) g (sizes .0) (sizes .1) (sym (a .p-sheet .same)) (sym (a .q-sheet .same))
-      (a .is ∙ ap (λ (x : Paged). x .page) (a .answers .promised ∙ page-answered (a .P) (a .Q) (a .key) (a .size) no))
+      let no : pageNo (a .P) (a .Q) (a .key) (a .size) (a .t) ≡ 0 = sym (demand1.page-no (a .P) (a .Q) (a .key) (a .size) (a .t) (a .r) (a .answers) .0) ∙ a .given in
+      let sizes = asked-size (a .key) (a .size) (a .t) (sym (first-passes (sheetsNo (a .P) (a .Q)) (askedNo (a .key) (a .size) (a .t)) (demand2.sheets (a .P) (a .Q) (a .p-sheet .opens) (a .q-sheet .opens))) ∙ no) in
+      of-story.honest-from worldOf (sourceOf (a .P) (a .Q) (a .t)) (a .key) (a .size) (pointsOf (a .P)) (pointsOf (a .Q)) g (sizes .0) (sizes .1) (sym (a .p-sheet .same)) (sym (a .q-sheet .same))
+      (a .is ∙ ap (λ (x : Paged). x .page) (a .answers .promised ∙ page-answered (a .P) (a .Q) (a .key) (a .size) (a .t) no))
 
   reached : {b : Book} {s : List Pair} → History w b s → Reached worldOf b s
   reached (began s b slots a) = of-world.began s b slots (sym (a .promised))
@@ -89,6 +90,16 @@ module _ (w : Editions) where
       (sym (t .0))
       (subst (λ (x : List Pair). Reached worldOf (taken b slots g .book) x) (sym (t .1)) (of-world.took g (reached h) (honest g a)))
   reached (lent other h e f) = of-world.lent other (reached h) e f
+
+  -- a pair of the book's list is one of the full list
+  in-full : (b : Book) (v : Pair) → List·Memᴰ v (bookList w b) → List·Memᴰ v (ringList (worldOf .pumps (b .source .«p_edition»)) (worldOf .chambers (b .source .«q_edition»)))
+  in-full b =
+      threshold-in
+      (worldOf .pumps (b .source .«p_edition»))
+      (worldOf .chambers (b .source .«q_edition»))
+      (worldOf .pumps-sound (b .source .«p_edition») .rising)
+      (worldOf .chambers-sound (b .source .«q_edition») .rising)
+      (b .source .threshold)
 
   -- "Then a book begun empty always holds exactly the first so many pairs of its list"
   pub held-prefix : {b : Book} {s : List Pair} → History w b s
@@ -107,7 +118,7 @@ module _ (w : Editions) where
       (worldOf .chambers (b .source .«q_edition»))
       (worldOf .pumps-sound (b .source .«p_edition») .rising)
       (worldOf .chambers-sound (b .source .«q_edition») .rising)
-      v (subst (List·Memᴰ v) (take-append-drop (b .held) l) (Memᴰ·append-left (drop (b .held) l) (subst (List·Memᴰ v) (held-prefix h .2) m)))
+      v (in-full b v (subst (List·Memᴰ v) (take-append-drop (b .held) l) (Memᴰ·append-left (drop (b .held) l) (subst (List·Memᴰ v) (held-prefix h .2) m))))
 
   -- "calls itself closed only when it holds all"
   pub closed-all : {b : Book} {s : List Pair} → History w b s → b .closed ≡ true
@@ -122,12 +133,13 @@ module _ (w : Editions) where
 
   -- the keys of the book's list are in range
   keys-in : (b : Book) (v : Pair) → List·Memᴰ v (bookList w b) → (v .q ≤ lastId) × (v .p ≤ lastId)
-  keys-in b =
+  keys-in b v m =
       ring-keys
       (worldOf .pumps (b .source .«p_edition»))
       (worldOf .chambers (b .source .«q_edition»))
       (worldOf .pumps-sound (b .source .«p_edition») .rising)
       (worldOf .chambers-sound (b .source .«q_edition») .rising)
+      v (in-full b v m)
 
   module _ {b : Book} {s : List Pair} (h : History w b s) {g : Page} (o : OwnPage w b s g) where
     key-last : o .key ≡ lastOr start (take (b .held) s)
@@ -136,7 +148,7 @@ module _ (w : Editions) where
     key-due : o .key ≡ lastKey (b .held) s
     key-due = key-last ∙ sym (of-slice.last-held (b .held) s (held-prefix h .0))
 
-    in-range : demand2.InRange (o .key) (o .size)
+    in-range : demand2.InRange (o .key) (o .size) (b .source .threshold)
     in-range =
         let l = bookList w b in
         let z = last-holds (λ k. (k .q ≤ lastId) × (k .p ≤ lastId)) start (take (b .held) l) (omega arith, omega arith) (λ v m. keys-in b v (subst (List·Memᴰ v) (take-append-drop (b .held) l) (Memᴰ·append-left (drop (b .held) l) m))) in
@@ -146,10 +158,11 @@ module _ (w : Editions) where
           p-in = omega (arith, ap (λ (x : Key). x .p) k, z .1);
           some = o .some;
           most = o .most;
+          fair = of-story.begun-fair worldOf (reached h);
         }
 
-    given : (o .r .number ≡ 0) × (o .r .page ≡ pageOf (sourceOf (o .P) (o .Q)) (ringList (pointsOf (o .P)) (pointsOf (o .Q))) (o .key) (o .size))
-    given = demand2.page-pairs (o .P) (o .Q) (o .p-sheet .opens) (o .q-sheet .opens) (o .key) (o .size) (o .r) in-range (o .answers)
+    given : (o .r .number ≡ 0) × (o .r .page ≡ pageOf (sourceOf (o .P) (o .Q) (b .source .threshold)) (thresholdList (b .source .threshold) (pointsOf (o .P)) (pointsOf (o .Q))) (o .key) (o .size))
+    given = demand2.page-pairs (o .P) (o .Q) (o .p-sheet .opens) (o .q-sheet .opens) (o .key) (o .size) (b .source .threshold) (o .r) in-range (o .answers)
 
     own-answered : Answered w g
     own-answered =
@@ -160,6 +173,7 @@ module _ (w : Editions) where
           q-sheet = o .q-sheet;
           key = o .key;
           size = o .size;
+          t = b .source .threshold;
           r = o .r;
           answers = o .answers;
           given = given .0;
@@ -169,7 +183,7 @@ module _ (w : Editions) where
     own-is : g ≡ ownPage worldOf b s (o .size)
     own-is =
         o .is ∙ given .1
-        ∙ ap (λ (l : List Pair). pageOf (sourceOf (o .P) (o .Q)) l (o .key) (o .size)) (list-is (o .P) (o .Q) (o .p-sheet) (o .q-sheet))
+        ∙ ap (λ (l : List Pair). pageOf (sourceOf (o .P) (o .Q) (b .source .threshold)) l (o .key) (o .size)) (list-is (o .P) (o .Q) (o .p-sheet) (o .q-sheet) (b .source .threshold))
         ∙ ap (λ (x : Source). pageOf x (listOf worldOf x) (o .key) (o .size)) (o .of-book)
         ∙ ap (λ (k : Key). pageOf (b .source) (listOf worldOf (b .source)) k (o .size)) key-due
 
@@ -208,12 +222,12 @@ module _ (w : Editions) where
       (decide (b .closed))
 
   -- None of this is empty talk: where there is a sheet of each of its two editions, a book can ask any number of times, and so it can be closed.
-  pub can-ask : (k : ℕ) {b : Book} {s : List Pair} → History w b s → (P Q : List ℤ) → PumpSheet w P → ChamberSheet w Q → sourceOf P Q ≡ b .source → (size : ℕ) → 1 ≤ size → size ≤ 16
+  pub can-ask : (k : ℕ) {b : Book} {s : List Pair} → History w b s → (P Q : List ℤ) → PumpSheet w P → ChamberSheet w Q → sourceOf P Q (b .source .threshold) ≡ b .source → (size : ℕ) → 1 ≤ size → size ≤ 16
       → (b′ : Book) × (s′ : List Pair) × Asking w k b s b′ s′
   can-ask zero {b} {s} h P Q p q e size some most = (b, s, stops b s)
   can-ask (suc k) {b} {s} h P Q p q e size some most =
       let key = lastKey (b .held) s in
-      let r = pageAnswer P Q key size in
+      let r = pageAnswer P Q key size (b .source .threshold) in
       let somewhere : Place = record { address = (0, 0); name = 0 } in
       let o : OwnPage w b s (r .page) =
       record {
@@ -235,10 +249,10 @@ module _ (w : Editions) where
       } in
       let t = taken b s (r .page) in
       let s′ = takenSlots b s (r .page) in
-      let m = can-ask k (took (r .page) t s′ h (own-answered h o) (refl, refl)) P Q p q (e ∙ sym (of-take.same-book-source b s (r .page))) size some most in
+      let m = can-ask k (took (r .page) t s′ h (own-answered h o) (refl, refl)) P Q p q (ap (λ (x : Source). sourceOf P Q (x .threshold)) (of-take.same-book-source b s (r .page)) ∙ e ∙ sym (of-take.same-book-source b s (r .page))) size some most in
       (m .0, m .1, asks (r .page) t s′ o (refl, refl) (m .2))
 
-  pub can-close : {b : Book} {s : List Pair} → History w b s → length (bookList w b) ≤ length s → (P Q : List ℤ) → PumpSheet w P → ChamberSheet w Q → sourceOf P Q ≡ b .source
+  pub can-close : {b : Book} {s : List Pair} → History w b s → length (bookList w b) ≤ length s → (P Q : List ℤ) → PumpSheet w P → ChamberSheet w Q → sourceOf P Q (b .source .threshold) ≡ b .source
       → (b′ : Book) × (s′ : List Pair) × Asking w (suc (length (bookList w b))) b s b′ s′ × (b′ .closed ≡ true)
   can-close {b} h room P Q p q e =
       let m = can-ask (suc (length (bookList w b))) h P Q p q e 16 (omega arith) (omega arith) in

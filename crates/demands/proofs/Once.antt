@@ -16,6 +16,7 @@ use Rattle.ring.specs.declared.Pointed.{Pointed}
 use Rattle.ring.specs.declared.Filtered.{Filtered}
 use Rattle.ring.specs.declared.Walked.{Walked}
 use Rattle.ring.specs.declared.Paged.{Paged}
+use Rattle.ring.specs.declared.Partnered.{Partnered}
 use Rattle.view.specs.declared.Sheet.{Sheet}
 use Rattle.view.specs.declared.Opened.{Opened}
 use Rattle.view.specs.Shown.{shown}
@@ -31,12 +32,13 @@ use Rattle.runs.specs.declared.RunArray.{RunArray}
 use Rattle.ring.proofs.Once as of-ring
 use Rattle.ring.proofs.PageLaws as of-page
 use Rattle.shortest.proofs.AnswerLaws as of-shortest
+use Rattle.ring.proofs.PartnersLaws as of-partners
 use Rattle.view.proofs.Once as of-view
 use Rattle.book.proofs.Once as of-book
 use Rattle.pack.proofs.Once as of-pack
 use Rattle.marker.proofs.Once as of-marker
 use Rattle.runs.proofs.Once as of-runs
-use Rattle.demands.specs.Promises.{OpenAnswers, HeadAnswers, PointAnswers, FilterAnswers, RingAnswers, PageAnswers, ShortAnswers, PackAnswers, MarkAnswers, BeginAnswers, NextAnswers, TakeAnswers, NextArrayAnswers, TakeArrayAnswers, RunAnswers, RunArrayAnswers, ViewOpens, ViewPoints, ViewFilters, ViewRings, ViewPages, OpenHead, PointOpened, PointThrough, FilterThrough, RingThrough, PageThrough}
+use Rattle.demands.specs.Promises.{OpenAnswers, HeadAnswers, PointAnswers, FilterAnswers, RingAnswers, PageAnswers, ShortAnswers, PackAnswers, MarkAnswers, BeginAnswers, NextAnswers, TakeAnswers, NextArrayAnswers, TakeArrayAnswers, RunAnswers, RunArrayAnswers, ViewOpens, ViewPoints, ViewFilters, ViewRings, ViewPages, OpenHead, PointOpened, PointThrough, FilterThrough, RingThrough, PageThrough, PartnersAnswers, ViewPartners, PartnersThrough}
 
 -- ---- ring
 
@@ -55,8 +57,11 @@ filter-once P Q j r r′ a b = of-ring.filter-once P Q j r r′ (a .promised) (b
 pub ring-once : (P Q : List ℤ) (j i : ℕ) (r r′ : Walked) → RingAnswers P Q j i r → RingAnswers P Q j i r′ → r ≡ r′
 ring-once P Q j i r r′ a b = of-ring.ring-once P Q j i r r′ (a .promised) (b .promised)
 
-pub page-once : (P Q : List ℤ) (key : Key) (size : ℕ) (r r′ : Paged) → PageAnswers P Q key size r → PageAnswers P Q key size r′ → r ≡ r′
-page-once P Q key size r r′ a b = of-page.page-once P Q key size r r′ (a .promised) (b .promised)
+pub page-once : (P Q : List ℤ) (key : Key) (size t : ℕ) (r r′ : Paged) → PageAnswers P Q key size t r → PageAnswers P Q key size t r′ → r ≡ r′
+page-once P Q key size t r r′ a b = of-page.page-once P Q key size t r r′ (a .promised) (b .promised)
+
+pub partners-once : (P Q : List ℤ) (id t : ℕ) (r r′ : Partnered) → PartnersAnswers P Q id t r → PartnersAnswers P Q id t r′ → r ≡ r′
+partners-once P Q id t r r′ a b = of-partners.partners-once P Q id t r r′ (a .promised) (b .promised)
 
 pub shortest-once : (P Q : List ℤ) (k : ℕ) (r r′ : Shortlist) → ShortAnswers P Q k r → ShortAnswers P Q k r′ → r ≡ r′
 shortest-once P Q k r r′ a b = of-shortest.short-once P Q k r r′ (a .promised) (b .promised)
@@ -112,8 +117,11 @@ view-filter-once p q j r r′ x y = of-view.filter-once p p q q j r r′ refl re
 pub view-ring-once : (p q : Sheet) (j i : ℕ) (r r′ : Walked) → ViewRings p q j i r → ViewRings p q j i r′ → r ≡ r′
 view-ring-once p q j i r r′ x y = of-view.ring-once p p q q j i r r′ refl refl x y
 
-pub view-page-once : (p q : Sheet) (key : Key) (size : ℕ) (r r′ : Paged) → ViewPages p q key size r → ViewPages p q key size r′ → r ≡ r′
-view-page-once p q key size r r′ x y = of-view.page-once p p q q key size r r′ refl refl x y
+pub view-page-once : (p q : Sheet) (key : Key) (size t : ℕ) (r r′ : Paged) → ViewPages p q key size t r → ViewPages p q key size t r′ → r ≡ r′
+view-page-once p q key size t r r′ x y = of-view.page-once p p q q key size t r r′ refl refl x y
+
+pub view-partners-once : (p q : Sheet) (id t : ℕ) (r r′ : Partnered) → ViewPartners p q id t r → ViewPartners p q id t r′ → r ≡ r′
+view-partners-once p q id t r r′ x y = of-view.partners-once p p q q id t r r′ refl refl x y
 
 pub open-head-once : (w : List ℤ) (r r′ : Head) → OpenHead w r → OpenHead w r′ → r ≡ r′
 open-head-once w r r′ a b = of-ring.head-once w r r′ (a .promised) (b .promised)
@@ -130,5 +138,8 @@ filter-through-once P np mp Q nq mq j r r′ a b = of-ring.filter-once P Q j r r
 pub ring-through-once : (P : List ℤ) (np mp : ℕ) (Q : List ℤ) (nq mq j i : ℕ) (r r′ : Walked) → RingThrough P np mp Q nq mq j i r → RingThrough P np mp Q nq mq j i r′ → r ≡ r′
 ring-through-once P np mp Q nq mq j i r r′ a b = of-ring.ring-once P Q j i r r′ (a .promised) (b .promised)
 
-pub page-through-once : (P : List ℤ) (np mp : ℕ) (Q : List ℤ) (nq mq : ℕ) (key : Key) (size : ℕ) (r r′ : Paged) → PageThrough P np mp Q nq mq key size r → PageThrough P np mp Q nq mq key size r′ → r ≡ r′
-page-through-once P np mp Q nq mq key size r r′ a b = of-page.page-once P Q key size r r′ (a .promised) (b .promised)
+pub page-through-once : (P : List ℤ) (np mp : ℕ) (Q : List ℤ) (nq mq : ℕ) (key : Key) (size t : ℕ) (r r′ : Paged) → PageThrough P np mp Q nq mq key size t r → PageThrough P np mp Q nq mq key size t r′ → r ≡ r′
+page-through-once P np mp Q nq mq key size t r r′ a b = of-page.page-once P Q key size t r r′ (a .promised) (b .promised)
+
+pub partners-through-once : (P : List ℤ) (np mp : ℕ) (Q : List ℤ) (nq mq id t : ℕ) (r r′ : Partnered) → PartnersThrough P np mp Q nq mq id t r → PartnersThrough P np mp Q nq mq id t r′ → r ≡ r′
+partners-through-once P np mp Q nq mq id t r r′ a b = of-partners.partners-once P Q id t r r′ (a .promised) (b .promised)

@@ -29,6 +29,7 @@ use Rattle.ring.specs.declared.Filtered.{Filtered}
 use Rattle.ring.specs.declared.Walked.{Walked}
 use Rattle.ring.specs.declared.Walked.the-variants as walking
 use Rattle.ring.specs.declared.Paged.{Paged}
+use Rattle.ring.specs.declared.Partnered.{Partnered}
 use Rattle.ring.proofs.Once as of-ring
 use Rattle.book.specs.declared.Book.{Book}
 use Rattle.book.specs.declared.Begun.{Begun}
@@ -58,13 +59,14 @@ use Rattle.ffi.proofs.ring_filter_walk.Reads as filter-c
 use Rattle.ffi.proofs.ring_pair_walk.Reads as walk-c
 use Rattle.ffi.proofs.ring_page.Reads as page-c
 use Rattle.ffi.proofs.ring_shortest.Reads as shortest-c
+use Rattle.ffi.proofs.ring_partners.Reads as partners-c
 use Rattle.ffi.proofs.ring_book_begin.Reads as begin-c
 use Rattle.ffi.proofs.ring_marker.Reads as mark-c
 use Rattle.ffi.proofs.ring_book_next_key as next-c
 use Rattle.ffi.proofs.ring_book_take as take-c
 use Rattle.ffi.proofs.ring_leaf_run as run-c
-use Rattle.demands.specs.Promises.{Place, slice, HeadAnswers, PointAnswers, FilterAnswers, RingAnswers, PageAnswers, ShortAnswers, PackAnswers, MarkAnswers, BeginAnswers, NextAnswers, TakeAnswers, RunAnswers}
-use Rattle.demands.specs.OverC.{OpenC, PackC, PointC, FilterC, WalkC, PageC, ShortC, BeginC, MarkC, NextC}
+use Rattle.demands.specs.Promises.{Place, slice, HeadAnswers, PointAnswers, FilterAnswers, RingAnswers, PageAnswers, ShortAnswers, PackAnswers, MarkAnswers, BeginAnswers, NextAnswers, TakeAnswers, RunAnswers, PartnersAnswers}
+use Rattle.demands.specs.OverC.{OpenC, PackC, PointC, FilterC, WalkC, PageC, ShortC, BeginC, MarkC, NextC, PartnersC}
 use Rattle.demands.proofs.Once as once
 
 -- ---- every input is taken
@@ -89,6 +91,9 @@ page-c-takes κs a = tt
 
 pub shortest-c-takes : (κs : Lfts 2) (a : _) → shortest-c.Asked κs a
 shortest-c-takes κs a = tt
+
+pub partners-c-takes : (κs : Lfts 2) (a : _) → partners-c.Asked κs a
+partners-c-takes κs a = tt
 
 pub begin-c-takes : (κs : Lfts 0) (a : _) → begin-c.Asked κs a
 begin-c-takes κs a = tt
@@ -133,8 +138,11 @@ pack-over n points order ed out r out′ a = record { κs = a .κs; p-at = a .p-
 pub filter-over : (P Q : List ℤ) (j : ℕ) (r : Filtered) → FilterC P Q j r → FilterAnswers P Q j r
 filter-over P Q j r a = record { κs = a .κs; p-at = a .p-at; q-at = a .q-at; promised = a .promised }
 
-pub page-over : (P Q : List ℤ) (key : Key) (size : ℕ) (r : Paged) → PageC P Q key size r → PageAnswers P Q key size r
-page-over P Q key size r a = record { κs = a .κs; p-at = a .p-at; q-at = a .q-at; promised = a .promised }
+pub partners-over : (P Q : List ℤ) (id t : ℕ) (r : Partnered) → PartnersC P Q id t r → PartnersAnswers P Q id t r
+partners-over P Q id t r a = record { κs = a .κs; p-at = a .p-at; q-at = a .q-at; promised = a .promised }
+
+pub page-over : (P Q : List ℤ) (key : Key) (size t : ℕ) (r : Paged) → PageC P Q key size t r → PageAnswers P Q key size t r
+page-over P Q key size t r a = record { κs = a .κs; p-at = a .p-at; q-at = a .q-at; promised = a .promised }
 
 pub shortest-over : (P Q : List ℤ) (k : ℕ) (r : Shortlist) → ShortC P Q k r → ShortAnswers P Q k r
 shortest-over P Q k r a = record { κs = a .κs; p-at = a .p-at; q-at = a .q-at; promised = a .promised }
@@ -216,8 +224,11 @@ filter-c-once P Q j r r′ a b = once.filter-once P Q j r r′ (filter-over P Q 
 pub walk-c-once : (P Q : List ℤ) (j i : ℕ) (r r′ : WalkAnswer) → WalkC P Q j i r → WalkC P Q j i r′ → r ≡ r′
 walk-c-once P Q j i r r′ a b = a .promised ∙ sym (b .promised)
 
-pub page-c-once : (P Q : List ℤ) (key : Key) (size : ℕ) (r r′ : Paged) → PageC P Q key size r → PageC P Q key size r′ → r ≡ r′
-page-c-once P Q key size r r′ a b = once.page-once P Q key size r r′ (page-over P Q key size r a) (page-over P Q key size r′ b)
+pub page-c-once : (P Q : List ℤ) (key : Key) (size t : ℕ) (r r′ : Paged) → PageC P Q key size t r → PageC P Q key size t r′ → r ≡ r′
+page-c-once P Q key size t r r′ a b = once.page-once P Q key size t r r′ (page-over P Q key size t r a) (page-over P Q key size t r′ b)
+
+pub partners-c-once : (P Q : List ℤ) (id t : ℕ) (r r′ : Partnered) → PartnersC P Q id t r → PartnersC P Q id t r′ → r ≡ r′
+partners-c-once P Q id t r r′ a b = once.partners-once P Q id t r r′ (partners-over P Q id t r a) (partners-over P Q id t r′ b)
 
 pub shortest-c-once : (P Q : List ℤ) (k : ℕ) (r r′ : Shortlist) → ShortC P Q k r → ShortC P Q k r′ → r ≡ r′
 shortest-c-once P Q k r r′ a b = once.shortest-once P Q k r r′ (shortest-over P Q k r a) (shortest-over P Q k r′ b)

@@ -21,6 +21,7 @@ use Rattle.ring.specs.declared.Pointed.{Pointed}
 use Rattle.ring.specs.declared.Filtered.{Filtered}
 use Rattle.ring.specs.declared.Walked.{Walked}
 use Rattle.ring.specs.declared.Paged.{Paged}
+use Rattle.ring.specs.declared.Partnered.{Partnered}
 use Rattle.view.specs.declared.Sheet.{Sheet}
 use Rattle.view.specs.declared.Opened.{Opened}
 use Rattle.book.specs.declared.Book.{Book}
@@ -35,7 +36,8 @@ use Rattle.view.proofs.point_at as view-point
 use Rattle.view.proofs.filter_walk_at as view-filter
 use Rattle.view.proofs.ring_walk_at as view-ring
 use Rattle.view.proofs.page_at as view-page
-use Rattle.demands.specs.Promises.{Place, slice, NextAnswers, TakeAnswers, RunAnswers, ViewOpens, ViewPoints, ViewFilters, ViewRings, ViewPages}
+use Rattle.view.proofs.partners_at as view-partners
+use Rattle.demands.specs.Promises.{Place, slice, NextAnswers, TakeAnswers, RunAnswers, ViewOpens, ViewPoints, ViewFilters, ViewRings, ViewPages, ViewPartners}
 
 module _ {M : Type 1} (𝓤 : URA M) (H : Heap 𝓤) (A : Atoms 𝓤) (mem : Memory → SProp 𝓤) (run : Routine → Fun 𝓤) where
   pub next-key-says : (κs : Lfts 1) (l : Place) (b : Book) (s : List Pair) (r : Asked)
@@ -69,7 +71,12 @@ module _ {M : Type 1} (𝓤 : URA M) (H : Heap 𝓤) (A : Atoms 𝓤) (mem : Mem
       ≡ fact 𝓤 (ViewRings p q j i r)
   view-ring-says κs p q j i r = refl
 
-  pub view-page-says : (κs : Lfts 2) (p q : Sheet) (key : Key) (size : ℕ) (r : Paged)
-      → view-page.ensures-1 𝓤 H κs A mem run p q key size (record { entry = p; exit = p }) (record { entry = q; exit = q }) (record { entry = key; exit = key }) (record { entry = size; exit = size }) r
-      ≡ fact 𝓤 (ViewPages p q key size r)
-  view-page-says κs p q key size r = refl
+  pub view-page-says : (κs : Lfts 2) (p q : Sheet) (key : Key) (size t : ℕ) (r : Paged)
+      → view-page.ensures-1 𝓤 H κs A mem run p q key size t (record { entry = p; exit = p }) (record { entry = q; exit = q }) (record { entry = key; exit = key }) (record { entry = size; exit = size }) (record { entry = t; exit = t }) r
+      ≡ fact 𝓤 (ViewPages p q key size t r)
+  view-page-says κs p q key size t r = refl
+
+  pub view-partners-says : (κs : Lfts 2) (p q : Sheet) (id t : ℕ) (r : Partnered)
+      → view-partners.ensures-1 𝓤 H κs A mem run p q id t (record { entry = p; exit = p }) (record { entry = q; exit = q }) (record { entry = id; exit = id }) (record { entry = t; exit = t }) r
+      ≡ fact 𝓤 (ViewPartners p q id t r)
+  view-partners-says κs p q id t r = refl

@@ -17,6 +17,7 @@ use Rattle.ring.proofs.filter.filter_walk.Reads as filter-walk
 use Rattle.ring.proofs.ringwalk.ring_walk.Reads as ring-walk
 use Rattle.ring.proofs.page.page.Reads as page
 use Rattle.shortest.proofs.shortest.Reads as shortest
+use Rattle.ring.proofs.partners.partners.Reads as partners
 use Rattle.pack.proofs.pack.Reads as pack
 use Rattle.marker.proofs.mark.Reads as mark
 use Rattle.book.proofs.Book.begin.Reads as begin
@@ -29,6 +30,7 @@ use Rattle.view.proofs.point_through.Reads as point-through
 use Rattle.view.proofs.filter_walk_through.Reads as filter-walk-through
 use Rattle.view.proofs.ring_walk_through.Reads as ring-walk-through
 use Rattle.view.proofs.page_through.Reads as page-through
+use Rattle.view.proofs.partners_through.Reads as partners-through
 use Rattle.book.proofs.Book.next_key as next-key
 use Rattle.book.proofs.Book.take as take
 use Rattle.runs.proofs.leaf_run as leaf-run
@@ -37,6 +39,7 @@ use Rattle.view.proofs.point_at as view-point
 use Rattle.view.proofs.filter_walk_at as view-filter
 use Rattle.view.proofs.ring_walk_at as view-ring
 use Rattle.view.proofs.page_at as view-page
+use Rattle.view.proofs.partners_at as view-partners
 
 pub open-no-takes : (κs : Lfts 1) (a : _) → open-no.Asked κs a
 open-no-takes κs a = tt
@@ -58,6 +61,9 @@ page-takes κs a = tt
 
 pub shortest-takes : (κs : Lfts 2) (a : _) → shortest.Asked κs a
 shortest-takes κs a = tt
+
+pub partners-takes : (κs : Lfts 2) (a : _) → partners.Asked κs a
+partners-takes κs a = tt
 
 pub pack-takes : (κs : Lfts 3) (a : _) → pack.Asked κs a
 pack-takes κs a = tt
@@ -95,6 +101,9 @@ ring-walk-through-takes κs a = tt
 pub page-through-takes : (κs : Lfts 2) (a : _) → page-through.Asked κs a
 page-through-takes κs a = tt
 
+pub partners-through-takes : (κs : Lfts 2) (a : _) → partners-through.Asked κs a
+partners-through-takes κs a = tt
+
 module _ {M : Type 1} (𝓤 : URA M) (H : Heap 𝓤) (A : Atoms 𝓤) (mem : Memory → SProp 𝓤) (run : Routine → Fun 𝓤) where
   pub next-key-takes : (κs : Lfts 1) (a : _) → next-key.clauses 𝓤 H A mem run κs a .requires tt ≡ emp 𝓤
   next-key-takes κs a = refl
@@ -119,3 +128,6 @@ module _ {M : Type 1} (𝓤 : URA M) (H : Heap 𝓤) (A : Atoms 𝓤) (mem : Mem
 
   pub view-page-takes : (κs : Lfts 2) (a : _) → view-page.clauses 𝓤 H A mem run κs a .requires tt ≡ emp 𝓤
   view-page-takes κs a = refl
+
+  pub view-partners-takes : (κs : Lfts 2) (a : _) → view-partners.clauses 𝓤 H A mem run κs a .requires tt ≡ emp 𝓤
+  view-partners-takes κs a = refl

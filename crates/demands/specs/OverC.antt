@@ -12,6 +12,7 @@ use Rattle.ring.specs.declared.Head.{Head}
 use Rattle.ring.specs.declared.Filtered.{Filtered}
 use Rattle.ring.specs.declared.Paged.{Paged}
 use Rattle.shortest.specs.declared.Shortlist.{Shortlist}
+use Rattle.ring.specs.declared.Partnered.{Partnered}
 use Rattle.book.specs.declared.Book.{Book}
 use Rattle.book.specs.Rules.{asked}
 use Rattle.ffi.specs.declared.PointAnswer.{PointAnswer}
@@ -27,6 +28,7 @@ use Rattle.ffi.proofs.ring_filter_walk.Reads as filter-c
 use Rattle.ffi.proofs.ring_pair_walk.Reads as walk-c
 use Rattle.ffi.proofs.ring_page.Reads as page-c
 use Rattle.ffi.proofs.ring_shortest.Reads as shortest-c
+use Rattle.ffi.proofs.ring_partners.Reads as partners-c
 use Rattle.ffi.proofs.ring_book_begin.Reads as begin-c
 use Rattle.ffi.proofs.ring_marker.Reads as mark-c
 use Rattle.demands.specs.Promises.{Place, slice}
@@ -68,12 +70,19 @@ pub record WalkC (P Q : List ℤ) (j i : ℕ) (r : WalkAnswer) : Type 0 where
   pub q-at : Place
   pub promised : walk-c.Post κs (slice p-at P, (slice q-at Q, (j, (i, tt)))) r (slice p-at P, (slice q-at Q, (j, (i, tt))))
 
--- `ring_page(P, Q, key, size)` answers r
-pub record PageC (P Q : List ℤ) (key : Key) (size : ℕ) (r : Paged) : Type 0 where
+-- `ring_page(P, Q, key, size, t)` answers r
+pub record PageC (P Q : List ℤ) (key : Key) (size t : ℕ) (r : Paged) : Type 0 where
   pub κs : Lfts 2
   pub p-at : Place
   pub q-at : Place
-  pub promised : page-c.Post κs (slice p-at P, (slice q-at Q, (key, (size, tt)))) r (slice p-at P, (slice q-at Q, (key, (size, tt))))
+  pub promised : page-c.Post κs (slice p-at P, (slice q-at Q, (key, (size, (t, tt))))) r (slice p-at P, (slice q-at Q, (key, (size, (t, tt)))))
+
+-- `ring_partners(P, Q, id, t)` answers r
+pub record PartnersC (P Q : List ℤ) (id t : ℕ) (r : Partnered) : Type 0 where
+  pub κs : Lfts 2
+  pub p-at : Place
+  pub q-at : Place
+  pub promised : partners-c.Post κs (slice p-at P, (slice q-at Q, (id, (t, tt)))) r (slice p-at P, (slice q-at Q, (id, (t, tt))))
 
 -- `ring_shortest(P, Q, k)` answers r
 pub record ShortC (P Q : List ℤ) (k : ℕ) (r : Shortlist) : Type 0 where

@@ -1,9 +1,9 @@
--- What the shipped calls promise, under one name for each call: `PageAnswers P Q key size r` says that r is an answer which the `ensures` of the page request
--- admits, where the words P and Q, the key and the size are handed in. The theorems of this crate start from these, so whoever weakens an `ensures` breaks them.
+-- What the shipped calls promise, under one name for each call: `PageAnswers P Q key size t r` says that r is an answer which the `ensures` of the page request
+-- admits, where the words P and Q, the key, the size and the threshold t are handed in. The theorems of this crate start from these, so whoever weakens an `ensures` breaks them.
 --
 -- `Post` of a call is its `ensures`, read as a plain claim: of the lifetimes κs of what is lent, the arguments, the answer, and the arguments at exit.
 -- Words and slots that are lent are lists that stand at some place of memory, and no promise depends on the place.
--- The calls over slices of records (`Book::next_key`, `Book::take`, `runs::leaf_run`) and over views (`view::open`, `point_at`, `filter_walk_at`, `ring_walk_at`, `page_at`) have no such reading.
+-- The calls over slices of records (`Book::next_key`, `Book::take`, `runs::leaf_run`) and over views (`view::open`, `point_at`, `filter_walk_at`, `ring_walk_at`, `page_at`, `partners_at`) have no such reading.
 -- Theirs is stated here, and proofs/Says shows that it is their `ensures`, word for word.
 use mathlib.Core.Path.{_≡_}
 use mathlib.Core.List.{List}
@@ -19,11 +19,13 @@ use Rattle.list.specs.declared.Source.{Source}
 use Rattle.list.specs.declared.Page.{Page}
 use Rattle.ring.specs.Answers.{pointed, filtered, walked}
 use Rattle.ring.specs.Page.{pageAnswer}
+use Rattle.ring.specs.Partners.{partnersAnswer}
 use Rattle.ring.specs.declared.Head.{Head}
 use Rattle.ring.specs.declared.Pointed.{Pointed}
 use Rattle.ring.specs.declared.Filtered.{Filtered}
 use Rattle.ring.specs.declared.Walked.{Walked}
 use Rattle.ring.specs.declared.Paged.{Paged}
+use Rattle.ring.specs.declared.Partnered.{Partnered}
 use Rattle.view.specs.declared.Sheet.{Sheet}
 use Rattle.view.specs.declared.Opened.{Opened}
 use Rattle.view.specs.Shown.{shown, openOf}
@@ -45,6 +47,7 @@ use Rattle.ring.proofs.filter.filter_walk.Reads as filter-walk
 use Rattle.ring.proofs.ringwalk.ring_walk.Reads as ring-walk
 use Rattle.ring.proofs.page.page.Reads as page
 use Rattle.shortest.proofs.shortest.Reads as shortest
+use Rattle.ring.proofs.partners.partners.Reads as partners
 use Rattle.pack.proofs.pack.Reads as pack
 use Rattle.marker.proofs.mark.Reads as mark
 use Rattle.book.proofs.Book.begin.Reads as begin
@@ -57,6 +60,7 @@ use Rattle.view.proofs.point_through.Reads as point-through
 use Rattle.view.proofs.filter_walk_through.Reads as filter-walk-through
 use Rattle.view.proofs.ring_walk_through.Reads as ring-walk-through
 use Rattle.view.proofs.page_through.Reads as page-through
+use Rattle.view.proofs.partners_through.Reads as partners-through
 
 -- where something that is lent stands: its address, and the name by which its contents are followed
 pub record Place : Type 0 where
@@ -101,12 +105,19 @@ pub record RingAnswers (P Q : List ℤ) (j i : ℕ) (r : Walked) : Type 0 where
   pub q-at : Place
   pub promised : ring-walk.Post κs (slice p-at P, (slice q-at Q, (j, (i, tt)))) r (slice p-at P, (slice q-at Q, (j, (i, tt))))
 
--- `ring::page::page(P, Q, key, size)` answers r
-pub record PageAnswers (P Q : List ℤ) (key : Key) (size : ℕ) (r : Paged) : Type 0 where
+-- `ring::page::page(P, Q, key, size, t)` answers r
+pub record PageAnswers (P Q : List ℤ) (key : Key) (size t : ℕ) (r : Paged) : Type 0 where
   pub κs : Lfts 2
   pub p-at : Place
   pub q-at : Place
-  pub promised : page.Post κs (slice p-at P, (slice q-at Q, (key, (size, tt)))) r (slice p-at P, (slice q-at Q, (key, (size, tt))))
+  pub promised : page.Post κs (slice p-at P, (slice q-at Q, (key, (size, (t, tt))))) r (slice p-at P, (slice q-at Q, (key, (size, (t, tt)))))
+
+-- `ring::partners::partners(P, Q, id, t)` answers r
+pub record PartnersAnswers (P Q : List ℤ) (id t : ℕ) (r : Partnered) : Type 0 where
+  pub κs : Lfts 2
+  pub p-at : Place
+  pub q-at : Place
+  pub promised : partners.Post κs (slice p-at P, (slice q-at Q, (id, (t, tt)))) r (slice p-at P, (slice q-at Q, (id, (t, tt))))
 
 -- ---- the shortest circles
 
@@ -190,9 +201,13 @@ ViewFilters p q j r = r ≡ filtered (now (p .words)) (now (q .words)) j
 abbrev pub ViewRings : Sheet → Sheet → ℕ → ℕ → Walked → Type 0
 ViewRings p q j i r = r ≡ walked (now (p .words)) (now (q .words)) j i
 
--- `view::page_at(p, q, key, size)` answers r
-abbrev pub ViewPages : Sheet → Sheet → Key → ℕ → Paged → Type 0
-ViewPages p q key size r = r ≡ pageAnswer (now (p .words)) (now (q .words)) key size
+-- `view::page_at(p, q, key, size, t)` answers r
+abbrev pub ViewPages : Sheet → Sheet → Key → ℕ → ℕ → Paged → Type 0
+ViewPages p q key size t r = r ≡ pageAnswer (now (p .words)) (now (q .words)) key size t
+
+-- `view::partners_at(p, q, id, t)` answers r
+abbrev pub ViewPartners : Sheet → Sheet → ℕ → ℕ → Partnered → Type 0
+ViewPartners p q id t r = r ≡ partnersAnswer (now (p .words)) (now (q .words)) id t
 
 -- `view::open_head(w)` answers h
 pub record OpenHead (w : List ℤ) (h : Head) : Type 0 where
@@ -231,12 +246,22 @@ pub record RingThrough (P : List ℤ) (np mp : ℕ) (Q : List ℤ) (nq mq j i : 
       r
       (slice p-at P, (np, (mp, (slice q-at Q, (nq, (mq, (j, (i, tt))))))))
 
--- `view::page_through(P, np, mp, Q, nq, mq, key, size)` answers r
-pub record PageThrough (P : List ℤ) (np mp : ℕ) (Q : List ℤ) (nq mq : ℕ) (key : Key) (size : ℕ) (r : Paged) : Type 0 where
+-- `view::page_through(P, np, mp, Q, nq, mq, key, size, t)` answers r
+pub record PageThrough (P : List ℤ) (np mp : ℕ) (Q : List ℤ) (nq mq : ℕ) (key : Key) (size t : ℕ) (r : Paged) : Type 0 where
   pub κs : Lfts 2
   pub p-at : Place
   pub q-at : Place
   pub promised : page-through.Post κs
-      (slice p-at P, (np, (mp, (slice q-at Q, (nq, (mq, (key, (size, tt))))))))
+      (slice p-at P, (np, (mp, (slice q-at Q, (nq, (mq, (key, (size, (t, tt)))))))))
       r
-      (slice p-at P, (np, (mp, (slice q-at Q, (nq, (mq, (key, (size, tt))))))))
+      (slice p-at P, (np, (mp, (slice q-at Q, (nq, (mq, (key, (size, (t, tt)))))))))
+
+-- `view::partners_through(P, np, mp, Q, nq, mq, id, t)` answers r
+pub record PartnersThrough (P : List ℤ) (np mp : ℕ) (Q : List ℤ) (nq mq id t : ℕ) (r : Partnered) : Type 0 where
+  pub κs : Lfts 2
+  pub p-at : Place
+  pub q-at : Place
+  pub promised : partners-through.Post κs
+      (slice p-at P, (np, (mp, (slice q-at Q, (nq, (mq, (id, (t, tt))))))))
+      r
+      (slice p-at P, (np, (mp, (slice q-at Q, (nq, (mq, (id, (t, tt))))))))

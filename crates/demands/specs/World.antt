@@ -14,7 +14,7 @@ use Rattle.list.specs.declared.Key.{Key}
 use Rattle.list.specs.declared.Pair.{Pair}
 use Rattle.list.specs.declared.Source.{Source}
 use Rattle.list.specs.declared.Page.{Page}
-use Rattle.list.specs.RingList.{ringList}
+use Rattle.list.specs.RingList.{thresholdList}
 use Rattle.ring.specs.Page.{sourceOf}
 use Rattle.ring.specs.declared.Paged.{Paged}
 use Rattle.book.specs.declared.Book.{Book}
@@ -42,11 +42,11 @@ module _ (w : Editions) where
     pub opens : openNo form1 Q ≡ 0
     pub same : pointsOf Q ≡ pointsOf (w .chambers (num (edition Q)))
 
-  -- the list of a book: the ring pairs of the points of its two editions
+  -- the list of a book: the list of its t, of the points of its two editions
   abbrev pub bookList : Book → List Pair
-  bookList b = ringList (pointsOf (w .pumps (b .source .«p_edition»))) (pointsOf (w .chambers (b .source .«q_edition»)))
+  bookList b = thresholdList (b .source .threshold) (pointsOf (w .pumps (b .source .«p_edition»))) (pointsOf (w .chambers (b .source .«q_edition»)))
 
-  -- a page "not altered or invented": one that the page request answered, at some time, for two sheets of this world, some key and some size
+  -- a page "not altered or invented": one that the page request answered, at some time, for two sheets of this world, some key, some size and some t
   pub record Answered (g : Page) : Type 0 where
     pub P : List ℤ
     pub Q : List ℤ
@@ -54,8 +54,9 @@ module _ (w : Editions) where
     pub q-sheet : ChamberSheet Q
     pub key : Key
     pub size : ℕ
+    pub t : ℕ
     pub r : Paged
-    pub answers : PageAnswers P Q key size r
+    pub answers : PageAnswers P Q key size t r
     pub given : r .number ≡ 0
     pub is : g ≡ r .page
 
@@ -66,8 +67,8 @@ module _ (w : Editions) where
     took : {b : Book} {slots : List Pair} (g : Page) (r : Taken) (slots′ : List Pair) → History b slots → Answered g → TakeAnswers b slots g r slots′ → History (r .book) slots′
     lent : {b : Book} {slots : List Pair} (other : List Pair) → History b slots → b .held ≤ length other → take (b .held) other ≡ take (b .held) slots → History b other
 
-  -- a page "that answers its own next request": the book is asked for its next key, and the page request for a page after it, of any size from 1 to 16, on sheets of
-  -- the book's two editions
+  -- a page "that answers its own next request": the book is asked for its next key, and the page request for a page after it, of any size from 1 to 16 and of the
+  -- book's t, on sheets of the book's two editions
   pub record OwnPage (b : Book) (slots : List Pair) (g : Page) : Type 0 where
     pub asked : Asked
     pub key : Key
@@ -77,12 +78,12 @@ module _ (w : Editions) where
     pub Q : List ℤ
     pub p-sheet : PumpSheet P
     pub q-sheet : ChamberSheet Q
-    pub of-book : sourceOf P Q ≡ b .source
+    pub of-book : sourceOf P Q (b .source .threshold) ≡ b .source
     pub size : ℕ
     pub some : 1 ≤ size
     pub most : size ≤ 16
     pub r : Paged
-    pub answers : PageAnswers P Q key size r
+    pub answers : PageAnswers P Q key size (b .source .threshold) r
     pub is : g ≡ r .page
 
   -- a book that asks so many times, and takes each answer: from the first book and slots to the last

@@ -96,7 +96,7 @@ fn page(p: &[i32], q: &[i32], key: Key, size: usize) {
     say_size();
     say_count(size as u64);
     say_colon();
-    let r = ring::page::page(p, q, key, size);
+    let r = ring::page::page(p, q, key, size, 0);
     if r.number != 0 {
         say_refused();
         say_count(r.number as u64);

@@ -1,6 +1,6 @@
 -- What crosses to C: of each answer that is an enum, the struct of numbers, its number of refusal first.
 -- "Every refusal gives only its number [..]. An array or number in a refused answer is all zero."
--- The answers of open, filter walk, page and take are structs of numbers already, and cross as they are.
+-- The answers of open, filter walk, page, of the question for partners and of take are structs of numbers already, and cross as they are.
 use mathlib.Core.Bool.{false, cond}
 use Prim.Native.Nat.{ℕ}
 use lib.IntN.{ℤ, pos, _+ℤ_}
@@ -49,7 +49,7 @@ walkOver (walked.Refused k) = record { number = k; kind = 0; set = 0; side = 0; 
 abbrev pub bookOver : Begun → BookAnswer
 bookOver (begun.Open b) = record { number = 0; book = b }
 bookOver (begun.Refused k) =
-    record { number = k; book = record { held = 0; closed = false; source = record { «p_edition» = 0; «q_edition» = 0 } } }
+    record { number = k; book = record { held = 0; closed = false; source = record { «p_edition» = 0; «q_edition» = 0; threshold = 0 } } }
 
 -- the next key: 0 and the key, or the number and (0, 0); with either the book, as it went in
 abbrev pub nextOver : Next → Book → KeyAnswer

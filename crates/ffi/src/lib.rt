@@ -9,6 +9,7 @@ use list::Source;
 use ring::Filtered;
 use ring::Head;
 use ring::Paged;
+use ring::Partnered;
 use runs::Run;
 use shortest::Shortlist;
 ghost use mathlib.Core.Path.{_≡_};
@@ -18,6 +19,7 @@ ghost use Rattle.pack.specs.Pack.{packNo, packOut};
 ghost use Rattle.ring.specs.Answers.{headOf, pointed, filtered, walked};
 ghost use Rattle.ring.specs.Page.{pageAnswer};
 ghost use Rattle.shortest.specs.Answer.{shortAnswer};
+ghost use Rattle.ring.specs.Partners.{partnersAnswer};
 ghost use Rattle.book.specs.Rules.{begunFor, asked, taken, takenSlots};
 ghost use Rattle.runs.specs.Run.{runAnswer, runSlots};
 ghost use Rattle.ffi.specs.Over.{pointOver, hitOver, walkOver, bookOver, nextOver, keyOver, markOver, markedAt};
@@ -148,6 +150,7 @@ fn of_begun(v: book::Begun) -> BookAnswer
                 source: Source {
                     p_edition: 0,
                     q_edition: 0,
+                    threshold: 0,
                 },
             },
         },
@@ -243,12 +246,12 @@ pub extern "C" fn ring_pair_walk(p: &[i32], q: &[i32], j: usize, i: usize) -> Wa
     of_walked(ring::ringwalk::ring_walk(p, q, j, i))
 }
 
-// The page of the first `size` ring pairs after a key: 0, or 1 to 8 of P, of Q, 9, 10.
+// The page of the first `size` ring pairs after a key, of chambers with at least so many as the threshold says: 0, or 1 to 8 of P, of Q, 9, 10, 21.
 #[no_mangle]
-pub extern "C" fn ring_page(p: &[i32], q: &[i32], key: Key, size: usize) -> Paged
-    ensures { λ r. ⌜ r ≡ pageAnswer (now (p .entry)) (now (q .entry)) key size ⌝ }
+pub extern "C" fn ring_page(p: &[i32], q: &[i32], key: Key, size: usize, threshold: u32) -> Paged
+    ensures { λ r. ⌜ r ≡ pageAnswer (now (p .entry)) (now (q .entry)) key size threshold ⌝ }
 {
-    ring::page::page(p, q, key, size)
+    ring::page::page(p, q, key, size, threshold)
 }
 
 // The k ring pairs with the smallest squared size, in order: 0, or 1 to 8 of P, of Q, 10.
@@ -259,7 +262,15 @@ pub extern "C" fn ring_shortest(p: &[i32], q: &[i32], k: usize) -> Shortlist
     shortest::shortest(p, q, k)
 }
 
-// A book of two editions with nothing held: 0, or 3.
+// The smaller of t and the number of ring partners of the chamber with this id, and whether that is t: 0, or 1 to 8 of P, of Q, 20, 21.
+#[no_mangle]
+pub extern "C" fn ring_partners(p: &[i32], q: &[i32], id: u32, t: u32) -> Partnered
+    ensures { λ r. ⌜ r ≡ partnersAnswer (now (p .entry)) (now (q .entry)) id t ⌝ }
+{
+    ring::partners::partners(p, q, id, t)
+}
+
+// A book of two editions and a threshold with nothing held: 0, or 3, 21.
 #[no_mangle]
 pub extern "C" fn ring_book_begin(source: Source) -> BookAnswer
     ensures { λ r. ⌜ r ≡ bookOver (begunFor source) ⌝ }
@@ -283,7 +294,7 @@ pub extern "C" fn ring_book_next_key(b: Book, slots: &[Pair]) -> KeyAnswer
     of_asked(b.next_key(slots))
 }
 
-// A page's pairs are appended in the lent slots and the book goes on: 0, or 11 to 16 with the slots and the book as they were.
+// A page's pairs are appended in the lent slots and the book goes on: 0, or 11, 12, 13, 31, 14 to 16 with the slots and the book as they were.
 #[no_mangle]
 pub extern "C" fn ring_book_take(b: Book, slots: &mut [Pair], page: Page) -> Taken
     ensures { λ r. ⌜ (r ≡ taken b (now (slots .entry)) page) × (now (slots .exit) ≡ takenSlots b (now (slots .entry)) page) ⌝ }

@@ -1,6 +1,6 @@
 -- What the page maker's functions find, from what their calls answered: laws over plain values.
 -- Assumes nothing.
-use mathlib.Core.Path.{_≡_, sym, ap, subst, _∙_}
+use mathlib.Core.Path.{_≡_, sym, ap, _∙_}
 use mathlib.Core.Bool.{Bool, true, false, cond, not, _&&_}
 use mathlib.Core.List.{List}
 use Prim.Native.Nat.{ℕ, _+_, _*_, _≤_, _<_}
@@ -14,7 +14,6 @@ use Rattle.words.proofs.AllLaws.{first-none, first-more, first-stop}
 use Rattle.plane.specs.declared.Spot.{Spot}
 use Rattle.plane.specs.Rule.{SpotIn}
 use Rattle.plane.specs.Point.{idAt}
-use Rattle.sheet.specs.Layout.{points, nodes}
 use Rattle.sheet.specs.Places.{spotOf, pointsOf}
 use Rattle.sheet.specs.Open.{Opens}
 use Rattle.sheet.proofs.SheetLaws.{own}
@@ -33,7 +32,9 @@ use Rattle.join.specs.declared.Tried.{Tried}
 use Rattle.join.specs.Work.{firstFrom}
 use Rattle.join.specs.Maker.{spent, found, withTried, tried, partners, chamber}
 use Rattle.join.specs.Sheets.{walksOf}
+use Rattle.join.specs.Threshold.{ringOpened, walksFor, onWords}
 use Rattle.join.proofs.TurnLaws.{Capped, Words}
+use Rattle.join.proofs.ThresholdLaws.{ring-few}
 
 -- ---- the first chamber from the key on: none of the first j is one
 
@@ -55,14 +56,15 @@ module _ (qid : ℕ → ℕ) (key : Key) where
 
 -- ---- a kept partner
 
-module _ (P Q : List ℤ) (key : Key) (j i a b : ℕ) (ea : a ≡ idAt (pointsOf Q) j) (eb : b ≡ idAt (pointsOf P) i) (t : Bool) (et : t ≡ follows key (record { q = a; p = b })) where
-  after-is : follows key (keyOf (pairAt (pointsOf P) (pointsOf Q) j i)) ≡ t
-  after-is = sym (et ∙ ap (follows key) (λ s. record { q = ea s; p = eb s }))
+-- its key is read from the sheets
+pub late-is : (P Q : List ℤ) (key : Key) (j i a b : ℕ) → a ≡ idAt (pointsOf Q) j → b ≡ idAt (pointsOf P) i → (t : Bool) → t ≡ follows key (record { q = a; p = b }) → t ≡ follows key (keyOf (pairAt (pointsOf P) (pointsOf Q) j i))
+late-is P Q key j i a b ea eb t et = et ∙ ap (follows key) (λ s. record { q = ea s; p = eb s })
 
+module _ (P Q : List ℤ) (key : Key) (j i : ℕ) (t : Bool) (et : t ≡ follows key (keyOf (pairAt (pointsOf P) (pointsOf Q) j i))) where
   pub tried-early : not t ≡ true → (words : ℕ) → record { finds = false; opened = 0 } ≡ tried (walksOf words P Q) key j i
   unfolding tried
   tried-early n words =
-      let f : follows key (keyOf (pairAt (pointsOf P) (pointsOf Q) j i)) ≡ false = after-is ∙ not-true t n in
+      let f : follows key (keyOf (pairAt (pointsOf P) (pointsOf Q) j i)) ≡ false = sym et ∙ not-true t n in
       let x : false ≡ (follows key (keyOf (pairAt (pointsOf P) (pointsOf Q) j i)) && clear (pairWalk P Q j i .hit)) = sym (ap (λ (y : Bool). y && clear (pairWalk P Q j i .hit)) f) in
       let z : 0 ≡ cond (follows key (keyOf (pairAt (pointsOf P) (pointsOf Q) j i))) (pairWalk P Q j i .opened) 0 = sym (ap (λ (y : Bool). cond y (pairWalk P Q j i .opened) 0) f) in
       λ s. record { finds = x s; opened = z s }
@@ -71,7 +73,7 @@ module _ (P Q : List ℤ) (key : Key) (j i a b : ℕ) (ea : a ≡ idAt (pointsOf
       → record { finds = c; opened = o .opened } ≡ tried (walksOf words P Q) key j i
   unfolding tried
   tried-walked n o eo c ec words =
-      let f : follows key (keyOf (pairAt (pointsOf P) (pointsOf Q) j i)) ≡ true = after-is ∙ not-false t n in
+      let f : follows key (keyOf (pairAt (pointsOf P) (pointsOf Q) j i)) ≡ true = sym et ∙ not-false t n in
       let x : c ≡ (follows key (keyOf (pairAt (pointsOf P) (pointsOf Q) j i)) && clear (pairWalk P Q j i .hit)) = ec ∙ ap (λ (y : Answer). clear (y .hit)) eo ∙ sym (ap (λ (y : Bool). y && clear (pairWalk P Q j i .hit)) f) in
       let z : o .opened ≡ cond (follows key (keyOf (pairAt (pointsOf P) (pointsOf Q) j i))) (pairWalk P Q j i .opened) 0 = ap (λ (y : Answer). y .opened) eo ∙ sym (ap (λ (y : Bool). cond y (pairWalk P Q j i .opened) 0) f) in
       λ s. record { finds = x s; opened = z s }
@@ -83,6 +85,22 @@ with-yes size v w t u d r x e y f = rw (← x, ← e, y) f
 pub with-no : (size : ℕ) (v : Pair) (t u : Tried) (d : Draft) → t ≡ u → t .finds ≡ false → spent (t .opened) d ≡ withTried size v u d
 unfolding withTried
 with-no size v t u d e n = rw (← e, n)
+
+-- a pair of words that hold what is to be shown: it is, where it is after the key
+spent-none : (d : Draft) → d ≡ spent 0 d
+spent-none d = let e : d .opened ≡ d .opened + 0 = omega arith in λ s. record { pairs = d .pairs; count = d .count; more = d .more; opened = e s }
+
+module _ (ws : List ℕ) (P Q : List ℤ) (key : Key) (size j i : ℕ) (t : Bool) (et : t ≡ follows key (keyOf (pairAt (pointsOf P) (pointsOf Q) j i))) (d r : Draft) where
+  pub show-late : t ≡ true → (v : Pair) → v ≡ pairAt (pointsOf P) (pointsOf Q) j i → r ≡ found size v d → r ≡ withTried size (pairAt (pointsOf P) (pointsOf Q) j i) (tried (onWords ws P Q) key j i) d
+  unfolding withTried tried
+  show-late y v ev e = rw (sym et ∙ y) (e ∙ ap (λ (x : Pair). found size x d) ev ∙ ap (found size (pairAt (pointsOf P) (pointsOf Q) j i)) (spent-none d))
+
+  pub show-early : t ≡ false → r ≡ d → r ≡ withTried size (pairAt (pointsOf P) (pointsOf Q) j i) (tried (onWords ws P Q) key j i) d
+  unfolding withTried tried
+  show-early n e = rw (sym et ∙ n) (e ∙ spent-none d)
+
+pub on-words : (ws : List ℕ) (P Q : List ℤ) → Capped (onWords ws P Q) 0 0
+on-words ws P Q = record { filter = λ j. omega arith; ring = λ j i. omega arith }
 
 -- ---- the words of the filter walk, and room
 
@@ -101,8 +119,8 @@ module _ (P Q : List ℤ) (j : ℕ) (z : Spot) (ez : z ≡ spotOf Q j) (b : ℕ)
       ∙ ap (λ (x : ℕ). partners (walksOf b P Q) key size j n 0 (spent x d)) (eo ∙ ap (λ (y : Spot). filterKept b P y .opened) ez)
 
 -- so many words, or as many
-pub chamber-same : (P Q : List ℤ) (key : Key) (size n j : ℕ) (d r : Draft) (a b : ℕ) → a ≡ b → r ≡ chamber (walksOf a P Q) key size n j d → r ≡ chamber (walksOf b P Q) key size n j d
-chamber-same P Q key size n j d r a b e f = f ∙ ap (λ (x : ℕ). chamber (walksOf x P Q) key size n j d) e
+pub chamber-same : (P Q : List ℤ) (key : Key) (size n t j : ℕ) (d r : Draft) (a b : ℕ) → a ≡ b → r ≡ chamber (walksFor (walksOf a P Q) n t) key size n j d → r ≡ chamber (walksFor (walksOf b P Q) n t) key size n j d
+chamber-same P Q key size n t j d r a b e f = f ∙ ap (λ (x : ℕ). chamber (walksFor (walksOf x P Q) n t) key size n j d) e
 
 pub filter-few : {P : List ℤ} {np mp : ℕ} → Opens P np mp → (words : ℕ) (z : Spot) (o : ℕ) → o ≡ filterKept words P z .opened → o ≤ mp
 filter-few {P} c words z o e = omega (arith, c .m-is, filter-opened-at-most-m words P z (own c))
@@ -118,9 +136,16 @@ module _ {P Q : List ℤ} {np mp nq mq : ℕ} (o : Opens P np mp) (o′ : Opens 
         ring = λ j i. omega (arith, o .m-is, o′ .m-is, pair-opened P Q (own o) (own o′) j i);
       }
 
+  -- the count of a chamber's ring walks fits
+  pub walks-room : np * (mp + mq) ≤ 2880000000
+  walks-room = mul-le-mul {n₁ = np} {m₁ = mp + mq} {n₂ = 60000} {m₂ = 48000} (o .n-le) (omega (arith, o .m-le, o′ .m-le))
+
+  pub walks-few : (words j s : ℕ) → s ≡ ringOpened (walksOf words P Q) np j → s ≤ np * (mp + mq)
+  walks-few words j s e = omega (arith, ring-few (walksOf words P Q) mp (mp + mq) np (capped words) j)
+
   -- the count of a page fits
   pub page-room : nq * (mp + np * (mp + mq)) < 9223372036854775808
   page-room =
-      let a : np * (mp + mq) ≤ 60000 * 48000 = mul-le-mul {n₁ = np} {m₁ = mp + mq} {n₂ = 60000} {m₂ = 48000} (o .n-le) (omega (arith, o .m-le, o′ .m-le)) in
+      let a = walks-room in
       let b : nq * (mp + np * (mp + mq)) ≤ 60000 * 2880024000 = mul-le-mul {n₁ = nq} {m₁ = mp + np * (mp + mq)} {n₂ = 60000} {m₂ = 2880024000} (o′ .n-le) (omega (arith, o .m-le)) in
       omega arith

@@ -3,9 +3,13 @@
 --     WorkLaws     the count is that of the walks
 --     TurnLaws     the loops, turn by turn
 --     CallLaws     what the functions find, from what their calls answered
+--     ThresholdLaws the walks of a page of t, and a chamber of it
+--     CountLaws     a chamber's ring partners: those that stay kept, and how many they are
 --     Meaning      the theorems: `page-pairs`, `page-opened`, `list-by-points`
 pub mod MakerLaws
 pub mod WorkLaws
 pub mod TurnLaws
 pub mod CallLaws
+pub mod ThresholdLaws
+pub mod CountLaws
 pub mod Meaning

@@ -113,7 +113,7 @@ module _ (w : Walks) (key : Key) (size : ℕ) where
       rw (ap (λ (t : Bool). cond t d (partners w key size j k (i + 1) (partner w key size j i d))) m) (omega arith))
       (decide (d .more))
 
-  chamber-cap : (a b : ℕ) → Capped w a b → (n j : ℕ) (d : Draft) → chamber w key size n j d .opened ≤ d .opened + (a + n * b)
+  pub chamber-cap : (a b : ℕ) → Capped w a b → (n j : ℕ) (d : Draft) → chamber w key size n j d .opened ≤ d .opened + (a + n * b)
   unfolding chamber
   chamber-cap a b c n j d = omega (arith, partners-cap a b c j n 0 (spent (w .keptOpened j) d), c .filter j)
 
@@ -157,31 +157,31 @@ module _ (w : Walks) (key : Key) (size : ℕ) where
   pub tries-end : (b j n : ℕ) (d r : Draft) (i : ℕ) → n ≤ i → Tries b j n d r i → r ≡ partners w key size j n 0 d
   tries-end b j n d r i h t = sym (partners-end j n i r h) ∙ t .left
 
-  -- ---- the loop over chambers
+  -- ---- the loop over chambers, each of which opens at most c nodes
 
-  pub record Rounds (a b np nq : ℕ) (r : Draft) (j : ℕ) : Type 0 where
+  pub record Rounds (c np nq : ℕ) (r : Draft) (j : ℕ) : Type 0 where
     pub left : chambers w key size np (nq - j) j r ≡ pageMade w key size np nq
-    pub room : r .opened ≤ j * (a + np * b)
+    pub room : r .opened ≤ j * c
 
-  pub rounds-start : (a b np nq j : ℕ) → j ≡ firstFrom (w .qid) key nq → Rounds a b np nq blank j
+  pub rounds-start : (c np nq j : ℕ) → j ≡ firstFrom (w .qid) key nq → Rounds c np nq blank j
   unfolding pageMade
-  rounds-start a b np nq j e = record { left = ap (λ (t : ℕ). chambers w key size np (nq - t) t blank) e; room = omega arith }
+  rounds-start c np nq j e = record { left = ap (λ (t : ℕ). chambers w key size np (nq - t) t blank) e; room = omega arith }
 
   -- room for one chamber more
-  pub rounds-room : (a b np nq : ℕ) (r : Draft) (j : ℕ) → j < nq → Rounds a b np nq r j → r .opened + (a + np * b) ≤ nq * (a + np * b)
-  rounds-room a b np nq r j l t = omega (arith, t .room, step-mul j nq (a + np * b) l)
+  pub rounds-room : (c np nq : ℕ) (r : Draft) (j : ℕ) → j < nq → Rounds c np nq r j → r .opened + c ≤ nq * c
+  rounds-room c np nq r j l t = omega (arith, t .room, step-mul j nq c l)
 
-  pub rounds-on : (a b : ℕ) → Capped w a b → (np nq : ℕ) (r : Draft) (j : ℕ) → j < nq → r .more ≡ false → Rounds a b np nq r j → (r′ : Draft) → r′ ≡ chamber w key size np j r → Rounds a b np nq r′ (j + 1)
+  pub rounds-on : (c np nq : ℕ) (r : Draft) (j : ℕ) → chamber w key size np j r .opened ≤ r .opened + c → j < nq → r .more ≡ false → Rounds c np nq r j → (r′ : Draft) → r′ ≡ chamber w key size np j r → Rounds c np nq r′ (j + 1)
   unfolding chambers
-  rounds-on a b c np nq r j l e t r′ f =
+  rounds-on c np nq r j few l e t r′ f =
       let z : nq - j ≡ suc (nq - (j + 1)) = omega arith in
-      let cap : r′ .opened ≤ r .opened + (a + np * b) = rw f (chamber-cap a b c np j r) in
+      let cap : r′ .opened ≤ r .opened + c = rw f few in
       record {
         left =
             ap (chambers w key size np (nq - (j + 1)) (j + 1)) f
             ∙ sym (ap (λ (k : ℕ). chambers w key size np k j r) z ∙ ap (λ (t : Bool). cond t r (chambers w key size np (nq - (j + 1)) (j + 1) (chamber w key size np j r))) e)
             ∙ t .left;
-        room = omega (arith, t .room, step-mul j (j + 1) (a + np * b) (omega arith));
+        room = omega (arith, t .room, step-mul j (j + 1) c (omega arith));
       }
 
   chambers-stop : (n k j : ℕ) (r : Draft) → r .more ≡ true → chambers w key size n k j r ≡ r
@@ -189,9 +189,9 @@ module _ (w : Walks) (key : Key) (size : ℕ) where
   chambers-stop n zero j r e = refl
   chambers-stop n (suc k) j r e = ap (λ (t : Bool). cond t r (chambers w key size n k (j + 1) (chamber w key size n j r))) e
 
-  pub rounds-stop : (a b np nq : ℕ) (r : Draft) (j : ℕ) → r .more ≡ true → Rounds a b np nq r j → r ≡ pageMade w key size np nq
-  rounds-stop a b np nq r j e t = sym (chambers-stop np (nq - j) j r e) ∙ t .left
+  pub rounds-stop : (c np nq : ℕ) (r : Draft) (j : ℕ) → r .more ≡ true → Rounds c np nq r j → r ≡ pageMade w key size np nq
+  rounds-stop c np nq r j e t = sym (chambers-stop np (nq - j) j r e) ∙ t .left
 
-  pub rounds-end : (a b np nq : ℕ) (r : Draft) (j : ℕ) → nq ≤ j → Rounds a b np nq r j → r ≡ pageMade w key size np nq
+  pub rounds-end : (c np nq : ℕ) (r : Draft) (j : ℕ) → nq ≤ j → Rounds c np nq r j → r ≡ pageMade w key size np nq
   unfolding chambers
-  rounds-end a b np nq r j h t = let z : nq - j ≡ 0 = omega arith in sym (ap (λ (k : ℕ). chambers w key size np k j r) z) ∙ t .left
+  rounds-end c np nq r j h t = let z : nq - j ≡ 0 = omega arith in sym (ap (λ (k : ℕ). chambers w key size np k j r) z) ∙ t .left

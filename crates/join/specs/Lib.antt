@@ -3,7 +3,9 @@
 --     Work      the count of nodes opened, as the document says it
 --     Maker     the page in the making, step by step
 --     Sheets    what the walks of two sheets say
+--     Threshold the walks of a page of t
 pub mod Walks
 pub mod Work
 pub mod Maker
 pub mod Sheets
+pub mod Threshold

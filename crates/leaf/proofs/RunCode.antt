@@ -6,15 +6,15 @@ use mathlib.Core.Logic.{⊎-elim}
 use mathlib.Core.List.{List, [], _∷_, _++_, append-nil}
 use Prim.Native.Nat.{ℕ, zero, suc, _+_, _-_, _*_, _/_, _%_, _<_, _≤_}
 use native.Mathlib.Omega.{arith}
-use native.Mathlib.Nat.{mul-le-mul, le-refl, eq-or-lt-of-le, lt-of-not-le, pos-of-ne-zero, mod-lt, div-add-mod, mul-add-div, mul-add-mod-self-left, mod-eq-of-lt, div-eq-of-lt}
+use native.Mathlib.Nat.{mul-le-mul, le-refl, lt-of-not-le, pos-of-ne-zero, mod-lt, div-add-mod, mul-add-div, mul-add-mod-self-left, mod-eq-of-lt, div-eq-of-lt}
 use lib.Dec.{ltb}
 use lib.IntN.{ℤ}
 use lib.ListN.{length}
-use borrow.Author.Tests.{ltb-true, ltb-false, lt-ltb, le-ltb}
-use Rattle.integers.specs.Bools.{and-left, and-right, decide, clash, test-iff}
+use borrow.Author.Tests.{ltb-true, ltb-false, lt-ltb}
+use Rattle.integers.specs.Bools.{and-left, and-right, decide, clash}
 use Rattle.bits.specs.Set.{kept, with, without, none, nextFrom}
-use Rattle.bits.proofs.SetLaws.{with-length, without-length, kept-only, gone-same, gone-other, none-kept, none-length}
-use Rattle.bits.proofs.NextLaws.{from-le, from-kept, from-skip}
+use Rattle.bits.proofs.SetLaws.{with-length, kept-only, none-kept, none-length}
+use Rattle.bits.proofs.NextLaws.{from-kept, from-skip}
 use Rattle.words.specs.All.{allB}
 use Rattle.plane.specs.declared.Spot.{Spot}
 use Rattle.plane.specs.Rule.{drops}
@@ -35,42 +35,13 @@ use Rattle.walk.specs.FilterWalk.{Kept, soFar}
 use Rattle.walk.specs.RingWalk.{clear, pairWalk}
 use Rattle.walk.proofs.Meaning.{pair-opened}
 use Rattle.walk.proofs.WalkLaws.{Steps, Does, turn-does, all-does, sum-one}
+use Rattle.walk.proofs.SiftLaws.{oneIf, sum-same, sum-past, stays, spends, stays-not, spends-not, Sifted, Sifts, sift-start, sift-clear, sift-gone, sift-few, sift-room}
 use Rattle.leaf.specs.LeafWalk.{slot, chamberAt, chamberSpot, ruledOut, weigh, leafTake, skips, leafVisit, leafKept, leafKeeps}
 use Rattle.leaf.specs.LeafRun.{leafList, leafOpened, RunSet, pairsFrom, leftFrom}
 use Rattle.leaf.specs.Room.{Sets}
 use Rattle.leaf.proofs.LeafLaws.{slot-fits, leaf-few, leaf-place, chamber-in, leaf-opened, leaf-long, leaf-below, leaf-exact}
 
--- 1 where a test holds: what it adds to a count
-abbrev pub oneIf : Bool → ℕ
-oneIf t = cond t 1 0
-
 -- ---- sums
-
-sum-next : (f : ℕ → ℕ) (x : ℕ) → sumOver f 0 (x + 1) ≡ sumOver f 0 x + f x
-unfolding sumOver
-sum-next f x =
-    let z : 0 + x + 0 ≡ x = omega arith in
-    sum-join f 0 x 1 ∙ omega (arith, ap f z)
-
-sum-same : (f g : ℕ → ℕ) (a c : ℕ) → ((x : ℕ) → x < c → f (a + x) ≡ g (a + x)) → sumOver f a c ≡ sumOver g a c
-unfolding sumOver
-sum-same f g a zero h = refl
-sum-same f g a (suc c) h = omega (arith, sum-same f g a c (λ x l. h x (omega arith)), h c (omega arith))
-
--- what is 0 from n on adds nothing past n
-sum-past : (f : ℕ → ℕ) (n u : ℕ) → n ≤ u → ((x : ℕ) → n ≤ x → x < u → f x ≡ 0) → sumOver f 0 u ≡ sumOver f 0 n
-unfolding sumOver
-sum-past f n zero l h = let z : n ≡ 0 = omega arith in rw z
-sum-past f n (suc u) l h =
-    ⊎-elim
-    (λ (e : n ≡ suc u). ap (sumOver f 0) (sym e))
-    (λ (k : n < suc u). let z : 0 + u ≡ u = omega arith in omega (arith, sum-past f n u (omega arith) (λ x a b. h x a (omega arith)), ap f z, h u (omega arith) (omega arith)))
-    (eq-or-lt-of-le l)
-
-sum-cap : (f : ℕ → ℕ) (b c : ℕ) → ((x : ℕ) → f x ≤ b) → sumOver f 0 c ≤ c * b
-unfolding sumOver
-sum-cap f b zero h = omega arith
-sum-cap f b (suc c) h = let e : c * b + b ≡ suc c * b = omega arith in omega (arith, sum-cap f b c h, h (0 + c))
 
 sum-from : (f : ℕ → ℕ) (a c : ℕ) → sumOver f a c ≡ sumOver (λ i. f (a + i)) 0 c
 unfolding sumOver
@@ -122,26 +93,6 @@ module _ (words : ℕ) where
       let y : 0 + c ≡ c = omega arith in
       ap (sumOver f 0) e ∙ sum-join f 0 (64 * (words * c)) (64 * words)
       ∙ omega (arith, sum-rows f c, ap (λ (a : ℕ). sumOver f a (64 * words)) z, sum-from f (64 * (words * c)) (64 * words), ap (λ (k : ℕ). sumOver (λ i. f (slot words k i)) 0 (64 * words)) y)
-
--- no bit is kept before the next one that is
-from-between : (ws : List ℕ) (i j : ℕ) → j ≡ nextFrom ws i → (x : ℕ) → i ≤ x → x < j → kept ws x ≡ false
-from-between ws i j e x a b =
-    ⊎-elim
-    (λ (t : kept ws x ≡ true).
-    clash (lt-ltb x j b)
-    (sym (from-skip ws (ltb x)
-    (λ y f.
-    test-iff _ _
-    (λ s. lt-ltb x (y + 1) (omega (arith, ltb-true x y s)))
-    (λ s.
-    ⊎-elim
-    (λ (z : x ≡ y). clash t (ap (kept ws) z ∙ f))
-    (λ (z : x < y). lt-ltb x y z)
-    (eq-or-lt-of-le {n = x} {m = y} (omega (arith, ltb-true x (y + 1) s)))))
-    i j e)
-    ∙ le-ltb x i a))
-    (λ (t : kept ws x ≡ false). t)
-    (decide (kept ws x))
 
 -- ---- the pairs of kept bits
 
@@ -324,122 +275,6 @@ module _ (P Q : List ℤ) (v words : ℕ) (b : List ℕ) (r : RunSet P Q v words
 abbrev pub walkOf : List ℤ → List ℤ → ℕ → ℕ → ℕ → Answer
 walkOf P Q v words x = pairWalk P Q (chamberAt Q v (x / (64 * words))) (x % (64 * words))
 
-module _ (P Q : List ℤ) (v words : ℕ) (b₀ : List ℕ) where
-  -- a bit of those kept at first stays if its ring walk is clear
-  unfoldable pub stays : ℕ → Bool
-  stays x = kept b₀ x && clear (walkOf P Q v words x .hit)
-
-  -- the nodes that this opens
-  unfoldable pub spends : ℕ → ℕ
-  spends x = cond (kept b₀ x) (walkOf P Q v words x .opened) 0
-
-  stays-not : (x : ℕ) → kept b₀ x ≡ false → stays x ≡ false
-  unfolding stays
-  stays-not x e = rw e
-
-  spends-not : (x : ℕ) → kept b₀ x ≡ false → spends x ≡ 0
-  unfolding spends
-  spends-not x e = rw e
-
-  -- the bits before x are settled, with so many pairs found and so many nodes opened, o of them by the filter walk
-  pub record Sifted (o : ℕ) (b : List ℕ) (count opened x : ℕ) : Type 0 where
-    pub long : length b ≡ length b₀
-    pub below : (y : ℕ) → y < x → kept b y ≡ stays y
-    pub above : (y : ℕ) → x ≤ y → kept b y ≡ kept b₀ y
-    pub counted : count ≡ sumOver (λ y. oneIf (stays y)) 0 x
-    pub spent : opened ≡ o + sumOver spends 0 x
-
-  -- the same, and x is the next kept bit
-  pub record Sifts (o : ℕ) (b : List ℕ) (count opened x : ℕ) : Type 0 where
-    pub sifted : Sifted o b count opened x
-    pub here : x < 64 * length b₀ → kept b₀ x ≡ true
-
-  -- on to the next kept bit
-  pub sift-next : (o : ℕ) (b : List ℕ) (count opened x u : ℕ) → u ≡ nextFrom b x → Sifted o b count opened x → Sifts o b count opened u
-  sift-next o b count opened x u e s =
-      record {
-        sifted =
-            record {
-              long = s .long;
-              below = λ y l.
-                  ⊎-elim
-                  (λ (t : ltb y x ≡ true). s .below y (ltb-true y x t))
-                  (λ (t : ltb y x ≡ false). from-between b x u e y (ltb-false y x t) l ∙ sym (stays-not y (quiet y (ltb-false y x t) l)))
-                  (decide (ltb y x));
-              above = λ y l. s .above y (omega (arith, from-le b x u e));
-              counted = s .counted ∙ sym (sum-past _ x u (from-le b x u e) (λ y h l. ap oneIf (stays-not y (quiet y h l))));
-              spent = s .spent ∙ ap (λ (a : ℕ). o + a) (sym (sum-past _ x u (from-le b x u e) (λ y h l. spends-not y (quiet y h l))));
-            };
-        here = λ l. sym (s .above u (from-le b x u e)) ∙ from-kept b x u e (omega (arith, s .long));
-      }
-    where
-      quiet : (y : ℕ) → x ≤ y → y < u → kept b₀ y ≡ false
-      quiet y h l = sym (s .above y h) ∙ from-between b x u e y h l
-
-  sift-start : (o : ℕ) (b : List ℕ) (opened u : ℕ) → b ≡ b₀ → opened ≡ o → u ≡ nextFrom b 0 → Sifts o b 0 opened u
-  unfolding sumOver
-  sift-start o b opened u e f g = sift-next o b 0 opened 0 u g (record { long = ap length e; below = λ y l. absurd (omega arith); above = λ y l. ap (λ (ws : List ℕ). kept ws y) e; counted = refl; spent = omega arith })
-
-  -- one turn
-  module _ (o : ℕ) (b : List ℕ) (count opened x : ℕ) (s : Sifts o b count opened x) (l : x < 64 * length b₀) (a : Answer) (e : a ≡ walkOf P Q v words x) (t : Bool) (g : t ≡ clear (a .hit)) where
-    stays-is : stays x ≡ t
-    unfolding stays
-    stays-is = rw (s .here l) (sym (g ∙ ap (λ (y : Answer). clear (y .hit)) e))
-
-    spends-is : spends x ≡ a .opened
-    unfolding spends
-    spends-is = rw (s .here l) (sym (ap (λ (y : Answer). y .opened) e))
-
-    more-spent : opened + a .opened ≡ o + sumOver spends 0 (x + 1)
-    more-spent = omega (arith, s .sifted .spent, sum-next spends x, spends-is)
-
-    -- the ring walk is clear: the bit stays, and counts
-    sift-clear : t ≡ true → Sifted o b (count + 1) (opened + a .opened) (x + 1)
-    sift-clear y =
-        record {
-          long = s .sifted .long;
-          below = λ z h.
-              ⊎-elim
-              (λ (q : z ≡ x). ap (kept b) q ∙ s .sifted .above x (le-refl x) ∙ s .here l ∙ sym (ap stays q ∙ stays-is ∙ y))
-              (λ (q : z < x). s .sifted .below z q)
-              (eq-or-lt-of-le {n = z} {m = x} (omega arith));
-          above = λ z h. s .sifted .above z (omega arith);
-          counted = omega (arith, s .sifted .counted, sum-next (λ y. oneIf (stays y)) x, ap oneIf (stays-is ∙ y));
-          spent = more-spent;
-        }
-
-    -- it is not: the bit is taken out
-    sift-gone : t ≡ false → Sifted o (without b x) count (opened + a .opened) (x + 1)
-    sift-gone n =
-        let fits : x < 64 * length b = omega (arith, s .sifted .long) in
-        record {
-          long = without-length b x ∙ s .sifted .long;
-          below = λ z h.
-              ⊎-elim
-              (λ (q : z ≡ x). ap (kept (without b x)) q ∙ gone-same b x fits ∙ sym (ap stays q ∙ stays-is ∙ n))
-              (λ (q : z < x). gone-other b x z fits (λ w. omega arith) ∙ s .sifted .below z q)
-              (eq-or-lt-of-le {n = z} {m = x} (omega arith));
-          above = λ z h. gone-other b x z fits (λ w. omega arith) ∙ s .sifted .above z (omega arith);
-          counted = omega (arith, s .sifted .counted, sum-next (λ y. oneIf (stays y)) x, ap oneIf (stays-is ∙ n));
-          spent = more-spent;
-        }
-
-  -- room for the counts
-  sift-few : (o : ℕ) (b : List ℕ) (count opened x : ℕ) → Sifts o b count opened x → count ≤ x
-  sift-few o b count opened x s = omega (arith, s .sifted .counted, sum-cap (λ y. oneIf (stays y)) 1 x (λ y. one (stays y)))
-    where
-      one : (t : Bool) → oneIf t ≤ 1
-      one true = omega arith
-      one false = omega arith
-
-  sift-room : (o : ℕ) (b : List ℕ) (count opened x : ℕ) → Sifts o b count opened x → (m : ℕ) → ((y : ℕ) → walkOf P Q v words y .opened ≤ m) → opened ≤ o + x * m
-  unfolding spends
-  sift-room o b count opened x s m h = omega (arith, s .sifted .spent, sum-cap spends m x (λ y. few y (kept b₀ y)))
-    where
-      few : (y : ℕ) (t : Bool) → cond t (walkOf P Q v words y .opened) 0 ≤ m
-      few y true = h y
-      few y false = omega arith
-
 -- ---- the filter walk keeps no bit past those of the leaf's chambers
 
 -- a walk of which only right states are asked
@@ -537,28 +372,28 @@ module _ (words : ℕ) (P Q : List ℤ) (p-opens : Opens P (points P) (nodes P))
       ∙ ap (pairWalk P Q (chamberAt Q v k)) (slot-position words k i l)
 
   -- the bits that stay are those of the ring pairs
-  stays-exact : (k i : ℕ) → i < 64 * words → stays P Q v words (atFirst P Q v words .bits) (slot words k i) ≡ (ltb k (countOf Q (points Q) v) && ltb i (points P) && ringPair (pointsOf P) (pointsOf Q) (chamberAt Q v k) i)
+  stays-exact : (k i : ℕ) → i < 64 * words → stays (walkOf P Q v words) (atFirst P Q v words .bits) (slot words k i) ≡ (ltb k (countOf Q (points Q) v) && ltb i (points P) && ringPair (pointsOf P) (pointsOf Q) (chamberAt Q v k) i)
   unfolding stays
   stays-exact k i l = by (ltb k (countOf Q (points Q) v)) refl (ltb i (points P)) refl
     where
-      by : (s : Bool) → ltb k (countOf Q (points Q) v) ≡ s → (t : Bool) → ltb i (points P) ≡ t → stays P Q v words (atFirst P Q v words .bits) (slot words k i) ≡ (s && t && ringPair (pointsOf P) (pointsOf Q) (chamberAt Q v k) i)
+      by : (s : Bool) → ltb k (countOf Q (points Q) v) ≡ s → (t : Bool) → ltb i (points P) ≡ t → stays (walkOf P Q v words) (atFirst P Q v words .bits) (slot words k i) ≡ (s && t && ringPair (pointsOf P) (pointsOf Q) (chamberAt Q v k) i)
       by true e true f =
           ap (λ (a : Answer). kept (atFirst P Q v words .bits) (slot words k i) && clear (a .hit)) (walk-slot k i l)
           ∙ sym (leaf-exact words P Q p-opens q-opens enough v v-in v-leaf k i (ltb-true k (countOf Q (points Q) v) e) (ltb-true i (points P) f))
-      by true e false f = stays-not P Q v words (atFirst P Q v words .bits) (slot words k i) (unkept-point k i l (ltb-false i (points P) f))
+      by true e false f = stays-not (walkOf P Q v words) (atFirst P Q v words .bits) (slot words k i) (unkept-point k i l (ltb-false i (points P) f))
       by false e t f =
           let m : words * countOf Q (points Q) v ≤ words * k = mul-le-mul (le-refl words) (ltb-false k (countOf Q (points Q) v) e) in
-          stays-not P Q v words (atFirst P Q v words .bits) (slot words k i) (unkept-past (slot words k i) (omega arith))
+          stays-not (walkOf P Q v words) (atFirst P Q v words .bits) (slot words k i) (unkept-past (slot words k i) (omega arith))
 
   -- where the loop ends, everything is settled
-  module _ (b : List ℕ) (count opened x : ℕ) (s : Sifts P Q v words (atFirst P Q v words .bits) (atFirst P Q v words .opened) b count opened x) (past : 64 * (words * countOf Q (points Q) v) ≤ x) where
-    all-settled : (y : ℕ) → kept b y ≡ stays P Q v words (atFirst P Q v words .bits) y
+  module _ (b : List ℕ) (count opened x : ℕ) (s : Sifts (walkOf P Q v words) (atFirst P Q v words .bits) (atFirst P Q v words .opened) b count opened x) (past : 64 * (words * countOf Q (points Q) v) ≤ x) where
+    all-settled : (y : ℕ) → kept b y ≡ stays (walkOf P Q v words) (atFirst P Q v words .bits) y
     all-settled y =
         ⊎-elim
         (λ (t : ltb y x ≡ true). s .sifted .below y (ltb-true y x t))
         (λ (t : ltb y x ≡ false).
         let n = unkept-past y (omega (arith, ltb-false y x t)) in
-        s .sifted .above y (ltb-false y x t) ∙ n ∙ sym (stays-not P Q v words (atFirst P Q v words .bits) y n))
+        s .sifted .above y (ltb-false y x t) ∙ n ∙ sym (stays-not (walkOf P Q v words) (atFirst P Q v words .bits) y n))
         (decide (ltb y x))
 
     end-set : RunSet P Q v words b
@@ -571,8 +406,8 @@ module _ (words : ℕ) (P Q : List ℤ) (p-opens : Opens P (points P) (nodes P))
     end-count : count ≡ length (leafList P Q v)
     end-count =
         let E = 64 * (words * countOf Q (points Q) v) in
-        let f : ℕ → ℕ = λ y. oneIf (stays P Q v words (atFirst P Q v words .bits) y) in
-        let none : (y : ℕ) → E ≤ y → f y ≡ 0 = λ y h. ap oneIf (stays-not P Q v words (atFirst P Q v words .bits) y (unkept-past y h)) in
+        let f : ℕ → ℕ = λ y. oneIf (stays (walkOf P Q v words) (atFirst P Q v words .bits) y) in
+        let none : (y : ℕ) → E ≤ y → f y ≡ 0 = λ y h. ap oneIf (stays-not (walkOf P Q v words) (atFirst P Q v words .bits) y (unkept-past y h)) in
         s .sifted .counted
         ∙ sum-past f E x past (λ y h l. none y h)
         ∙ sym (sum-past f E (64 * length b - 0) (omega (arith, ends P Q v words b end-set few enough)) (λ y h l. none y h))
@@ -584,24 +419,24 @@ module _ (words : ℕ) (P Q : List ℤ) (p-opens : Opens P (points P) (nodes P))
     unfolding leafOpened spends
     end-opened =
         let c = countOf Q (points Q) v in
-        let f : ℕ → ℕ = spends P Q v words (atFirst P Q v words .bits) in
+        let f : ℕ → ℕ = spends (walkOf P Q v words) (atFirst P Q v words .bits) in
         s .sifted .spent
         ∙ ap (λ (y : ℕ). atFirst P Q v words .opened + y)
-        (sum-past f (64 * (words * c)) x past (λ y h l. spends-not P Q v words (atFirst P Q v words .bits) y (unkept-past y h))
+        (sum-past f (64 * (words * c)) x past (λ y h l. spends-not (walkOf P Q v words) (atFirst P Q v words .bits) y (unkept-past y h))
         ∙ sum-rows words f c
         ∙ sum-same _ _ 0 c (λ k l.
-        sum-past (λ i. f (slot words (0 + k) i)) (points P) (64 * words) enough (λ i h m. spends-not P Q v words (atFirst P Q v words .bits) (slot words (0 + k) i) (unkept-point (0 + k) i m h))
+        sum-past (λ i. f (slot words (0 + k) i)) (points P) (64 * words) enough (λ i h m. spends-not (walkOf P Q v words) (atFirst P Q v words .bits) (slot words (0 + k) i) (unkept-point (0 + k) i m h))
         ∙ sum-same _ _ 0 (points P) (λ i m. ap (λ (a : Answer). cond (leafKeeps (chamberSpot Q v) c words P (0 + k) (0 + i)) (a .opened) 0) (walk-slot (0 + k) (0 + i) (omega arith)))))
 
 -- ---- what the functions ask, of sheets that open by the counts that they are told
 
 -- the loop, after the filter walk of the leaf v
 abbrev pub Going : List ℤ → List ℤ → ℕ → ℕ → List ℕ → ℕ → ℕ → ℕ → Type 0
-Going P Q v words b count opened x = Sifts P Q v words (atFirst P Q v words .bits) (atFirst P Q v words .opened) b count opened x
+Going P Q v words b count opened x = Sifts (walkOf P Q v words) (atFirst P Q v words .bits) (atFirst P Q v words .opened) b count opened x
 
 -- the same, with x passed
 abbrev pub Passed : List ℤ → List ℤ → ℕ → ℕ → List ℕ → ℕ → ℕ → ℕ → Type 0
-Passed P Q v words b count opened x = Sifted P Q v words (atFirst P Q v words .bits) (atFirst P Q v words .opened) b count opened x
+Passed P Q v words b count opened x = Sifted (walkOf P Q v words) (atFirst P Q v words .bits) (atFirst P Q v words .opened) b count opened x
 
 -- what `run_made` and `pair_from` are told: a leaf v of Q, and words for sixteen kept sets
 pub record Told (P : List ℤ) (np mp : ℕ) (Q : List ℤ) (nq mq v words : ℕ) : Type 0 where
@@ -657,8 +492,8 @@ module _ {P Q : List ℤ} {np mp nq mq v words : ℕ} (told : Told P np mp Q nq 
 
   pub going-start : (b : List ℕ) (opened u : ℕ) → b ≡ leafKept (chamberSpot Q v) (countOf Q nq v) words P .bits → opened ≡ leafKept (chamberSpot Q v) (countOf Q nq v) words P .opened → u ≡ nextFrom b 0 → Going P Q v words b 0 opened u
   going-start b opened u e f g =
-      subst (λ (c : ℕ). Sifts P Q v words (leafKept (chamberSpot Q v) c words P .bits) (leafKept (chamberSpot Q v) c words P .opened) b 0 opened u) count-is
-      (sift-start P Q v words _ _ b opened u e f g)
+      subst (λ (c : ℕ). Sifts (walkOf P Q v words) (leafKept (chamberSpot Q v) c words P .bits) (leafKept (chamberSpot Q v) c words P .opened) b 0 opened u) count-is
+      (sift-start (walkOf P Q v words) _ _ b opened u e f g)
 
   pub passed-long : (b : List ℕ) (count opened x : ℕ) → Passed P Q v words b count opened x → length b ≡ 16 * words
   passed-long b count opened x s = s .long ∙ leaf-long (chamberSpot Q v) (countOf Q (points Q) v) words P (own (told .p-opens)) (leaf-few Q (own (told .q-opens)) v in-q leaf-q) all-p
@@ -682,7 +517,7 @@ module _ {P Q : List ℤ} {np mp nq mq v words : ℕ} (told : Told P np mp Q nq 
           }
 
       pub going-few : count ≤ 1024000
-      going-few = omega (arith, words-few c e, sift-few P Q v words _ _ b count opened x s)
+      going-few = omega (arith, words-few c e, sift-few (walkOf P Q v words) _ _ b count opened x s)
 
       -- the counts have room for one ring walk more
       pub going-room : (a : Answer) (j i : ℕ) → a ≡ pairWalk P Q j i → opened + a .opened < 9223372036854775808
@@ -695,7 +530,7 @@ module _ {P Q : List ℤ} {np mp nq mq v words : ℕ} (told : Told P np mp Q nq 
             told .q-opens .m-is,
             told .q-opens .m-le,
             leaf-opened (chamberSpot Q v) (countOf Q (points Q) v) words P (own (told .p-opens)),
-            sift-room P Q v words _ _ b count opened x s (mp + mq) (λ y. omega (arith, told .p-opens .m-is, told .q-opens .m-is, pair-opened P Q (own (told .p-opens)) (own (told .q-opens)) (chamberAt Q v (y / (64 * words))) (y % (64 * words)))),
+            sift-room (walkOf P Q v words) _ _ b count opened x s (mp + mq) (λ y. omega (arith, told .p-opens .m-is, told .q-opens .m-is, pair-opened P Q (own (told .p-opens)) (own (told .q-opens)) (chamberAt Q v (y / (64 * words))) (y % (64 * words)))),
             ap (λ (y : Answer). y .opened) f,
             pair-opened P Q (own (told .p-opens)) (own (told .q-opens)) j i,
           )
@@ -706,10 +541,10 @@ module _ {P Q : List ℤ} {np mp nq mq v words : ℕ} (told : Told P np mp Q nq 
         walk-is = h ∙ ap (λ (y : ℕ). pairWalk P Q y (x % (64 * words))) (chamber-is first j x f g)
 
         pub going-clear : t ≡ true → (b′ : List ℕ) (n : ℕ) → b′ ≡ b → n ≡ count + 1 → Passed P Q v words b′ n (opened + a .opened) (x + 1)
-        going-clear y b′ n y₁ y₂ = rw (y₁, y₂) (sift-clear P Q v words _ _ b count opened x s at-first a walk-is t u y)
+        going-clear y b′ n y₁ y₂ = rw (y₁, y₂) (sift-clear (walkOf P Q v words) _ _ b count opened x s at-first a walk-is t u y)
 
         pub going-gone : t ≡ false → (b′ : List ℕ) (n : ℕ) → b′ ≡ without b x → n ≡ count → Passed P Q v words b′ n (opened + a .opened) (x + 1)
-        going-gone y b′ n y₁ y₂ = rw (y₁, y₂) (sift-gone P Q v words _ _ b count opened x s at-first a walk-is t u y)
+        going-gone y b′ n y₁ y₂ = rw (y₁, y₂) (sift-gone (walkOf P Q v words) _ _ b count opened x s at-first a walk-is t u y)
 
     module _ (c : ℕ) (e : c ≡ countOf Q nq v) (past : 64 * (words * c) ≤ x) where
       reached : 64 * (words * countOf Q (points Q) v) ≤ x

@@ -16,7 +16,7 @@ use Rattle.list.specs.declared.Page.{Page}
 use Rattle.list.specs.Pairs.{start, none, follows, after, lastOr, isNone}
 use Rattle.list.specs.Pages.{padded, shown, pageOf}
 use Rattle.list.specs.Rows.{row, rows, listBy}
-use Rattle.list.specs.RingList.{unblocked, ringPair, ringList}
+use Rattle.list.specs.RingList.{unblocked, ringPair, ringList, partnersOf, listedAt, thresholdList}
 
 abbrev at : ℕ → ℕ → ℕ → Point
 at i x y = record { id = i; spot = spot (pos x) (pos y) }
@@ -35,7 +35,7 @@ abbrev chambers : List Point
 chambers = at 5 4 0 ∷ at 6 16 1 ∷ []
 
 abbrev source : Source
-source = record { «p_edition» = 7; «q_edition» = 9 }
+source = record { «p_edition» = 7; «q_edition» = 9; threshold = 0 }
 
 abbrev page : Key → ℕ → Page
 page k size = pageOf source (ringList pumps chambers) k size
@@ -53,10 +53,15 @@ pub record Listed : Type 0 where
   between : page (key 5 3) 2 ≡ last (key 5 3)
   -- "a full last page has it too"
   full : page (key 5 2) 1 ≡ last (key 5 2)
+  -- chamber 5 has two partners, chamber 6 has one
+  of-none : thresholdList 0 pumps chambers ≡ ringList pumps chambers
+  of-one : thresholdList 1 pumps chambers ≡ ringList pumps chambers
+  of-two : thresholdList 2 pumps chambers ≡ to 5 1 16 ∷ to 5 2 36 ∷ []
+  of-three : thresholdList 3 pumps chambers ≡ []
 
 pub listed : Listed
-unfolding ringList listBy rows row ringPair unblocked allB sameSpot blocks pageOf padded shown after follows lastOr isNone
-listed = record { listing = refl; first = refl; second = refl; third = refl; between = refl; full = refl }
+unfolding ringList listBy rows row ringPair unblocked allB sameSpot blocks pageOf padded shown after follows lastOr isNone partnersOf listedAt thresholdList
+listed = record { listing = refl; first = refl; second = refl; third = refl; between = refl; full = refl; of-none = refl; of-one = refl; of-two = refl; of-three = refl }
 
 -- "01's two examples with records on one spot turn round": a record of either set at the place of an end doesn't count as another point
 pub record Starred : Type 0 where

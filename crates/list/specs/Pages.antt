@@ -1,8 +1,8 @@
 -- The pages of a list.
-use mathlib.Core.Bool.{Bool, true, false, cond, _&&_}
+use mathlib.Core.Bool.{Bool, true, false, cond, not, _&&_}
 use mathlib.Core.List.{List, [], _∷_, _++_}
 use Prim.Native.Nat.{ℕ, zero, suc, _-_}
-use lib.Dec.{eqb}
+use lib.Dec.{eqb, leb}
 use lib.ListN.{length, take, replicate}
 use Rattle.list.specs.declared.Key.{Key}
 use Rattle.list.specs.declared.Pair.{Pair}
@@ -10,9 +10,17 @@ use Rattle.list.specs.declared.Source.{Source}
 use Rattle.list.specs.declared.Page.{Page}
 use Rattle.list.specs.Pairs.{none, after, lastOr, isNone}
 
--- 13 "page of other editions": the number for a page of `b` and a book of `a`, 0 where they are of one list
+-- 21 "t outside 0 to 1,000": the number for the list of t, 0 where t is in range
+abbrev pub lastThreshold : ℕ
+lastThreshold = 1000
+
+unfoldable pub thresholdNo : ℕ → ℕ
+thresholdNo t = cond (leb t lastThreshold) 0 21
+
+-- 13 "page of other editions", then 31 "page of another t": the number for a page of `b` and a book of `a`, 0 where they are of one list
 unfoldable pub sourceNo : Source → Source → ℕ
-sourceNo a b = cond (eqb (a .«p_edition») (b .«p_edition») && eqb (a .«q_edition») (b .«q_edition»)) 0 13
+sourceNo a b =
+    cond (not (eqb (a .«p_edition») (b .«p_edition») && eqb (a .«q_edition») (b .«q_edition»))) 13 (cond (not (eqb (a .threshold) (b .threshold))) 31 0)
 
 -- sixteen pairs, the unused ones three zeros
 unfoldable pub padded : List Pair → List Pair

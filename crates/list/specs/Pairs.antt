@@ -32,6 +32,11 @@ unfoldable pub after : Key → List Pair → List Pair
 after k [] = []
 after k (v ∷ l) = cond (follows k (keyOf v)) (v ∷ after k l) (after k l)
 
+-- the pairs of a list whose chamber has this id
+unfoldable pub chamberPairs : ℕ → List Pair → List Pair
+chamberPairs id [] = []
+chamberPairs id (v ∷ l) = cond (eqb (v .q) id) (v ∷ chamberPairs id l) (chamberPairs id l)
+
 -- the last pair's key, or `k` if there is none
 unfoldable pub lastOr : Key → List Pair → Key
 lastOr k [] = k

@@ -2,6 +2,7 @@
 use mathlib.Core.Bool.{Bool, not, _&&_}
 use mathlib.Core.List.{List}
 use Prim.Native.Nat.{ℕ, _<_}
+use lib.Dec.{leb}
 use lib.IntN.{natAbs}
 use lib.ListN.{length}
 use Rattle.integers.specs.Order.{Within}
@@ -10,7 +11,7 @@ use Rattle.plane.specs.declared.Spot.{Spot}
 use Rattle.plane.specs.Rule.{blocks, size}
 use Rattle.plane.specs.Point.{Point, idAt, spotAt}
 use Rattle.list.specs.declared.Pair.{Pair}
-use Rattle.list.specs.Rows.{listBy, Rising}
+use Rattle.list.specs.Rows.{row, listBy, Rising}
 
 -- no record of a set blocks the pair a, b. An end of the pair stands at its own place, and so never does.
 unfoldable pub unblocked : List Point → Spot → Spot → Bool
@@ -31,6 +32,18 @@ pairAt P Q j i = record { q = idAt Q j; p = idAt P i; size = sizeOf (spotAt Q j)
 -- the ring pairs of P and Q: "The list runs by q id, then p id"
 unfoldable pub ringList : List Point → List Point → List Pair
 ringList P Q = listBy (ringPair P Q) (pairAt P Q) (length P) (length Q)
+
+-- how many pairs of the list are of the chamber at position j
+unfoldable pub partnersOf : List Point → List Point → ℕ → ℕ
+partnersOf P Q j = length (row (ringPair P Q) (pairAt P Q) j (length P) 0)
+
+-- "at least t partners": a ring pair of a chamber that has so many
+unfoldable pub listedAt : ℕ → List Point → List Point → ℕ → ℕ → Bool
+listedAt t P Q j i = ringPair P Q j i && leb t (partnersOf P Q j)
+
+-- "list all such chambers by id with all their pairs": the list of t, "0 for the full list"
+unfoldable pub thresholdList : ℕ → List Point → List Point → List Pair
+thresholdList t P Q = listBy (listedAt t P Q) (pairAt P Q) (length P) (length Q)
 
 -- a place where a point of a sheet may stand: "x and y from -1,000,000 to 1,000,000"
 pub record Near (z : Spot) : Type 0 where

@@ -1,7 +1,7 @@
 // The list of ring pairs and its pages, with no tree in sight: keys, pairs, what list a page is of, and the page.
 ghost use mathlib.Core.Path.{_≡_};
 ghost use Rattle.list.specs.Pairs.{keyOf, follows};
-ghost use Rattle.list.specs.Pages.{sourceNo};
+ghost use Rattle.list.specs.Pages.{thresholdNo, sourceNo};
 
 // A place in the list: a chamber's id, then a pump house's.
 #[repr(C)]
@@ -18,11 +18,12 @@ pub struct Pair {
     pub size: u64,
 }
 
-// What list a page or a book is of.
+// What list a page or a book is of: two editions, and the number of partners that a chamber must have to be listed, 0 for the full list.
 #[repr(C)]
 pub struct Source {
     pub p_edition: u32,
     pub q_edition: u32,
+    pub threshold: u32,
 }
 
 // One page of a list: the pairs that follow a key, how many they are, and whether none follows them.
@@ -49,12 +50,25 @@ pub fn is_after(k: Key, v: Key) -> bool
     (k.q < v.q) | ((k.q == v.q) & (k.p < v.p))
 }
 
+// The number of refusal for a threshold, 0 where it is in range.
+pub fn threshold_no(t: u32) -> u32
+    ensures { λ r. ⌜ r ≡ thresholdNo t ⌝ }
+{
+    if t <= 1000 {
+        return 0;
+    }
+    21
+}
+
 // The number of refusal for a page of `b` handed to a book of `a`, 0 where they are of one list.
 pub fn source_no(a: Source, b: Source) -> u32
     ensures { λ r. ⌜ r ≡ sourceNo a b ⌝ }
 {
-    if (a.p_edition == b.p_edition) & (a.q_edition == b.q_edition) {
-        return 0;
+    if !((a.p_edition == b.p_edition) & (a.q_edition == b.q_edition)) {
+        return 13;
     }
-    13
+    if a.threshold != b.threshold {
+        return 31;
+    }
+    0
 }

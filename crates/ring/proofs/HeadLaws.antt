@@ -17,11 +17,7 @@ use Rattle.ring.specs.Numbers.{first, sheetNo, sheetsNo}
 use Rattle.ring.specs.Answers.{headOf, headsOf}
 use Rattle.ring.specs.declared.Head.{Head}
 use Rattle.ring.specs.declared.Heads.{Heads}
-use Rattle.ring.proofs.NumberLaws.{first-stops, first-passes}
-
-passed : (k b : ℕ) (t : Bool) → eqb k 0 ≡ t → cond t b k ≡ 0 → k ≡ 0
-passed k b true t e = eqb-true k 0 t
-passed k b false t e = e
+use Rattle.ring.proofs.NumberLaws.{first-stops, first-passes, first-none}
 
 -- a sheet has its trailer
 pub long : (w : List ℤ) → sheetNo w ≡ 0 → 6 ≤ length w
@@ -122,7 +118,7 @@ heads-number P Q h e = ap (λ (g : Heads). g .number) e ∙ number (eqb (sheetsN
 -- two sheets that open one by one
 pub both-open : (P Q : List ℤ) → sheetsNo P Q ≡ 0 → (sheetNo P ≡ 0) × (sheetNo Q ≡ 0)
 unfolding sheetsNo
-both-open P Q e = let p = passed (sheetNo P) (sheetNo Q) (eqb (sheetNo P) 0) refl e in (p, sym (first-passes (sheetNo P) (sheetNo Q) p) ∙ e)
+both-open P Q e = first-none (sheetNo P) (sheetNo Q) e
 
 pub record HeadedBoth (P Q : List ℤ) (h : Heads) : Type 0 where
   pub opens : sheetsNo P Q ≡ 0

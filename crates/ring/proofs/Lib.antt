@@ -6,6 +6,7 @@
 --     FilterLaws    the filter walk
 --     Once          one input, one answer, and its number
 --     PageLaws      the page request
+--     PartnersLaws  the question for a chamber's partners
 pub mod NumberLaws
 pub mod HeadLaws
 pub mod PointLaws
@@ -13,3 +14,4 @@ pub mod RingLaws
 pub mod FilterLaws
 pub mod Once
 pub mod PageLaws
+pub mod PartnersLaws

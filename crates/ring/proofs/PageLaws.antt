@@ -27,97 +27,103 @@ use Rattle.list.specs.declared.Key.{Key}
 use Rattle.list.specs.declared.Page.{Page}
 use Rattle.list.specs.declared.Source.{Source}
 use Rattle.list.specs.Pairs.{start}
-use Rattle.list.specs.Pages.{pageOf, followed}
-use Rattle.list.specs.RingList.{ringList}
+use Rattle.list.specs.Pages.{lastThreshold, thresholdNo, pageOf, followed}
+use Rattle.list.specs.RingList.{thresholdList}
 use Rattle.list.proofs.PageLaws.{asked-pages}
 use Rattle.list.proofs.RowLaws.{ring-keys}
+use Rattle.list.proofs.ThresholdLaws.{threshold-in}
 use Rattle.join.specs.declared.Draft.{Draft}
 use Rattle.join.specs.Work.{pageOpened}
 use Rattle.join.specs.Maker.{pageMade, pageFrom}
 use Rattle.join.specs.Sheets.{walksOf}
+use Rattle.join.specs.Threshold.{walksFor}
 use Rattle.join.proofs.Meaning.{points-rise, page-pairs, page-opened, sheet-pages, list-by-points}
 use Rattle.ring.specs.declared.Heads.{Heads}
 use Rattle.ring.specs.declared.Paged.{Paged}
 use Rattle.ring.specs.Numbers.{first, sheetsNo}
 use Rattle.ring.specs.Answers.{headsOf}
 use Rattle.ring.specs.Page.{keyNo, sizeNo, askedNo, pageNo, sourceOf, pageGiven, pageRefused, pageAnswer}
-use Rattle.ring.proofs.NumberLaws.{first-passes}
+use Rattle.ring.proofs.NumberLaws.{first-passes, first-none}
 use Rattle.ring.proofs.HeadLaws.{HeadedBoth, both-open, sheets-stop, sheets-pass}
 
--- ---- the key's number and the size's
+-- ---- the numbers of the key, of the size and of the threshold
 
-module _ (key : Key) (size : ℕ) where
-  pub asked-9 : not (leb (key .q) lastId && leb (key .p) lastId) ≡ true → 9 ≡ askedNo key size
+-- a size that is not refused
+size-fits : (size : ℕ) → sizeNo size ≡ 0 → (1 ≤ size) × (size ≤ 16)
+unfolding sizeNo
+size-fits size e = go (leb 1 size && leb size 16) refl e
+  where
+    go : (b : Bool) → (leb 1 size && leb size 16) ≡ b → _≡_ {A = ℕ} (cond b 0 10) 0 → (1 ≤ size) × (size ≤ 16)
+    go true f e = (leb-true 1 size (and-left (leb 1 size) (leb size 16) f), leb-true size 16 (and-right (leb 1 size) (leb size 16) f))
+    go false f e = absurd (omega arith)
+
+module _ (key : Key) (size t : ℕ) where
+  pub asked-9 : not (leb (key .q) lastId && leb (key .p) lastId) ≡ true → 9 ≡ askedNo key size t
   unfolding askedNo keyNo
   asked-9 e = rw (not-true (leb (key .q) lastId && leb (key .p) lastId) e)
 
-  pub asked-10 : not (leb (key .q) lastId && leb (key .p) lastId) ≡ false → not (leb 1 size && leb size 16) ≡ true → 10 ≡ askedNo key size
+  pub asked-10 : not (leb (key .q) lastId && leb (key .p) lastId) ≡ false → not (leb 1 size && leb size 16) ≡ true → 10 ≡ askedNo key size t
   unfolding askedNo keyNo sizeNo
   asked-10 e f = rw (not-false (leb (key .q) lastId && leb (key .p) lastId) e, not-true (leb 1 size && leb size 16) f)
 
-  pub asked-0 : not (leb (key .q) lastId && leb (key .p) lastId) ≡ false → not (leb 1 size && leb size 16) ≡ false → 0 ≡ askedNo key size
+  pub asked-21 : not (leb (key .q) lastId && leb (key .p) lastId) ≡ false → not (leb 1 size && leb size 16) ≡ false → (k : ℕ) → k ≡ thresholdNo t → k ≡ askedNo key size t
   unfolding askedNo keyNo sizeNo
-  asked-0 e f = rw (not-false (leb (key .q) lastId && leb (key .p) lastId) e, not-false (leb 1 size && leb size 16) f)
+  asked-21 e f k d = rw (not-false (leb (key .q) lastId && leb (key .p) lastId) e, not-false (leb 1 size && leb size 16) f) d
 
   -- a request that is not refused has its size from 1 to 16
-  pub asked-size : askedNo key size ≡ 0 → (1 ≤ size) × (size ≤ 16)
-  unfolding askedNo keyNo sizeNo
-  asked-size e = go (leb (key .q) lastId && leb (key .p) lastId) (leb 1 size && leb size 16) refl e
-    where
-      go : (a b : Bool) → (leb 1 size && leb size 16) ≡ b → first (cond a 0 9) (cond b 0 10) ≡ 0 → (1 ≤ size) × (size ≤ 16)
-      go true true f e = (leb-true 1 size (and-left (leb 1 size) (leb size 16) f), leb-true size 16 (and-right (leb 1 size) (leb size 16) f))
-      go true false f e = absurd (omega arith)
-      go false b f e = absurd (omega arith)
+  pub asked-size : askedNo key size t ≡ 0 → (1 ≤ size) × (size ≤ 16)
+  unfolding askedNo
+  asked-size e = size-fits size (first-none (sizeNo size) (thresholdNo t) (first-none (keyNo key) (first (sizeNo size) (thresholdNo t)) e .1) .0)
 
-  pub size-in : {a : ℕ} → a ≡ askedNo key size → a ≡ 0 → size ≤ 16
+  pub size-in : {a : ℕ} → a ≡ askedNo key size t → a ≡ 0 → size ≤ 16
   size-in d y = asked-size (sym d ∙ y) .1
 
 -- ---- the answers
 
-module _ (P Q : List ℤ) (key : Key) (size : ℕ) where
+module _ (P Q : List ℤ) (key : Key) (size t : ℕ) where
   -- refused: its number, and zeros
-  pub page-refused : (k : ℕ) → pageNo P Q key size ≡ k → (k ≡ 0 → ⊥) → pageAnswer P Q key size ≡ pageRefused k
+  pub page-refused : (k : ℕ) → pageNo P Q key size t ≡ k → (k ≡ 0 → ⊥) → pageAnswer P Q key size t ≡ pageRefused k
   unfolding pageAnswer
   page-refused k e ne = rw (e, ne-eqb k 0 ne)
 
   -- with sheets that open, a key and a size in range: the page and its count
-  pub page-answered : pageNo P Q key size ≡ 0 → pageAnswer P Q key size ≡ pageGiven P Q key size
+  pub page-answered : pageNo P Q key size t ≡ 0 → pageAnswer P Q key size t ≡ pageGiven P Q key size t
   unfolding pageAnswer
-  page-answered e = rw (eq-eqb (pageNo P Q key size) 0 e)
+  page-answered e = rw (eq-eqb (pageNo P Q key size t) 0 e)
 
   -- one request, one answer
-  pub page-once : (r r′ : Paged) → r ≡ pageAnswer P Q key size → r′ ≡ pageAnswer P Q key size → r ≡ r′
+  pub page-once : (r r′ : Paged) → r ≡ pageAnswer P Q key size t → r′ ≡ pageAnswer P Q key size t → r ≡ r′
   page-once r r′ e f = e ∙ sym f
 
-  -- No other request is refused: sheets that open, each id of the key at most 2,000,000,000 and a size from 1 to 16 are served.
-  pub page-served : sheetsNo P Q ≡ 0 → key .q ≤ lastId → key .p ≤ lastId → 1 ≤ size → size ≤ 16 → pageAnswer P Q key size ≡ pageGiven P Q key size
-  unfolding pageNo askedNo keyNo sizeNo
-  page-served opens a b c d =
-      page-answered (first-passes (sheetsNo P Q) (first (keyNo key) (sizeNo size)) opens ∙ (rw (le-leb (key .q) lastId a, le-leb (key .p) lastId b, le-leb 1 size c, le-leb size 16 d)))
+  -- No other request is refused: sheets that open, each id of the key at most 2,000,000,000, a size from 1 to 16 and a t up to 1,000 are served.
+  pub page-served : sheetsNo P Q ≡ 0 → key .q ≤ lastId → key .p ≤ lastId → 1 ≤ size → size ≤ 16 → t ≤ lastThreshold → pageAnswer P Q key size t ≡ pageGiven P Q key size t
+  unfolding pageNo askedNo keyNo sizeNo thresholdNo
+  page-served opens a b c d e =
+      page-answered (first-passes (sheetsNo P Q) (first (keyNo key) (first (sizeNo size) (thresholdNo t))) opens ∙ (rw (le-leb (key .q) lastId a, le-leb (key .p) lastId b, le-leb 1 size c, le-leb size 16 d, le-leb t lastThreshold e)))
 
   -- the number is the first that applies
-  pub page-no : pageAnswer P Q key size .number ≡ pageNo P Q key size
+  pub page-no : pageAnswer P Q key size t .number ≡ pageNo P Q key size t
   unfolding pageAnswer pageGiven pageRefused
-  page-no = go (eqb (pageNo P Q key size) 0) refl
+  page-no = go (eqb (pageNo P Q key size t) 0) refl
     where
-      go : (t : Bool) → eqb (pageNo P Q key size) 0 ≡ t → cond t (pageGiven P Q key size) (pageRefused (pageNo P Q key size)) .number ≡ pageNo P Q key size
-      go true e = sym (eqb-true (pageNo P Q key size) 0 e)
+      go : (b : Bool) → eqb (pageNo P Q key size t) 0 ≡ b → cond b (pageGiven P Q key size t) (pageRefused (pageNo P Q key size t)) .number ≡ pageNo P Q key size t
+      go true e = sym (eqb-true (pageNo P Q key size t) 0 e)
       go false e = refl
 
   module _ (h : Heads) (e : h ≡ headsOf P Q) (r : Paged) where
-    pub page-sheets : (h .number ≡ 0 → ⊥) → r ≡ pageRefused (h .number) → r ≡ pageAnswer P Q key size
+    pub page-sheets : (h .number ≡ 0 → ⊥) → r ≡ pageRefused (h .number) → r ≡ pageAnswer P Q key size t
     unfolding pageNo
-    page-sheets ne f = f ∙ sym (page-refused (h .number) (sheets-stop P Q h (askedNo key size) e ne) ne)
+    page-sheets ne f = f ∙ sym (page-refused (h .number) (sheets-stop P Q h (askedNo key size t) e ne) ne)
 
-    module _ (z : h .number ≡ 0) (a : ℕ) (d : a ≡ askedNo key size) where
-      after : pageNo P Q key size ≡ a
+    module _ (z : h .number ≡ 0) (a : ℕ) (d : a ≡ askedNo key size t) where
+      after : pageNo P Q key size t ≡ a
       unfolding pageNo
-      after = sheets-pass P Q h (askedNo key size) e z ∙ sym d
+      after = sheets-pass P Q h (askedNo key size t) e z ∙ sym d
 
-      pub page-asked : (a ≡ 0 → ⊥) → r ≡ pageRefused a → r ≡ pageAnswer P Q key size
+      pub page-asked : (a ≡ 0 → ⊥) → r ≡ pageRefused a → r ≡ pageAnswer P Q key size t
       page-asked ne f = f ∙ sym (page-refused a after ne)
 
-      pub page-made : a ≡ 0 → r ≡ pageGiven P Q key size → r ≡ pageAnswer P Q key size
+      pub page-made : a ≡ 0 → r ≡ pageGiven P Q key size t → r ≡ pageAnswer P Q key size t
       page-made y f = f ∙ sym (page-answered (after ∙ y))
 
 -- a sheet of form 1 has a position for each pump house on sixteen words
@@ -125,21 +131,21 @@ pub pumps-fit : (P Q : List ℤ) (h : Heads) → HeadedBoth P Q h → h .np ≤ 
 unfolding form1
 pumps-fit P Q h o = omega (arith, o .np-is, open-trailer form1 P (both-open P Q (o .opens) .0) .n-le)
 
-pub source-read : (P Q : List ℤ) (a b : ℕ) → a ≡ num (edition P) → b ≡ num (edition Q) → record { «p_edition» = a; «q_edition» = b } ≡ sourceOf P Q
+pub source-read : (P Q : List ℤ) (t a b : ℕ) → a ≡ num (edition P) → b ≡ num (edition Q) → record { «p_edition» = a; «q_edition» = b; threshold = t } ≡ sourceOf P Q t
 unfolding sourceOf
-source-read P Q a b e f = λ t. record { «p_edition» = e t; «q_edition» = f t }
+source-read P Q t a b e f = λ i. record { «p_edition» = e i; «q_edition» = f i; threshold = t }
 
 -- the page maker's draft, as the answer has it
-module _ {P Q : List ℤ} {np mp nq mq : ℕ} (o : Opens P np mp) (o′ : Opens Q nq mq) (fit : np ≤ 1024) (key : Key) (size : ℕ) (few : size ≤ 16) where
-  pub page-given : (d : Draft) → d ≡ pageMade (walksOf 16 P Q) key size np nq → (s : Source) → s ≡ sourceOf P Q → (g : Page) → g ≡ pageFrom s key d
-      → record { number = 0; opened = d .opened; page = g } ≡ pageGiven P Q key size
+module _ {P Q : List ℤ} {np mp nq mq : ℕ} (o : Opens P np mp) (o′ : Opens Q nq mq) (fit : np ≤ 1024) (key : Key) (size t : ℕ) (few : size ≤ 16) where
+  pub page-given : (d : Draft) → d ≡ pageMade (walksFor (walksOf 16 P Q) np t) key size np nq → (s : Source) → s ≡ sourceOf P Q t → (g : Page) → g ≡ pageFrom s key d
+      → record { number = 0; opened = d .opened; page = g } ≡ pageGiven P Q key size t
   unfolding pageGiven
   page-given d ed s es g eg =
-      let opened : d .opened ≡ pageOpened (walksOf 16 P Q) key size (points P) (points Q) = ap (λ (x : Draft). x .opened) ed ∙ page-opened o o′ 16 (omega arith) key size ∙ ap (λ (n : ℕ). pageOpened (walksOf 16 P Q) key size n nq) (sym (o .n-is)) ∙ ap (pageOpened (walksOf 16 P Q) key size (points P)) (sym (o′ .n-is)) in
-      let page : g ≡ pageOf (sourceOf P Q) (ringList (pointsOf P) (pointsOf Q)) key size = eg ∙ ap (λ (x : Source). pageFrom x key d) es ∙ ap (pageFrom (sourceOf P Q) key) ed ∙ page-pairs o o′ 16 (omega arith) (sourceOf P Q) key size few in
-      λ t. record { number = 0; opened = opened t; page = page t }
+      let opened : d .opened ≡ pageOpened (walksFor (walksOf 16 P Q) (points P) t) key size (points P) (points Q) = ap (λ (x : Draft). x .opened) ed ∙ page-opened o o′ 16 (omega arith) t key size ∙ ap (λ (n : ℕ). pageOpened (walksFor (walksOf 16 P Q) n t) key size n nq) (sym (o .n-is)) ∙ ap (pageOpened (walksFor (walksOf 16 P Q) (points P) t) key size (points P)) (sym (o′ .n-is)) in
+      let page : g ≡ pageOf (sourceOf P Q t) (thresholdList t (pointsOf P) (pointsOf Q)) key size = eg ∙ ap (λ (x : Source). pageFrom x key d) es ∙ ap (pageFrom (sourceOf P Q t) key) ed ∙ page-pairs o o′ 16 (omega arith) t (sourceOf P Q t) key size few in
+      λ i. record { number = 0; opened = opened i; page = page i }
 
--- Following the page request's answers from (0, 0), whatever their sizes from 1 to 16, gives the list, each pair once: no request on the way is refused.
+-- Following the page request's answers from (0, 0), whatever their sizes from 1 to 16, gives t's list, each pair once: no request on the way is refused.
 module _ (P Q : List ℤ) (opens : sheetsNo P Q ≡ 0) where
   p-opens : Opens P (points P) (nodes P)
   p-opens = open-facts form1 form1-fair P (both-open P Q opens .0)
@@ -147,25 +153,27 @@ module _ (P Q : List ℤ) (opens : sheetsNo P Q ≡ 0) where
   q-opens : Opens Q (points Q) (nodes Q)
   q-opens = open-facts form1 form1-fair Q (both-open P Q opens .1)
 
-  pub pages-list : (sizes : ℕ → ℕ) → ((i : ℕ) → sizeNo (sizes i) ≡ 0)
-      → followed (length (ringList (pointsOf P) (pointsOf Q))) sizes (λ k n. pageAnswer P Q k n .page) start ≡ ringList (pointsOf P) (pointsOf Q)
-  unfolding keyNo askedNo pageGiven
-  pages-list sizes s =
-      let l = ringList (pointsOf P) (pointsOf Q) in
-      let fit : (i : ℕ) → (1 ≤ sizes i) × (sizes i ≤ 16) = λ i. asked-size start (sizes i) (first-passes (keyNo start) (sizeNo (sizes i)) refl ∙ s i) in
-      asked-pages (λ k. (k .q ≤ lastId) × (k .p ≤ lastId)) (λ k n. pageAnswer P Q k n .page) (sourceOf P Q) l
-      (ring-keys (pointsOf P) (pointsOf Q) (points-rise p-opens) (points-rise q-opens)) (length l) sizes start (omega arith, omega arith)
-      (λ i k x. ap (λ (r : Paged). r .page) (page-served P Q k (sizes i) opens (x .0) (x .1) (fit i .0) (fit i .1)))
-      ∙ sheet-pages p-opens q-opens sizes (sourceOf P Q) (λ i. fit i .0)
+  pub pages-list : (t : ℕ) → t ≤ lastThreshold → (sizes : ℕ → ℕ) → ((i : ℕ) → sizeNo (sizes i) ≡ 0)
+      → followed (length (thresholdList t (pointsOf P) (pointsOf Q))) sizes (λ k n. pageAnswer P Q k n t .page) start ≡ thresholdList t (pointsOf P) (pointsOf Q)
+  unfolding pageGiven
+  pages-list t most sizes s =
+      let rp = points-rise p-opens in
+      let rq = points-rise q-opens in
+      let l = thresholdList t (pointsOf P) (pointsOf Q) in
+      let fit : (i : ℕ) → (1 ≤ sizes i) × (sizes i ≤ 16) = λ i. size-fits (sizes i) (s i) in
+      asked-pages (λ k. (k .q ≤ lastId) × (k .p ≤ lastId)) (λ k n. pageAnswer P Q k n t .page) (sourceOf P Q t) l
+      (λ v m. ring-keys (pointsOf P) (pointsOf Q) rp rq v (threshold-in (pointsOf P) (pointsOf Q) rp rq t v m)) (length l) sizes start (omega arith, omega arith)
+      (λ i k x. ap (λ (r : Paged). r .page) (page-served P Q k (sizes i) t opens (x .0) (x .1) (fit i .0) (fit i .1) most))
+      ∙ sheet-pages p-opens q-opens t sizes (sourceOf P Q t) (λ i. fit i .0)
 
 -- sheets with the same points give the same pairs, number and end mark of every page, whatever their editions and trees
-module _ (P P′ Q Q′ : List ℤ) (key : Key) (size : ℕ) (ep : pointsOf P ≡ pointsOf P′) (eq : pointsOf Q ≡ pointsOf Q′) (n : pageNo P Q key size ≡ 0) (n′ : pageNo P′ Q′ key size ≡ 0) where
-  pub page-by-points : (pageAnswer P Q key size .page .pairs ≡ pageAnswer P′ Q′ key size .page .pairs)
-      × (pageAnswer P Q key size .page .count ≡ pageAnswer P′ Q′ key size .page .count)
-      × (pageAnswer P Q key size .page .end ≡ pageAnswer P′ Q′ key size .page .end)
+module _ (P P′ Q Q′ : List ℤ) (key : Key) (size t : ℕ) (ep : pointsOf P ≡ pointsOf P′) (eq : pointsOf Q ≡ pointsOf Q′) (n : pageNo P Q key size t ≡ 0) (n′ : pageNo P′ Q′ key size t ≡ 0) where
+  pub page-by-points : (pageAnswer P Q key size t .page .pairs ≡ pageAnswer P′ Q′ key size t .page .pairs)
+      × (pageAnswer P Q key size t .page .count ≡ pageAnswer P′ Q′ key size t .page .count)
+      × (pageAnswer P Q key size t .page .end ≡ pageAnswer P′ Q′ key size t .page .end)
   unfolding pageGiven
   page-by-points =
-      let a = page-answered P Q key size n in
-      let b = page-answered P′ Q′ key size n′ in
-      let l = list-by-points P P′ Q Q′ ep eq (sourceOf P Q) (sourceOf P′ Q′) key size in
+      let a = page-answered P Q key size t n in
+      let b = page-answered P′ Q′ key size t n′ in
+      let l = list-by-points P P′ Q Q′ ep eq t (sourceOf P Q t) (sourceOf P′ Q′ t) key size in
       (ap (λ (x : Paged). x .page .pairs) a ∙ l .0 ∙ sym (ap (λ (x : Paged). x .page .pairs) b), ap (λ (x : Paged). x .page .count) a ∙ l .1 ∙ sym (ap (λ (x : Paged). x .page .count) b), ap (λ (x : Paged). x .page .end) a ∙ l .2 ∙ sym (ap (λ (x : Paged). x .page .end) b))

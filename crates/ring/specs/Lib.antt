@@ -2,6 +2,8 @@
 --     Numbers    the numbers of refusal
 --     Answers    the answers of the point reader, of both walks and of the check
 --     Page       the page request
+--     Partners   whether a chamber has at least t partners
 pub mod Numbers
 pub mod Answers
 pub mod Page
+pub mod Partners

@@ -12,10 +12,11 @@ use Rattle.sheet.specs.Places.{pointsOf}
 use Rattle.list.specs.declared.Key.{Key}
 use Rattle.list.specs.declared.Source.{Source}
 use Rattle.list.specs.Pairs.{start, none}
-use Rattle.list.specs.Pages.{pageOf}
-use Rattle.list.specs.RingList.{ringList}
+use Rattle.list.specs.Pages.{thresholdNo, pageOf}
+use Rattle.list.specs.RingList.{thresholdList}
 use Rattle.join.specs.Work.{pageOpened}
 use Rattle.join.specs.Sheets.{walksOf}
+use Rattle.join.specs.Threshold.{walksFor}
 use Rattle.ring.specs.declared.Paged.{Paged}
 use Rattle.ring.specs.Numbers.{first, sheetsNo}
 
@@ -27,25 +28,25 @@ keyNo key = cond (leb (key .q) lastId && leb (key .p) lastId) 0 9
 unfoldable pub sizeNo : ℕ → ℕ
 sizeNo size = cond (leb 1 size && leb size 16) 0 10
 
--- 9, then 10: what the request itself is refused by
-unfoldable pub askedNo : Key → ℕ → ℕ
-askedNo key size = first (keyNo key) (sizeNo size)
+-- 9, then 10, then 21 "t outside 0 to 1,000 [..] after 10 for a page": what the request itself is refused by
+unfoldable pub askedNo : Key → ℕ → ℕ → ℕ
+askedNo key size t = first (keyNo key) (first (sizeNo size) (thresholdNo t))
 
 -- "checks its sheets first [..]: 1 to 8 for P, then for Q"
-unfoldable pub pageNo : List ℤ → List ℤ → Key → ℕ → ℕ
-pageNo P Q key size = first (sheetsNo P Q) (askedNo key size)
+unfoldable pub pageNo : List ℤ → List ℤ → Key → ℕ → ℕ → ℕ
+pageNo P Q key size t = first (sheetsNo P Q) (askedNo key size t)
 
--- "The page holds both editions"
-unfoldable pub sourceOf : List ℤ → List ℤ → Source
-sourceOf P Q = record { «p_edition» = num (edition P); «q_edition» = num (edition Q) }
+-- "The page holds both editions"; "Pages and books now carry t, 0 for the full list"
+unfoldable pub sourceOf : List ℤ → List ℤ → ℕ → Source
+sourceOf P Q t = record { «p_edition» = num (edition P); «q_edition» = num (edition Q); threshold = t }
 
--- the page of the list, from the points alone, and beside it the count of the walks, the kept sets on sixteen words
-unfoldable pub pageGiven : List ℤ → List ℤ → Key → ℕ → Paged
-pageGiven P Q key size =
+-- the page of t's list, from the points alone, and beside it the count of the walks, the kept sets on sixteen words
+unfoldable pub pageGiven : List ℤ → List ℤ → Key → ℕ → ℕ → Paged
+pageGiven P Q key size t =
     record {
       number = 0;
-      opened = pageOpened (walksOf 16 P Q) key size (points P) (points Q);
-      page = pageOf (sourceOf P Q) (ringList (pointsOf P) (pointsOf Q)) key size;
+      opened = pageOpened (walksFor (walksOf 16 P Q) (points P) t) key size (points P) (points Q);
+      page = pageOf (sourceOf P Q t) (thresholdList t (pointsOf P) (pointsOf Q)) key size;
     }
 
 -- "Every refusal gives only its number [..]. An array or number in a refused answer is all zero"
@@ -54,9 +55,9 @@ pageRefused k =
     record {
       number = k;
       opened = 0;
-      page = record { source = record { «p_edition» = 0; «q_edition» = 0 }; key = start; count = 0; end = false; pairs = replicate 16 none };
+      page = record { source = record { «p_edition» = 0; «q_edition» = 0; threshold = 0 }; key = start; count = 0; end = false; pairs = replicate 16 none };
     }
 
 -- the answer by its number: 0 is the page, any other is the refusal of that number
-unfoldable pub pageAnswer : List ℤ → List ℤ → Key → ℕ → Paged
-pageAnswer P Q key size = cond (eqb (pageNo P Q key size) 0) (pageGiven P Q key size) (pageRefused (pageNo P Q key size))
+unfoldable pub pageAnswer : List ℤ → List ℤ → Key → ℕ → ℕ → Paged
+pageAnswer P Q key size t = cond (eqb (pageNo P Q key size t) 0) (pageGiven P Q key size t) (pageRefused (pageNo P Q key size t))

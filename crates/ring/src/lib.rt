@@ -3,6 +3,7 @@
 pub mod filter;
 pub mod open;
 pub mod page;
+pub mod partners;
 pub mod point;
 pub mod ringwalk;
 
@@ -62,4 +63,12 @@ pub struct Paged {
     pub number: u32,
     pub opened: u64,
     pub page: Page,
+}
+
+// What the question for a chamber's partners answers: 0, the smaller of t and the number of its pairs in the list, and whether that is t; or the number of refusal and zeros.
+#[repr(C)]
+pub struct Partnered {
+    pub number: u32,
+    pub count: usize,
+    pub enough: bool,
 }

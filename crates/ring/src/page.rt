@@ -20,6 +20,7 @@ fn refused(number: u32) -> Paged
             source: Source {
                 p_edition: 0,
                 q_edition: 0,
+                threshold: 0,
             },
             key: Key { q: 0, p: 0 },
             count: 0,
@@ -33,9 +34,9 @@ fn refused(number: u32) -> Paged
     }
 }
 
-// The number that a request is refused by, its sheets aside: 9 by its key, 10 by its size, or 0.
-fn asked_no(key: Key, size: usize) -> u32
-    ensures { λ r. ⌜ r ≡ askedNo key size ⌝ }
+// The number that a request is refused by, its sheets aside: 9 by its key, 10 by its size, 21 by its threshold, or 0.
+fn asked_no(key: Key, size: usize, threshold: u32) -> u32
+    ensures { λ r. ⌜ r ≡ askedNo key size threshold ⌝ }
 {
     if !((key.q <= 2000000000) & (key.p <= 2000000000)) {
         return 9;
@@ -43,17 +44,26 @@ fn asked_no(key: Key, size: usize) -> u32
     if !((1 <= size) & (size <= 16)) {
         return 10;
     }
-    0
+    list::threshold_no(threshold)
 }
 
-// The editions of two sheets that open.
-fn source_of(p: &[i32], np: usize, mp: usize, q: &[i32], nq: usize, mq: usize) -> Source
+// The editions of two sheets that open, and the threshold.
+fn source_of(
+    p: &[i32],
+    np: usize,
+    mp: usize,
+    q: &[i32],
+    nq: usize,
+    mq: usize,
+    threshold: u32,
+) -> Source
     requires { ⌜ Opens (now p) np mp × Opens (now q) nq mq ⌝ }
-    ensures { λ r. ⌜ r ≡ sourceOf (now (p .entry)) (now (q .entry)) ⌝ }
+    ensures { λ r. ⌜ r ≡ sourceOf (now (p .entry)) (now (q .entry)) threshold ⌝ }
 {
     Source {
         p_edition: words::num_at(p, p.len() - 2) as u32,
         q_edition: words::num_at(q, q.len() - 2) as u32,
+        threshold: threshold,
     }
 }
 
@@ -67,12 +77,13 @@ fn given(
     mq: usize,
     key: Key,
     size: usize,
+    threshold: u32,
 ) -> Paged
     requires { ⌜ Opens (now p) np mp × Opens (now q) nq mq × (np ≤ 1024) × (size ≤ 16) ⌝ }
-    ensures { λ r. ⌜ r ≡ pageGiven (now (p .entry)) (now (q .entry)) key size ⌝ }
+    ensures { λ r. ⌜ r ≡ pageGiven (now (p .entry)) (now (q .entry)) key size threshold ⌝ }
 {
-    let d = join::page_made(p, np, mp, q, nq, mq, key, size);
-    let source = source_of(p, np, mp, q, nq, mq);
+    let d = join::page_made(p, np, mp, q, nq, mq, key, size, threshold as usize);
+    let source = source_of(p, np, mp, q, nq, mq, threshold);
     let page = join::page_from(source, key, d);
     Paged {
         number: 0,
@@ -81,18 +92,18 @@ fn given(
     }
 }
 
-// The first `size` ring pairs strictly after the key, and the nodes opened to find them.
-// Refused by 1 to 8 of P, then of Q, then by 9 for the key, then by 10 for the size.
-pub fn page(p: &[i32], q: &[i32], key: Key, size: usize) -> Paged
-    ensures { λ r. ⌜ r ≡ pageAnswer (now (p .entry)) (now (q .entry)) key size ⌝ }
+// The first `size` ring pairs strictly after the key, of chambers with at least so many as the threshold says (0: of all), and the nodes opened to find them.
+// Refused by 1 to 8 of P, then of Q, then by 9 for the key, then by 10 for the size, then by 21 for the threshold.
+pub fn page(p: &[i32], q: &[i32], key: Key, size: usize, threshold: u32) -> Paged
+    ensures { λ r. ⌜ r ≡ pageAnswer (now (p .entry)) (now (q .entry)) key size threshold ⌝ }
 {
     let h = crate::open::heads_of(p, q);
     if h.number != 0 {
         return refused(h.number);
     }
-    let asked = asked_no(key, size);
+    let asked = asked_no(key, size, threshold);
     if asked != 0 {
         return refused(asked);
     }
-    given(p, h.np, h.mp, q, h.nq, h.mq, key, size)
+    given(p, h.np, h.mp, q, h.nq, h.mq, key, size, threshold)
 }

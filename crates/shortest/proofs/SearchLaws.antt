@@ -27,6 +27,8 @@ use Rattle.list.proofs.RowLaws.{ring-ascends}
 use Rattle.join.specs.declared.Draft.{Draft}
 use Rattle.join.specs.Maker.{pageMade, pageFrom}
 use Rattle.join.specs.Sheets.{walksOf}
+use Rattle.join.specs.Threshold.{walksFor}
+use Rattle.list.proofs.ThresholdLaws.{threshold-none}
 use Rattle.join.proofs.Meaning.{points-rise, page-pairs}
 use Rattle.shortest.specs.declared.Search.{Search}
 use Rattle.shortest.specs.Order.{shorter, insert, shortestOf}
@@ -43,11 +45,11 @@ pub record Made (l : List Pair) (key : Key) (d : Draft) : Type 0 where
   pub pairs : d .pairs ≡ padded (shown l key 16)
   pub end : not (d .more) ≡ isNone (after (lastOr key (shown l key 16)) l)
 
-pub made : {P Q : List ℤ} {np mp nq mq : ℕ} → Opens P np mp → Opens Q nq mq → np ≤ 1024 → (key : Key) (d : Draft) → d ≡ pageMade (walksOf 16 P Q) key 16 np nq → Made (pairsOf P Q) key d
+pub made : {P Q : List ℤ} {np mp nq mq : ℕ} → Opens P np mp → Opens Q nq mq → np ≤ 1024 → (key : Key) (d : Draft) → d ≡ pageMade (walksFor (walksOf 16 P Q) np 0) key 16 np nq → Made (pairsOf P Q) key d
 unfolding pageFrom pageOf
 made {P} {Q} o o′ fit key d e =
-    let s : Source = record { «p_edition» = 0; «q_edition» = 0 } in
-    let g : pageFrom s key d ≡ pageOf s (pairsOf P Q) key 16 = ap (pageFrom s key) e ∙ page-pairs o o′ 16 (omega arith) s key 16 (omega arith) in
+    let s : Source = record { «p_edition» = 0; «q_edition» = 0; threshold = 0 } in
+    let g : pageFrom s key d ≡ pageOf s (pairsOf P Q) key 16 = ap (pageFrom s key) e ∙ page-pairs o o′ 16 (omega arith) 0 s key 16 (omega arith) ∙ ap (λ (l : List Pair). pageOf s l key 16) (threshold-none (pointsOf P) (pointsOf Q)) in
     record { count = ap (λ (x : Page). x .count) g; pairs = ap (λ (x : Page). x .pairs) g; end = ap (λ (x : Page). x .end) g }
 
 -- ---- a search that holds s

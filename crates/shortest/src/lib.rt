@@ -68,7 +68,7 @@ fn with_page(
     requires { ⌜ Opens (now p) np mp × Opens (now q) nq mq × (np ≤ 1024) × (1 ≤ k) × (k ≤ 16) × Fair k g ⌝ }
     ensures { λ r. ⌜ r ≡ nextOf (pairsOf (now (p .entry)) (now (q .entry))) k g ⌝ }
 {
-    let d = join::page_made(p, np, mp, q, nq, mq, g.key, 16);
+    let d = join::page_made(p, np, mp, q, nq, mq, g.key, 16, 0);
     let n = d.count;
     let mut r = g;
     let mut i = 0;

@@ -1,4 +1,4 @@
-// Histories of a book, played through `take` and `next_key` on slices of many lengths: pages early, late, repeated, of other editions and keys, and broken by hand. After each
+// Histories of a book, played through `take` and `next_key` on slices of many lengths: pages early, late, repeated, of other editions, thresholds and keys, and broken by hand. After each
 // call the number, the state, every slot and the next key are held to a plain list and to a second reading of the rules.
 use book::Begun;
 use book::Book;
@@ -14,7 +14,7 @@ const CALLS: u64 = 40;
 
 // How often each number was answered, how many books closed, how many of them full before and by an empty page, and how many calls went otherwise than they should.
 struct Tally {
-    counts: [u64; 17],
+    counts: [u64; 32],
     closed: u64,
     full: u64,
     wrong: u64,
@@ -171,8 +171,12 @@ fn has_bad(g: Page) -> bool {
     bad
 }
 
-fn is_source(a: Source, b: Source) -> bool {
+fn is_edition(a: Source, b: Source) -> bool {
     (a.p_edition == b.p_edition) & (a.q_edition == b.q_edition)
+}
+
+fn is_source(a: Source, b: Source) -> bool {
+    is_edition(a, b) & (a.threshold == b.threshold)
 }
 
 // The number of refusal, read from the rules a second time.
@@ -187,8 +191,11 @@ fn expected(b: Book, len: usize, last: Key, g: Page) -> u32 {
     if b.closed {
         return 12;
     }
-    if !is_source(own, other) {
+    if !is_edition(own, other) {
         return 13;
+    }
+    if !is_source(own, other) {
+        return 31;
     }
     if rank(key) != rank(last) {
         return 14;
@@ -271,7 +278,7 @@ fn is_next(slots: [Pair; 64], len: usize, b: Book) -> bool {
 fn counted(t: Tally, number: u32, good: bool, closes: bool, full: bool) -> Tally {
     let mut u = t;
     let i = number as usize;
-    if i < 17 {
+    if i < 32 {
         u.counts[i] = std::num::wrapping_add_u64(u.counts[i], 1);
     }
     if !good {
@@ -356,9 +363,30 @@ fn of_others(g: Page) -> Page {
     let others = Source {
         p_edition: 8,
         q_edition: 9,
+        threshold: 1,
     };
     h.source = others;
     h
+}
+
+// A page of the same editions, and of a threshold that no book here has.
+fn of_another(g: Page) -> Page {
+    let mut h = g;
+    let another = Source {
+        p_edition: 7,
+        q_edition: 9,
+        threshold: 3,
+    };
+    h.source = another;
+    h
+}
+
+// A page of another list, in one of two ways.
+fn of_other_list(g: Page, way: usize) -> Page {
+    if way < 4 {
+        return of_others(g);
+    }
+    of_another(g)
 }
 
 // A page that shows pairs and hides the end mark.
@@ -410,7 +438,7 @@ fn page_of(g: Game, kind: usize) -> Page {
         return unmarked(own_page(g));
     }
     if kind == 8 {
-        return of_others(own_page(g));
+        return of_other_list(own_page(g), way);
     }
     if kind == 9 {
         return other_page(g);
@@ -425,7 +453,7 @@ fn page_of(g: Game, kind: usize) -> Page {
         return broken(other_page(g), way);
     }
     if kind == 13 {
-        return of_others(broken(other_page(g), way));
+        return of_other_list(broken(other_page(g), way), way);
     }
     own_page(g)
 }
@@ -463,11 +491,11 @@ fn stepped(g: Game) -> Game {
 
 // ---- a history
 
-fn is_refused(source: Source) -> bool {
+fn is_refused(source: Source, number: u32) -> bool {
     let r = Book::begin(source);
     match r {
         Begun::Open(_) => false,
-        Begun::Refused(m) => m == 3,
+        Begun::Refused(m) => m == number,
     }
 }
 
@@ -492,18 +520,36 @@ fn first_len(seed: u64, n: usize) -> usize {
     drawn(mixed(seed), 65)
 }
 
+fn some_threshold(seed: u64) -> u32 {
+    let way = drawn(seed, 3);
+    if way == 0 {
+        return 0;
+    }
+    if way == 1 {
+        return 2;
+    }
+    1000
+}
+
 fn opened(seed: u64, tally: Tally) -> Game {
     let n = drawn(seed, 61);
     let source = Source {
         p_edition: 7,
         q_edition: 9,
+        threshold: some_threshold(mixed(seed)),
     };
     let b = begun(source);
     let none = Source {
         p_edition: 1000000001,
         q_edition: 9,
+        threshold: 1001,
     };
-    let good = is_book(b, 0, false, source) & is_refused(none);
+    let over = Source {
+        p_edition: 7,
+        q_edition: 9,
+        threshold: 1001,
+    };
+    let good = is_book(b, 0, false, source) & is_refused(none, 3) & is_refused(over, 21);
     let mut t = tally;
     if !good {
         t.wrong = std::num::wrapping_add_u64(t.wrong, 1);
@@ -543,9 +589,25 @@ fn line(name: &[u8], n: u64) {
     io::write_all(libc::STDOUT_FILENO, b"\n");
 }
 
+// All that was counted.
+fn report(t: Tally) {
+    line(b"histories", HISTORIES);
+    line(b"taken", t.counts[0]);
+    line(b"refused 11", t.counts[11]);
+    line(b"refused 12", t.counts[12]);
+    line(b"refused 13", t.counts[13]);
+    line(b"refused 31", t.counts[31]);
+    line(b"refused 14", t.counts[14]);
+    line(b"refused 15", t.counts[15]);
+    line(b"refused 16", t.counts[16]);
+    line(b"closed", t.closed);
+    line(b"closed when full", t.full);
+    line(b"otherwise", t.wrong);
+}
+
 fn main() {
     let mut t = Tally {
-        counts: [0; 17],
+        counts: [0; 32],
         closed: 0,
         full: 0,
         wrong: 0,
@@ -558,15 +620,5 @@ fn main() {
         seed = mixed(g.seed);
         i += 1;
     }
-    line(b"histories", HISTORIES);
-    line(b"taken", t.counts[0]);
-    line(b"refused 11", t.counts[11]);
-    line(b"refused 12", t.counts[12]);
-    line(b"refused 13", t.counts[13]);
-    line(b"refused 14", t.counts[14]);
-    line(b"refused 15", t.counts[15]);
-    line(b"refused 16", t.counts[16]);
-    line(b"closed", t.closed);
-    line(b"closed when full", t.full);
-    line(b"otherwise", t.wrong);
+    report(t);
 }

@@ -44,6 +44,7 @@ fn print_page(page: list::Page) {
     let source = page.source;
     print(source.p_edition as u64);
     print(source.q_edition as u64);
+    print(source.threshold as u64);
     let key = page.key;
     print_key(key);
     print(page.count as u64);
@@ -52,17 +53,19 @@ fn print_page(page: list::Page) {
     print_pairs(pairs);
 }
 
-// A key and a size, and the page that they ask for.
+// A key, a size and a threshold, and the page that they ask for.
 fn page_case(p: &[i32], q: &[i32]) {
     let key_q = cases::next_id();
     let key_p = cases::next_id();
     let size = cases::next_or_largest();
+    let threshold = cases::next_id();
     let key = list::Key { q: key_q, p: key_p };
     io::write_all(libc::STDOUT_FILENO, b"page");
     print_key(key);
     print(size as u64);
+    print(threshold as u64);
     io::write_all(libc::STDOUT_FILENO, b":");
-    let r = ring::page::page(p, q, key, size);
+    let r = ring::page::page(p, q, key, size, threshold);
     print(r.number as u64);
     print(r.opened);
     let page = r.page;
@@ -78,8 +81,31 @@ fn page_cases(p: &[i32], q: &[i32], count: usize) {
     }
 }
 
-// The lengths of two sheets, how many pages are asked, the sheets, and the requests.
-fn pages() {
+// The id of a chamber and a t, and whether it has so many partners.
+fn partners_case(p: &[i32], q: &[i32]) {
+    let id = cases::next_id();
+    let t = cases::next_id();
+    io::write_all(libc::STDOUT_FILENO, b"partners");
+    print(id as u64);
+    print(t as u64);
+    io::write_all(libc::STDOUT_FILENO, b":");
+    let r = ring::partners::partners(p, q, id, t);
+    print(r.number as u64);
+    print(r.count as u64);
+    print_mark(r.enough);
+    end_line();
+}
+
+fn partners_cases(p: &[i32], q: &[i32], count: usize) {
+    let mut k = 0;
+    while k < count {
+        partners_case(p, q);
+        k += 1;
+    }
+}
+
+// The lengths of two sheets, how many pages or questions are asked, the sheets, and the requests.
+fn asked(kind: usize) {
     let np = cases::next_up_to(MOST);
     let nq = cases::next_up_to(MOST);
     let count = cases::next_count();
@@ -87,14 +113,18 @@ fn pages() {
     let mut q = [0i32; MOST];
     cases::fill(&mut p, np);
     cases::fill(&mut q, nq);
-    page_cases(&p[..np], &q[..nq], count);
+    if kind == 1 {
+        page_cases(&p[..np], &q[..nq], count);
+    } else {
+        partners_cases(&p[..np], &q[..nq], count);
+    }
 }
 
 // The next case, and whether there was one.
 fn one() -> bool {
     let kind = cases::next_count();
-    if kind == 1 {
-        pages();
+    if (kind == 1) | (kind == 2) {
+        asked(kind);
         return true;
     }
     false

@@ -246,7 +246,7 @@ fn refused_cases(at: usize, p_word: i32, other: usize, q_word: i32) {
 // A page request through views that claim n points and m nodes, and of Q the other way round.
 fn ask(p: &[i32], q: &[i32], n: usize, m: usize, q_id: u32, p_id: u32, size: usize) {
     let key = Key { q: q_id, p: p_id };
-    show_page(view::page_through(p, n, m, q, m, n, key, size));
+    show_page(view::page_through(p, n, m, q, m, n, key, size, 0));
 }
 
 fn page_row(p: &[i32], q: &[i32], n: usize, m: usize) {

@@ -16,7 +16,9 @@ use Rattle.ring.specs.Numbers.{sheetNo}
 use Rattle.ring.specs.Answers.{pointed, filtered, walked}
 use Rattle.list.specs.declared.Key.{Key}
 use Rattle.ring.specs.Page.{pageAnswer}
+use Rattle.ring.specs.Partners.{partnersAnswer}
 use Rattle.ring.specs.declared.Paged.{Paged}
+use Rattle.ring.specs.declared.Partnered.{Partnered}
 use Rattle.ring.specs.declared.Pointed.{Pointed}
 use Rattle.ring.specs.declared.Filtered.{Filtered}
 use Rattle.ring.specs.declared.Walked.{Walked}
@@ -54,9 +56,13 @@ pub ring-once : (p p′ q q′ : Sheet) (j i : ℕ) (r r′ : Walked) → now (p
     → r ≡ walked (now (p .words)) (now (q .words)) j i → r′ ≡ walked (now (p′ .words)) (now (q′ .words)) j i → r ≡ r′
 ring-once p p′ q q′ j i r r′ v w e f = e ∙ ap (λ (x : List ℤ). walked x (now (q .words)) j i) v ∙ ap (λ (y : List ℤ). walked (now (p′ .words)) y j i) w ∙ sym f
 
-pub page-once : (p p′ q q′ : Sheet) (key : Key) (size : ℕ) (r r′ : Paged) → now (p .words) ≡ now (p′ .words) → now (q .words) ≡ now (q′ .words)
-    → r ≡ pageAnswer (now (p .words)) (now (q .words)) key size → r′ ≡ pageAnswer (now (p′ .words)) (now (q′ .words)) key size → r ≡ r′
-page-once p p′ q q′ key size r r′ v w e f = e ∙ ap (λ (x : List ℤ). pageAnswer x (now (q .words)) key size) v ∙ ap (λ (y : List ℤ). pageAnswer (now (p′ .words)) y key size) w ∙ sym f
+pub page-once : (p p′ q q′ : Sheet) (key : Key) (size t : ℕ) (r r′ : Paged) → now (p .words) ≡ now (p′ .words) → now (q .words) ≡ now (q′ .words)
+    → r ≡ pageAnswer (now (p .words)) (now (q .words)) key size t → r′ ≡ pageAnswer (now (p′ .words)) (now (q′ .words)) key size t → r ≡ r′
+page-once p p′ q q′ key size t r r′ v w e f = e ∙ ap (λ (x : List ℤ). pageAnswer x (now (q .words)) key size t) v ∙ ap (λ (y : List ℤ). pageAnswer (now (p′ .words)) y key size t) w ∙ sym f
+
+pub partners-once : (p p′ q q′ : Sheet) (id t : ℕ) (r r′ : Partnered) → now (p .words) ≡ now (p′ .words) → now (q .words) ≡ now (q′ .words)
+    → r ≡ partnersAnswer (now (p .words)) (now (q .words)) id t → r′ ≡ partnersAnswer (now (p′ .words)) (now (q′ .words)) id t → r ≡ r′
+partners-once p p′ q q′ id t r r′ v w e f = e ∙ ap (λ (x : List ℤ). partnersAnswer x (now (q .words)) id t) v ∙ ap (λ (y : List ℤ). partnersAnswer (now (p′ .words)) y id t) w ∙ sym f
 
 -- the point reader through the view that `open` gives. The other calls on slices have the promises of ring's calls, which ring's own laws settle
 pub point-opened-once : (s : RefT (List ℤ)) (i : ℕ) (r r′ : Pointed) → r ≡ pointed (openOf s .covers) i → r′ ≡ pointed (openOf s .covers) i → r ≡ r′

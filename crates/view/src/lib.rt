@@ -4,6 +4,7 @@ use list::Key;
 use ring::Filtered;
 use ring::Head;
 use ring::Paged;
+use ring::Partnered;
 use ring::Pointed;
 use ring::Walked;
 ghost use mathlib.Core.Path.{_≡_};
@@ -11,6 +12,7 @@ ghost use Prim.Native.Nat.{_≤_};
 ghost use lib.ListN.{length, take};
 ghost use Rattle.ring.specs.Answers.{headOf, pointed, filtered, walked};
 ghost use Rattle.ring.specs.Page.{pageAnswer};
+ghost use Rattle.ring.specs.Partners.{partnersAnswer};
 ghost use Rattle.view.specs.Shown.{shown, openOf};
 
 // The words that the view covers, and the numbers of points and nodes that it claims for them.
@@ -73,11 +75,18 @@ pub fn ring_walk_at<'a, 'b>(p: Sheet<'a>, q: Sheet<'b>, j: usize, i: usize) -> W
     ring::ringwalk::ring_walk(p.words, q.words, j, i)
 }
 
-// The page that follows a key; refused by 1 to 8 of P's words, then of Q's, then by 9 for the key, then by 10 for the size.
-pub fn page_at<'a, 'b>(p: Sheet<'a>, q: Sheet<'b>, key: Key, size: usize) -> Paged
-    ensures { λ r. ⌜ r ≡ pageAnswer (now (p .entry .words)) (now (q .entry .words)) key size ⌝ }
+// The page that follows a key; refused by 1 to 8 of P's words, then of Q's, then by 9 for the key, by 10 for the size, by 21 for the threshold.
+pub fn page_at<'a, 'b>(p: Sheet<'a>, q: Sheet<'b>, key: Key, size: usize, threshold: u32) -> Paged
+    ensures { λ r. ⌜ r ≡ pageAnswer (now (p .entry .words)) (now (q .entry .words)) key size threshold ⌝ }
 {
-    ring::page::page(p.words, q.words, key, size)
+    ring::page::page(p.words, q.words, key, size, threshold)
+}
+
+// Whether the chamber with an id has at least t partners; refused by 1 to 8 of P's words, then of Q's, then by 20, then by 21.
+pub fn partners_at<'a, 'b>(p: Sheet<'a>, q: Sheet<'b>, id: u32, t: u32) -> Partnered
+    ensures { λ r. ⌜ r ≡ partnersAnswer (now (p .entry .words)) (now (q .entry .words)) id t ⌝ }
+{
+    ring::partners::partners(p.words, q.words, id, t)
 }
 
 // For callers that hold no view: what `open` shows of the words.
@@ -101,7 +110,7 @@ pub fn point_opened(words: &[i32], position: usize) -> Pointed
     point_at(o.sheet, position)
 }
 
-// For callers that hold no view, the four readers again: views are made of the words with any counts, and handed to the reader, which looks at the words alone.
+// For callers that hold no view, the five readers again: views are made of the words with any counts, and handed to the reader, which looks at the words alone.
 pub fn point_through(words: &[i32], n: usize, m: usize, position: usize) -> Pointed
     ensures { λ r. ⌜ r ≡ pointed (now (words .entry)) position ⌝ }
 {
@@ -171,8 +180,9 @@ pub fn page_through(
     mq: usize,
     key: Key,
     size: usize,
+    threshold: u32,
 ) -> Paged
-    ensures { λ r. ⌜ r ≡ pageAnswer (now (p .entry)) (now (q .entry)) key size ⌝ }
+    ensures { λ r. ⌜ r ≡ pageAnswer (now (p .entry)) (now (q .entry)) key size threshold ⌝ }
 {
     page_at(
         Sheet {
@@ -187,5 +197,34 @@ pub fn page_through(
         },
         key,
         size,
+        threshold,
+    )
+}
+
+pub fn partners_through(
+    p: &[i32],
+    np: usize,
+    mp: usize,
+    q: &[i32],
+    nq: usize,
+    mq: usize,
+    id: u32,
+    t: u32,
+) -> Partnered
+    ensures { λ r. ⌜ r ≡ partnersAnswer (now (p .entry)) (now (q .entry)) id t ⌝ }
+{
+    partners_at(
+        Sheet {
+            words: p,
+            n: np,
+            m: mp,
+        },
+        Sheet {
+            words: q,
+            n: nq,
+            m: mq,
+        },
+        id,
+        t,
     )
 }

@@ -1,10 +1,12 @@
 -- `join::made_on` meets its contract. The loop's invariant is `Rounds`: what is left of the chambers, and room for the count. Assumes nothing.
 use mathlib.Core.Path.{_≡_, refl, _∙_}
-use Prim.Native.Nat.{_+_, _-_}
+use Prim.Native.Nat.{_+_, _*_, _-_}
 use native.Mathlib.Omega.{arith}
 use native.Mathlib.Nat.{lt-of-le-of-lt}
 use lib.ListN.{length}
 use Rattle.join.specs.Sheets.{walksOf}
+use Rattle.join.specs.Threshold.{walksFor}
+use Rattle.join.proofs.ThresholdLaws.{for-cap, first-for}
 use Rattle.join.proofs.TurnLaws.{Rounds, rounds-start, rounds-room, rounds-on, rounds-stop, rounds-end}
 use Rattle.walk.proofs.FilterCode.{still-holds}
 use Rattle.join.proofs.CallLaws.{chamber-same, capped, page-room}
@@ -12,29 +14,29 @@ use Rattle.join.proofs.made_on.Statement.{statement}
 use Rattle.join.proofs.made_on.Tie as tie
 
 abbrev Inv-loop : tie.InvT-loop
-Inv-loop p np mp q nq mq key size bits₀ r₀ j₀ bits r j = (length bits ≡ length bits₀) × Rounds (walksOf (length bits₀) p q) key size mp (mp + mq) np nq r j
+Inv-loop p np mp q nq mq key size t bits₀ r₀ j₀ bits r j = (length bits ≡ length bits₀) × Rounds (walksFor (walksOf (length bits₀) p q) np t) key size (mp + np * (mp + mq)) np nq r j
 
 abbrev μ-loop : tie.MeasureT-loop
-μ-loop p np mp q nq mq key size bits₀ r₀ j₀ bits r j = nq - j
+μ-loop p np mp q nq mq key size t bits₀ r₀ j₀ bits r j = nq - j
 
 first-from-requires : tie.Need-first-from-requires Inv-loop μ-loop
 first-from-requires c κs = c .before .pre .1
 
 loop-holds : tie.Need-loop-holds Inv-loop μ-loop
-loop-holds c = (refl, rounds-start _ _ _ _ _ _ _ _ (c .first-from .ensures))
+loop-holds c = (refl, rounds-start _ _ _ _ _ _ _ (first-for _ _ _ _ _ _ (c .first-from .ensures)))
 
 same-length : tie.Need-same-length Inv-loop μ-loop
 same-length c = c .before .before .loop .inv .0
 
 returns : tie.Need-returns Inv-loop μ-loop
-returns c = rounds-stop _ _ _ _ _ _ _ _ _ (c .if1 .taken) (c .before .before .loop .inv .1)
+returns c = rounds-stop _ _ _ _ _ _ _ _ (c .if1 .taken) (c .before .before .loop .inv .1)
 
 with-chamber-requires : tie.Need-with-chamber-requires Inv-loop μ-loop
 with-chamber-requires c κs =
     let l = c .before .before .before in
     let s = l .before .before .before in
     let in-loop = c .before .before .loop-test .taken in
-    (s .pre .0, s .pre .1, in-loop, s .pre .2, still-holds _ _ _ (l .loop .inv .0) (s .pre .3), lt-of-le-of-lt (rounds-room _ _ _ _ _ _ _ _ (l .loop .j) in-loop (l .loop .inv .1)) (page-room (s .pre .0) (s .pre .1)))
+    (s .pre .0, s .pre .1, in-loop, s .pre .2, still-holds _ _ _ (l .loop .inv .0) (s .pre .3), lt-of-le-of-lt (rounds-room _ _ _ _ _ _ _ (l .loop .j) in-loop (l .loop .inv .1)) (page-room (s .pre .0) (s .pre .1)))
 
 add-j : tie.Need-add-j Inv-loop μ-loop
 add-j c = omega arith
@@ -48,15 +50,15 @@ loop-again c =
     let l = k .before .before .before .before in
     let s = l .before .before .before in
     let long = l .loop .inv .0 in (
-      k .with-chamber .kept .1 .1 .1 .1 .1 .1 .1 .1 .1 .0 ∙ long,
-      rounds-on _ _ _ _ _ (capped (s .pre .0) (s .pre .1) (length (s .args .bits .now))) _ _ _ (l .loop .j) (k .before .before .before .loop-test .taken) (k .before .before .if1 .left) (l .loop .inv .1) _ (chamber-same _ _ _ _ _ _ _ _ _ _ long (k .with-chamber .ensures)),
+      k .with-chamber .kept .1 .1 .1 .1 .1 .1 .1 .1 .1 .1 .0 ∙ long,
+      rounds-on _ _ _ _ _ _ _ (l .loop .j) (for-cap _ _ _ _ (capped (s .pre .0) (s .pre .1) (length (s .args .bits .now))) _ _ _ _ _) (k .before .before .before .loop-test .taken) (k .before .before .if1 .left) (l .loop .inv .1) _ (chamber-same _ _ _ _ _ _ _ _ _ _ _ long (k .with-chamber .ensures)),
     )
 
 same-length-2 : tie.Need-same-length-2 Inv-loop μ-loop
 same-length-2 c = c .before .loop .inv .0
 
 returns-2 : tie.Need-returns-2 Inv-loop μ-loop
-returns-2 c = rounds-end _ _ _ _ _ _ _ _ _ (c .loop-test .left) (c .before .loop .inv .1)
+returns-2 c = rounds-end _ _ _ _ _ _ _ _ (c .loop-test .left) (c .before .loop .inv .1)
 
 pub made-on-spec : {M : Type 1} → statement M
 made-on-spec =

@@ -5,19 +5,11 @@ use Rattle.join.proofs.try_partner.Statement.{statement}
 use Rattle.join.proofs.try_partner.Tie as tie
 use Rattle.join.proofs.try_partner.Reads as reads
 
-id-at-requires : tie.Need-id-at-requires
-id-at-requires c κs = search needs
-
-id-at-requires-2 : tie.Need-id-at-requires-2
-id-at-requires-2 c κs = search needs
-
-is-after-requires : tie.Need-is-after-requires
-is-after-requires c κs = search needs
+is-late-requires : tie.Need-is-late-requires
+is-late-requires c κs = search needs
 
 returns : tie.Need-returns
-returns c =
-    let a = c .before in
-    tried-early _ _ _ _ _ _ _ (a .before .before .id-at .ensures) (a .before .id-at2 .ensures) _ (a .is-after .ensures) (c .if1 .taken)
+returns c = tried-early _ _ _ _ _ _ (c .before .is-late .ensures) (c .if1 .taken)
 
 pair-walk-requires : tie.Need-pair-walk-requires
 pair-walk-requires c κs = search needs
@@ -28,17 +20,7 @@ clear-after-requires c κs = search needs
 returns-2 : tie.Need-returns-2
 returns-2 c =
     let w = c .before in
-    let a = w .before .before in
-    tried-walked _ _ _ _ _ _ _ (a .before .before .id-at .ensures) (a .before .id-at2 .ensures) _ (a .is-after .ensures) (w .before .if1 .left) _ (w .pair-walk .ensures) _ (c .clear-after .ensures)
+    tried-walked _ _ _ _ _ _ (w .before .before .is-late .ensures) (w .before .if1 .left) _ (w .pair-walk .ensures) _ (c .clear-after .ensures)
 
 pub try-partner-spec : {M : Type 1} → statement M
-try-partner-spec =
-    tie.close
-    (tie.spec
-    id-at-requires
-    id-at-requires-2
-    is-after-requires
-    returns
-    pair-walk-requires
-    clear-after-requires
-    returns-2)
+try-partner-spec = tie.close (tie.spec is-late-requires returns pair-walk-requires clear-after-requires returns-2)

@@ -1,7 +1,9 @@
 -- `join::with_chamber` meets its contract: the lent words are the filter walk's, and as many as before. Assumes nothing.
+use mathlib.Core.Path.{_∙_}
 use native.Mathlib.Omega.{arith}
 use Rattle.walk.proofs.FilterCode.{still-holds}
-use Rattle.join.proofs.CallLaws.{words-are, chamber-walked, filter-few, spot-fits}
+use Rattle.join.proofs.CallLaws.{words-are, chamber-walked, filter-few, spot-fits, walks-few}
+use Rattle.join.proofs.ThresholdLaws.{chamber-full, chamber-shut, chamber-shown}
 use borrow.Author.Needs.{needs}
 use Rattle.join.proofs.with_chamber.Statement.{statement}
 use Rattle.join.proofs.with_chamber.Tie as tie
@@ -23,7 +25,7 @@ add-r c =
 
 with-partners-requires : tie.Need-with-partners-requires
 with-partners-requires c κs =
-    let k = c .before .before .before .before in
+    let k = c .before .before .before .before .before in
     let s = k .before .before .before .before in
     let long = k .filter-kept .kept .1 .1 .1 .1 .0 in
     (s .pre .0, s .pre .1, s .pre .2, s .pre .3, still-holds _ _ _ long (s .pre .4), omega (arith, s .pre .5, filter-few (s .pre .0) _ _ _ (k .filter-kept .ensures .1)), words-are _ _ _ _ (k .before .before .spot-at .ensures) _ _ long (k .filter-kept .ensures .0))
@@ -33,8 +35,47 @@ same-length c = search needs
 
 returns : tie.Need-returns
 returns c =
+    let k = c .before .before .before .before .before .before in
+    chamber-full _ _ _ _ _ _ _ (c .before .before .if1 .taken) _ (chamber-walked _ _ _ _ (k .before .before .spot-at .ensures) _ _ (k .filter-kept .kept .1 .1 .1 .1 .0) _ _ _ _ _ _ (k .filter-kept .ensures .1) (c .with-partners .ensures))
+
+keep-clear-requires : tie.Need-keep-clear-requires
+keep-clear-requires c κs =
     let k = c .before .before .before .before .before in
-    chamber-walked _ _ _ _ (k .before .before .spot-at .ensures) _ _ (k .filter-kept .kept .1 .1 .1 .1 .0) _ _ _ _ _ _ (k .filter-kept .ensures .1) (c .with-partners .ensures)
+    let s = k .before .before .before .before in
+    let long = k .filter-kept .kept .1 .1 .1 .1 .0 in
+    (s .pre .0, s .pre .1, s .pre .2, still-holds _ _ _ long (s .pre .4), words-are _ _ _ _ (k .before .before .spot-at .ensures) _ _ long (k .filter-kept .ensures .0))
+
+add-r-2 : tie.Need-add-r-2
+add-r-2 c =
+    let g = c .before .before .before .before in
+    let k = g .before .before .before .before .before .before in
+    let s = k .before .before .before .before in
+    omega (arith, s .pre .5, filter-few (s .pre .0) _ _ _ (k .filter-kept .ensures .1), walks-few (s .pre .0) (s .pre .1) _ _ _ (g .keep-clear .ensures .2))
+
+same-length-2 : tie.Need-same-length-2
+same-length-2 c = search needs
+
+returns-2 : tie.Need-returns-2
+returns-2 c =
+    let g = c .before .before .before .before .before .before in
+    let k = g .before .before .before .before .before .before in
+    chamber-shut _ _ _ _ _ _ _ _ (g .before .before .if1 .left) _ (k .before .before .spot-at .ensures) _ _ (k .filter-kept .kept .1 .1 .1 .1 .0) _ (k .filter-kept .ensures .1) _ (g .keep-clear .ensures .2) _ (g .keep-clear .ensures .1) (c .if2 .taken)
+
+with-kept-requires : tie.Need-with-kept-requires
+with-kept-requires c κs =
+    let g = c .before .before .before .before .before .before .before in
+    let k = g .before .before .before .before .before .before in
+    let s = k .before .before .before .before in
+    (s .pre .0, s .pre .1, s .pre .2, s .pre .3, still-holds _ _ _ (g .keep-clear .kept .1 .1 .1 .1 .1 .1 .1 .0 ∙ k .filter-kept .kept .1 .1 .1 .1 .0) (s .pre .4))
+
+same-length-3 : tie.Need-same-length-3
+same-length-3 c = search needs
+
+returns-3 : tie.Need-returns-3
+returns-3 c =
+    let g = c .before .before .before .before .before .before .before .before in
+    let k = g .before .before .before .before .before .before in
+    chamber-shown _ _ _ _ _ _ _ _ (g .before .before .if1 .left) _ (k .before .before .spot-at .ensures) _ _ (k .filter-kept .kept .1 .1 .1 .1 .0) _ (k .filter-kept .ensures .1) _ (g .keep-clear .ensures .2) _ (g .keep-clear .ensures .1) (c .before .before .if2 .left) _ (g .keep-clear .ensures .0) _ (c .with-kept .ensures)
 
 pub with-chamber-spec : {M : Type 1} → statement M
 with-chamber-spec =
@@ -45,4 +86,11 @@ with-chamber-spec =
     add-r
     with-partners-requires
     same-length
-    returns)
+    returns
+    keep-clear-requires
+    add-r-2
+    same-length-2
+    returns-2
+    with-kept-requires
+    same-length-3
+    returns-3)

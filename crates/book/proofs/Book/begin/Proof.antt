@@ -1,7 +1,6 @@
-use mathlib.Core.Path.{_≡_, sym, ap₂, _∙_}
-use mathlib.Core.Bool.{Bool, _&&_}
-use Rattle.words.specs.Range.{editionOk}
-use Rattle.book.specs.Rules.{beginNo, begunBy, begunBook, begunFor}
+-- `Book::begin` meets its contract, number by number. Assumes nothing.
+use Rattle.book.specs.Rules.{begunBook}
+use Rattle.book.proofs.CoreLaws.{begin-3, begin-21, begin-0}
 use borrow.Author.Needs.{needs}
 use Rattle.book.proofs.Book.begin.Statement.{statement}
 use Rattle.book.proofs.Book.begin.Tie as tie
@@ -12,16 +11,26 @@ is-edition-requires c κs = search needs
 is-edition-requires-2 : tie.Need-is-edition-requires-2
 is-edition-requires-2 c κs = search needs
 
-both : (c : tie.After-is-edition2) → (editionOk (c .before .before .args .source .«p_edition») && editionOk (c .before .before .args .source .«q_edition»)) ≡ (c .before .is-edition .result && c .is-edition2 .result)
-both c = sym (ap₂ (λ (a b : Bool). a && b) (c .before .is-edition .ensures) (c .is-edition2 .ensures))
-
 returns : tie.Need-returns
-unfolding begunFor beginNo begunBy begunBook
-returns c = rw (both (c .before) ∙ c .if1 .taken)
+returns c = begin-3 _ _ _ (c .before .before .is-edition .ensures) (c .before .is-edition2 .ensures) (c .if1 .taken)
+
+threshold-no-requires : tie.Need-threshold-no-requires
+threshold-no-requires c κs = search needs
 
 returns-2 : tie.Need-returns-2
-unfolding begunFor beginNo begunBy begunBook
-returns-2 c = rw (both (c .before) ∙ c .if1 .left)
+returns-2 c =
+    let n = c .before in
+    let e = n .before in
+    begin-21 _ _ _ (e .before .before .is-edition .ensures) (e .before .is-edition2 .ensures) (e .if1 .left) _ (n .threshold-no .ensures) (c .if2 .taken)
+
+returns-3 : tie.Need-returns-3
+unfolding begunBook
+returns-3 c =
+    let n = c .before in
+    let e = n .before in
+    begin-0 _ _ _ (e .before .before .is-edition .ensures) (e .before .is-edition2 .ensures) (e .if1 .left) _ (n .threshold-no .ensures) (c .if2 .left)
 
 pub begin-spec : {M : Type 1} → statement M
-begin-spec = tie.close (tie.spec is-edition-requires is-edition-requires-2 returns returns-2)
+begin-spec =
+    tie.close
+    (tie.spec is-edition-requires is-edition-requires-2 returns threshold-no-requires returns-2 returns-3)

@@ -4,7 +4,8 @@ use mathlib.Core.Logic.{⊎-elim}
 use Prim.Native.Nat.{_+_, _-_, _*_, _/_, _<_}
 use native.Mathlib.Omega.{arith}
 use Rattle.bits.proofs.NextLaws.{from-le}
-use Rattle.leaf.proofs.RunCode.{Going, Passed, Told, Met, tell, going-start, passed-long, words-few, place-in, position-in, going-met, going-few, going-room, going-clear, going-gone, sift-next, made-set, made-count, made-opened}
+use Rattle.walk.proofs.SiftLaws.{sift-next}
+use Rattle.leaf.proofs.RunCode.{Going, Passed, Told, Met, tell, going-start, passed-long, words-few, place-in, position-in, going-met, going-few, going-room, going-clear, going-gone, made-set, made-count, made-opened}
 use Rattle.leaf.proofs.run.run_made.Statement.{statement}
 use Rattle.leaf.proofs.run.run_made.Tie as tie
 
@@ -123,7 +124,7 @@ loop-less c =
     omega (arith, from-le _ _ _ (c .next-from2 .ensures), i .loop-test .taken)
 
 loop-again : tie.Need-loop-again Inv-loop μ-loop
-loop-again c = sift-next _ _ _ _ _ _ _ _ _ _ _ (c .next-from2 .ensures) (turn (c .before .before))
+loop-again c = sift-next _ _ _ _ _ _ _ _ (c .next-from2 .ensures) (turn (c .before .before))
 
 same-length : tie.Need-same-length Inv-loop μ-loop
 same-length c = passed-long (told (start (c .before))) _ _ _ _ (c .before .loop .inv .sifted) ∙ sym (start (c .before) .pre .4 .long)

@@ -18,7 +18,7 @@ module _ (a : tie.After-page) where
   s = a .before .before
 
   -- the page that was answered
-  asked : a .page .result .page ≡ pageOf (sourceOf (s .args .p .now) (s .args .q .now)) (pairsOf (s .args .p .now) (s .args .q .now)) (s .args .key) 16
+  asked : a .page .result .page ≡ pageOf (sourceOf (s .args .p .now) (s .args .q .now) 0) (pairsOf (s .args .p .now) (s .args .q .now)) (s .args .key) 16
   asked = page-is (s .pre .0) (s .args .key) (s .pre .1) (a .page .result) (a .page .ensures)
 
 page-requires : tie.Need-page-requires

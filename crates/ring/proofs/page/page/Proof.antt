@@ -12,7 +12,7 @@ refused-requires : tie.Need-refused-requires
 refused-requires c κs = search needs
 
 returns : tie.Need-returns
-returns c = page-sheets _ _ _ _ _ (c .before .before .before .heads-of .ensures) _ (c .before .if1 .taken) (c .refused .ensures)
+returns c = page-sheets _ _ _ _ _ _ (c .before .before .before .heads-of .ensures) _ (c .before .if1 .taken) (c .refused .ensures)
 
 asked-no-requires : tie.Need-asked-no-requires
 asked-no-requires c κs = search needs
@@ -23,19 +23,19 @@ refused-requires-2 c κs = search needs
 returns-2 : tie.Need-returns-2
 returns-2 c =
     let a = c .before .before in
-    page-asked _ _ _ _ _ (a .before .before .before .heads-of .ensures) _ (a .before .if1 .left) _ (a .asked-no .ensures) (c .before .if2 .taken) (c .refused2 .ensures)
+    page-asked _ _ _ _ _ _ (a .before .before .before .heads-of .ensures) _ (a .before .if1 .left) _ (a .asked-no .ensures) (c .before .if2 .taken) (c .refused2 .ensures)
 
 given-requires : tie.Need-given-requires
 given-requires c κs =
     let a = c .before in
     let h = a .before .before .before .heads-of in
     let o = headed-both _ _ _ (h .ensures) (a .before .if1 .left) in
-    (o .p-facts, o .q-facts, pumps-fit _ _ _ o, size-in _ _ (a .asked-no .ensures) (c .if2 .left))
+    (o .p-facts, o .q-facts, pumps-fit _ _ _ o, size-in _ _ _ (a .asked-no .ensures) (c .if2 .left))
 
 returns-3 : tie.Need-returns-3
 returns-3 c =
     let a = c .before .before in
-    page-made _ _ _ _ _ (a .before .before .before .heads-of .ensures) _ (a .before .if1 .left) _ (a .asked-no .ensures) (c .before .if2 .left) (c .given .ensures)
+    page-made _ _ _ _ _ _ (a .before .before .before .heads-of .ensures) _ (a .before .if1 .left) _ (a .asked-no .ensures) (c .before .if2 .left) (c .given .ensures)
 
 pub page-spec : {M : Type 1} → statement M
 page-spec =

@@ -10,8 +10,8 @@ sub-num-at c = search needs
 num-at-requires : tie.Need-num-at-requires
 num-at-requires c κs = search needs
 
-cast-t10 : tie.Need-cast-t10
-cast-t10 c = search needs
+cast-t11 : tie.Need-cast-t11
+cast-t11 c = search needs
 
 sub-num-at-2 : tie.Need-sub-num-at-2
 sub-num-at-2 c = search needs
@@ -19,13 +19,13 @@ sub-num-at-2 c = search needs
 num-at-requires-2 : tie.Need-num-at-requires-2
 num-at-requires-2 c κs = search needs
 
-cast-t14 : tie.Need-cast-t14
-cast-t14 c = search needs
+cast-t15 : tie.Need-cast-t15
+cast-t15 c = search needs
 
 returns : tie.Need-returns
-returns c = source-read _ _ _ _ (c .before .num-at .ensures .0) (c .num-at2 .ensures .0)
+returns c = source-read _ _ _ _ _ (c .before .num-at .ensures .0) (c .num-at2 .ensures .0)
 
 pub source-of-spec : {M : Type 1} → statement M
 source-of-spec =
     tie.close
-    (tie.spec sub-num-at num-at-requires cast-t10 sub-num-at-2 num-at-requires-2 cast-t14 returns)
+    (tie.spec sub-num-at num-at-requires cast-t11 sub-num-at-2 num-at-requires-2 cast-t15 returns)

@@ -1,9 +1,9 @@
--- `try_pages::pages` is safe. Assumes nothing.
+-- `try_pages::asked` is safe. Assumes nothing.
 use mathlib.Core.Path.{sym}
 use lib.Seq.{length-take-le}
 use borrow.Author.Needs.{needs}
-use Rattle.try_pages.proofs.pages.Statement.{statement}
-use Rattle.try_pages.proofs.pages.Tie as tie
+use Rattle.try_pages.proofs.asked.Statement.{statement}
+use Rattle.try_pages.proofs.asked.Tie as tie
 
 next-up-to-requires : tie.Need-next-up-to-requires
 next-up-to-requires c κs = search needs
@@ -41,11 +41,29 @@ slice-aggregate-page-cases-2 c = sym (length-take-le _ _ (search needs))
 page-cases-requires : tie.Need-page-cases-requires
 page-cases-requires c κs = search needs
 
+array-share-prefix-p-2 : tie.Need-array-share-prefix-p-2
+array-share-prefix-p-2 c = search needs
+
+slice-aggregate-partners-cases : tie.Need-slice-aggregate-partners-cases
+slice-aggregate-partners-cases c = sym (length-take-le _ _ (search needs))
+
+array-share-prefix-q-2 : tie.Need-array-share-prefix-q-2
+array-share-prefix-q-2 c = search needs
+
+slice-aggregate-partners-cases-2 : tie.Need-slice-aggregate-partners-cases-2
+slice-aggregate-partners-cases-2 c = sym (length-take-le _ _ (search needs))
+
+partners-cases-requires : tie.Need-partners-cases-requires
+partners-cases-requires c κs = search needs
+
 returns : tie.Need-returns
 returns c = search needs
 
-pub pages-spec : {M : Type 1} → statement M
-pages-spec =
+returns-2 : tie.Need-returns-2
+returns-2 c = search needs
+
+pub asked-spec : {M : Type 1} → statement M
+asked-spec =
     tie.close
     (tie.spec
     next-up-to-requires
@@ -60,4 +78,10 @@ pages-spec =
     array-share-prefix-q
     slice-aggregate-page-cases-2
     page-cases-requires
-    returns)
+    array-share-prefix-p-2
+    slice-aggregate-partners-cases
+    array-share-prefix-q-2
+    slice-aggregate-partners-cases-2
+    partners-cases-requires
+    returns
+    returns-2)

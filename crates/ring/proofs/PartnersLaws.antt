@@ -1,0 +1,136 @@
+-- The question for a chamber's partners: its answers by number, and what the promise says of them.
+--
+--     partners-no        the number is the first that applies; partners-refused: refused, all else is zero
+--     partners-served    with sheets that open, the id of a chamber and a t from 1 to 1,000, the answer is 0, the count and the yes
+--     partners-once      one question, one answer
+-- Assumes nothing.
+use mathlib.Core.Path.{_≡_, refl, sym, ap, _∙_}
+use mathlib.Core.Bool.{Bool, true, false, cond, not, _&&_}
+use mathlib.Core.List.{List}
+use Prim.Native.Nat.{ℕ, _+_, _≤_, _<_}
+use native.Mathlib.Omega.{arith}
+use native.Mathlib.Nat.{le-antisymm}
+use lib.Dec.{eqb, leb}
+use lib.IntN.{ℤ}
+use lib.ListN.{length}
+use borrow.Author.Tests.{eq-eqb, ne-eqb, eqb-true, lt-ltb, le-ltb, le-leb, not-true, not-false}
+use Rattle.words.specs.All.{firstB}
+use Rattle.words.proofs.AllLaws.{first-none as none-yet, first-more, first-stop, first-hit, first-in}
+use Rattle.plane.specs.Point.{idAt}
+use Rattle.sheet.specs.Places.{pointsOf}
+use Rattle.sheet.specs.Open.{Opens}
+use Rattle.sheet.proofs.PointsLaws.{length-points}
+use Rattle.list.specs.Pairs.{chamberPairs}
+use Rattle.list.specs.Pages.{lastThreshold}
+use Rattle.list.specs.RingList.{ringList, partnersOf}
+use Rattle.list.proofs.ThresholdLaws.{partners-listed}
+use Rattle.join.specs.Threshold.{smaller}
+use Rattle.join.proofs.Meaning.{points-rise}
+use Rattle.ring.specs.declared.Heads.{Heads}
+use Rattle.ring.specs.declared.Partnered.{Partnered}
+use Rattle.ring.specs.Numbers.{first, sheetsNo}
+use Rattle.ring.specs.Answers.{headsOf}
+use Rattle.ring.specs.Partners.{chamberOf, idNo, leastNo, partnersNo, partnersCount, partnersGiven, partnersRefused, partnersAnswer}
+use Rattle.ring.proofs.NumberLaws.{first-passes}
+use Rattle.ring.proofs.HeadLaws.{headed-both, sheets-stop, sheets-pass}
+
+-- ---- the chamber with an id: none of the first j has it
+
+abbrev pub has : List ℤ → ℕ → ℕ → Bool
+has Q id j = eqb (idAt (pointsOf Q) j) id
+
+module _ {Q : List ℤ} {nq mq : ℕ} (o : Opens Q nq mq) (id : ℕ) where
+  pub seek-start : firstB 0 (has Q id) ≡ 0
+  seek-start = none-yet (has Q id)
+
+  pub seek-on : (j a : ℕ) → firstB j (has Q id) ≡ j → a ≡ idAt (pointsOf Q) j → (a ≡ id → ⊥) → firstB (j + 1) (has Q id) ≡ j + 1
+  seek-on j a e i ne = first-more (has Q id) j e (ne-eqb (idAt (pointsOf Q) j) id (λ x. ne (i ∙ x)))
+
+  chambers : length (pointsOf Q) ≡ nq
+  chambers = length-points Q ∙ o .n-is
+
+  pub seek-stop : (j a : ℕ) → firstB j (has Q id) ≡ j → a ≡ idAt (pointsOf Q) j → a ≡ id → j < nq → j ≡ chamberOf (pointsOf Q) id
+  unfolding chamberOf
+  seek-stop j a e i y l = first-stop (has Q id) j (length (pointsOf Q)) e (eq-eqb (idAt (pointsOf Q) j) id (sym i ∙ y)) (omega (arith, chambers))
+
+  pub seek-end : (j : ℕ) → firstB j (has Q id) ≡ j → j ≤ nq → nq ≤ j → j ≡ chamberOf (pointsOf Q) id
+  unfolding chamberOf
+  seek-end j e l g = sym e ∙ ap (λ (k : ℕ). firstB k (has Q id)) (le-antisymm l g ∙ sym chambers)
+
+-- ---- the number of t
+
+pub least-21 : (t : ℕ) → not (leb 1 t && leb t lastThreshold) ≡ true → 21 ≡ leastNo t
+unfolding leastNo
+least-21 t e = rw (not-true (leb 1 t && leb t lastThreshold) e)
+
+pub least-0 : (t : ℕ) → not (leb 1 t && leb t lastThreshold) ≡ false → 0 ≡ leastNo t
+unfolding leastNo
+least-0 t e = rw (not-false (leb 1 t && leb t lastThreshold) e)
+
+-- ---- the answers
+
+module _ (P Q : List ℤ) (id t : ℕ) where
+  -- refused: its number, and zeros
+  pub partners-refused : (k : ℕ) → partnersNo P Q id t ≡ k → (k ≡ 0 → ⊥) → partnersAnswer P Q id t ≡ partnersRefused k
+  unfolding partnersAnswer
+  partners-refused k e ne = rw (e, ne-eqb k 0 ne)
+
+  pub partners-answered : partnersNo P Q id t ≡ 0 → partnersAnswer P Q id t ≡ partnersGiven P Q id t
+  unfolding partnersAnswer
+  partners-answered e = rw (eq-eqb (partnersNo P Q id t) 0 e)
+
+  -- one question, one answer
+  pub partners-once : (r r′ : Partnered) → r ≡ partnersAnswer P Q id t → r′ ≡ partnersAnswer P Q id t → r ≡ r′
+  partners-once r r′ e f = e ∙ sym f
+
+  -- No other question is refused: sheets that open, the id of a chamber and a t from 1 to 1,000 are served.
+  pub partners-served : sheetsNo P Q ≡ 0 → (j : ℕ) → j < length (pointsOf Q) → idAt (pointsOf Q) j ≡ id → 1 ≤ t → t ≤ lastThreshold → partnersAnswer P Q id t ≡ partnersGiven P Q id t
+  unfolding partnersNo idNo leastNo chamberOf
+  partners-served opens j h e a b =
+      partners-answered
+      (first-passes (sheetsNo P Q) (first (idNo (pointsOf Q) id) (leastNo t)) opens
+      ∙ (rw (lt-ltb (firstB (length (pointsOf Q)) (has Q id)) (length (pointsOf Q)) (first-in (has Q id) (length (pointsOf Q)) j h (eq-eqb (idAt (pointsOf Q) j) id e)), le-leb 1 t a, le-leb t lastThreshold b)))
+
+  -- the number is the first that applies
+  pub partners-no : partnersAnswer P Q id t .number ≡ partnersNo P Q id t
+  unfolding partnersAnswer partnersGiven partnersRefused
+  partners-no = go (eqb (partnersNo P Q id t) 0) refl
+    where
+      go : (b : Bool) → eqb (partnersNo P Q id t) 0 ≡ b → cond b (partnersGiven P Q id t) (partnersRefused (partnersNo P Q id t)) .number ≡ partnersNo P Q id t
+      go true e = sym (eqb-true (partnersNo P Q id t) 0 e)
+      go false e = refl
+
+  module _ (h : Heads) (e : h ≡ headsOf P Q) (r : Partnered) where
+    pub partners-sheets : (h .number ≡ 0 → ⊥) → r ≡ partnersRefused (h .number) → r ≡ partnersAnswer P Q id t
+    unfolding partnersNo
+    partners-sheets ne f = f ∙ sym (partners-refused (h .number) (sheets-stop P Q h (first (idNo (pointsOf Q) id) (leastNo t)) e ne) ne)
+
+    module _ (z : h .number ≡ 0) (j : ℕ) (at-j : j ≡ chamberOf (pointsOf Q) id) where
+      as-many : length (pointsOf Q) ≡ h .nq
+      as-many = length-points Q ∙ sym (headed-both P Q h e z .nq-is)
+
+      -- no chamber has the id
+      pub partners-unknown : h .nq ≤ j → r ≡ partnersRefused 20 → r ≡ partnersAnswer P Q id t
+      unfolding partnersNo idNo
+      partners-unknown past f =
+          f
+          ∙ sym (partners-refused 20
+          (sheets-pass P Q h (first (idNo (pointsOf Q) id) (leastNo t)) e z ∙ (rw (le-ltb (chamberOf (pointsOf Q) id) (length (pointsOf Q)) (omega (arith, as-many)))))
+          (λ x. omega arith))
+
+      module _ (here : j < h .nq) (k : ℕ) (d : k ≡ leastNo t) where
+        after : partnersNo P Q id t ≡ k
+        unfolding partnersNo idNo
+        after = sheets-pass P Q h (first (idNo (pointsOf Q) id) (leastNo t)) e z ∙ (rw (lt-ltb (chamberOf (pointsOf Q) id) (length (pointsOf Q)) (omega (arith, as-many))) (sym d))
+
+        pub partners-least : (k ≡ 0 → ⊥) → r ≡ partnersRefused k → r ≡ partnersAnswer P Q id t
+        partners-least ne f = f ∙ sym (partners-refused k after ne)
+
+        pub partners-counted : k ≡ 0 → (c : ℕ) → c ≡ smaller t (partnersOf (pointsOf P) (pointsOf Q) j) → r ≡ record { number = 0; count = c; enough = eqb c t } → r ≡ partnersAnswer P Q id t
+        unfolding partnersGiven partnersCount chamberOf
+        partners-counted y c ec f =
+            let o = headed-both P Q h e z in
+            let hit : has Q id (firstB (length (pointsOf Q)) (has Q id)) ≡ true = first-hit (has Q id) (length (pointsOf Q)) (omega (arith, as-many)) in
+            let named : idAt (pointsOf Q) j ≡ id = ap (idAt (pointsOf Q)) at-j ∙ eqb-true _ id hit in
+            let many : c ≡ smaller t (length (chamberPairs id (ringList (pointsOf P) (pointsOf Q)))) = ec ∙ ap (smaller t) (partners-listed (pointsOf P) (pointsOf Q) (points-rise (o .p-facts)) (points-rise (o .q-facts)) j (omega (arith, as-many)) ∙ ap (λ (i : ℕ). length (chamberPairs i (ringList (pointsOf P) (pointsOf Q)))) named) in
+            f ∙ (λ i. record { number = 0; count = many i; enough = eqb (many i) t }) ∙ sym (partners-answered (after ∙ y))
