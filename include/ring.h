@@ -13,7 +13,7 @@
  *
  * What the caller sees to, since no call can test it
  *   - a pointer and its number describe memory that is there, aligned for its elements, and that nobody else writes during the call;
- *   - memory that a call may write (`out` of ring_pack, `slots` of ring_book_take and of ring_leaf_run) overlaps no other array of the same call;
+ *   - memory that a call may write (`out` of ring_pack, `slots` of ring_book_take and of ring_leaf_run, `waiting` of ring_nearest and of ring_near_filter) overlaps no other array of the same call;
  *   - a bool is 0 or 1, as C's own bool always is.
  * A negative number handed in for an unsigned one arrives as a large one, and is answered as such.
  *
@@ -137,6 +137,19 @@ typedef struct RingShortlist {
     RingPair pairs[16];
 } RingShortlist;
 
+/* A pump house: its id and its squared distance to the chamber. */
+typedef struct RingNear {
+    uint32_t id;
+    uint64_t distance;
+} RingNear;
+
+/* The answer of ring_nearest: of `points` the first `count` are used, the others are two zeros. */
+typedef struct RingFound {
+    uint32_t number;
+    size_t count;
+    RingNear points[16];
+} RingFound;
+
 /* The answer of ring_book_begin. */
 typedef struct RingBegun {
     uint32_t number;
@@ -221,6 +234,18 @@ RingPartners ring_partners(const int32_t *p, size_t p_len, const int32_t *q, siz
  * Answer   the number of pairs, which is k, or that of all ring pairs where they are fewer, and the pairs.
  * Refused  1 to 8 for P, then 1 to 8 for Q, then 10 where k is not 1 to 16. */
 RingShortlist ring_shortest(const int32_t *p, size_t p_len, const int32_t *q, size_t q_len, size_t k);
+
+/* Nearest first, for a single chamber: the pump houses by squared distance to the chamber with this id, on a tie by id.
+ * Input    both sheets, the id of a chamber, a size, and the numbers lent for what waits in the walk: at least as many as P has points and nodes, n + m. What they hold does not
+ *          matter. The words are only read.
+ * Answer   the first `size` pump houses, fewer if P has fewer. The first n + m lent numbers are 0 afterwards, and the rest are not written.
+ * Refused  1 to 8 for P, then 1 to 8 for Q, then 20 where no chamber has the id, then 10 where the size is not 1 to 16, then 25 where fewer than n + m numbers are lent; no lent
+ *          number is written. */
+RingFound ring_nearest(const int32_t *p, size_t p_len, const int32_t *q, size_t q_len, uint32_t id, size_t size, uint64_t *waiting, size_t waiting_len);
+
+/* The filter walk for a single chamber that goes nearest first: the positions of P that may be ring partners of the chamber with this id. Each ring partner is among them.
+ * Input, lent numbers and refusals as of ring_nearest, but for the size. Answer as of ring_filter_walk. */
+RingFiltered ring_near_filter(const int32_t *p, size_t p_len, const int32_t *q, size_t q_len, uint32_t id, uint64_t *waiting, size_t waiting_len);
 
 /* Begins a book of the list of two editions and a threshold: nothing held, open.
  * Input    two editions, each 1 to 1,000,000,000, and a threshold 0 to 1,000.

@@ -668,6 +668,134 @@ def shortest_call(p_words, q_words, k):
     return 0, shortest_of(pairs, k)
 
 
+# ---------------------------------------------------------------- nearest first
+
+# "the box or point with the least squared distance to q first"
+def squared_to_point(q, x):
+    return (q[0] - x[0]) ** 2 + (q[1] - x[1]) ** 2
+
+
+def squared_to_box(q, box):
+    """To its nearest place; 0 where q stands in it."""
+    nearest = (min(max(q[0], box[0]), box[2]), min(max(q[1], box[1]), box[3]))
+    return squared_to_point(q, nearest)
+
+
+BOX, POINT = 0, 1
+
+
+# "walk P by source document 004's order: the box or point with the least squared distance to q first; on a tie, boxes before points, then lower position
+# or node." In 004 (Algorithm 2) what is nearest of all that waits is taken out; a box that is not discarded has all it covers put in; until nothing waits.
+def near_walk(sheet, q, skipped, take):
+    """Opens each node that is taken out and not skipped, and takes each position that is taken out, until `take` says that it is enough. The nodes opened."""
+    opened = 0
+    waiting = []
+
+    def wait_box(j):
+        waiting.append((squared_to_box(q, sheet.nodes[j][3:]), BOX, j))
+
+    def wait_point(i):
+        waiting.append((squared_to_point(q, sheet.place(i)), POINT, i))
+
+    if sheet.m > 0:
+        wait_box(sheet.m - 1)
+    while waiting:
+        assert len(waiting) <= sheet.n + sheet.m
+        nearest = min(waiting)
+        waiting.remove(nearest)
+        _, kind, number = nearest
+        if kind == POINT:
+            if take(number):
+                break
+        elif not skipped(sheet.nodes[number][3:]):
+            opened += 1
+            level, first, count = sheet.nodes[number][:3]
+            for below in range(first, first + count):
+                if level > 0:
+                    wait_box(below)
+                else:
+                    wait_point(sheet.order[below])
+    assert opened <= sheet.m
+    return opened
+
+
+# "Give the pump houses one after another in that order, up to a size of 16."
+def nearest_points(sheet, q, size):
+    """The positions."""
+    given = []
+
+    def take(position):
+        given.append(position)
+        return len(given) == size
+
+    near_walk(sheet, q, lambda box: False, take)
+    return given
+
+
+# "Then use the same walk as a second filter, kept sets and skips as in 01 with request 3."
+def near_filter(sheet, q):
+    """The kept positions, ascending, and the nodes opened."""
+    kept = []
+
+    def skipped(box):
+        return any(drops_box(q, sheet.place(i), box) for i in kept)
+
+    def take(position):
+        if not any(drops_point(q, sheet.place(i), sheet.place(position)) for i in kept):
+            kept.append(position)
+        return False
+
+    opened = near_walk(sheet, q, skipped, take)
+    return sorted(kept), opened
+
+
+# "Waiting boxes and points stand in a lent slice of at least n + m entries, the first n + m zero after an answer, the rest untouched." "Refusals: 20, 10
+# (the filter has no size), then 25 slice shorter than that", after "1 to 8 for P, then for Q"
+def near_number(p_words, q_words, q_id, size, lent):
+    """The number of the first refusal that applies, or 0; `size` is None for the filter."""
+    number = open_number(p_words) or open_number(q_words)
+    if number:
+        return number
+    p, q = Sheet(p_words), Sheet(q_words)
+    # 20: unknown q id
+    if q_id not in [point[0] for point in q.points]:
+        return 20
+    # 10: size out of range, 1 to 16
+    if size is not None and (size < 1 or size > SIZE):
+        return 10
+    # 25: slice shorter than n + m
+    if len(lent) < p.n + p.m:
+        return 25
+    return 0
+
+
+def wiped(p, lent):
+    return [0] * (p.n + p.m) + lent[p.n + p.m:]
+
+
+def place_of(q, q_id):
+    return next(point[1:] for point in q.points if point[0] == q_id)
+
+
+def nearest_call(p_words, q_words, q_id, size, lent):
+    """(number, [(id, squared distance)], the lent numbers from now on)."""
+    number = near_number(p_words, q_words, q_id, size, lent)
+    if number:
+        return number, [], lent
+    p, place = Sheet(p_words), place_of(Sheet(q_words), q_id)
+    return 0, [(p.points[i][0], squared_to_point(place, p.place(i))) for i in nearest_points(p, place, size)], wiped(p, lent)
+
+
+def near_filter_call(p_words, q_words, q_id, lent):
+    """(number, kept positions, opened, the lent numbers from now on)."""
+    number = near_number(p_words, q_words, q_id, None, lent)
+    if number:
+        return number, [], 0, lent
+    p, place = Sheet(p_words), place_of(Sheet(q_words), q_id)
+    kept, opened = near_filter(p, place)
+    return 0, kept, opened, wiped(p, lent)
+
+
 # ---------------------------------------------------------------- the book
 
 class Book:

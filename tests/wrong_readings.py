@@ -242,7 +242,7 @@ RUNS = SIZES + [
     (CORNERS_BEHIND, "return sum(behind(q, p, corner) for corner in corners(box)) >= 3 and"),
     ("(x[1] - p[1]) <= 0", "(x[1] - p[1]) < 0"),
     # not in table order; by id and not by place; by the partner's place and not its id
-    ("        for below in range(first, first + count):\n", "        for below in reversed(range(first, first + count)):\n"),
+    ("        opened += 1\n        for below in range(first, first + count):\n", "        opened += 1\n        for below in reversed(range(first, first + count)):\n"),
     ("    return [q.order[place] for place in range(first, first + count)]\n", "    return sorted(q.order[place] for place in range(first, first + count))\n"),
     ("        for partner in range(p.n):\n", "        for partner in p.order:\n"),
     # the count: without the filter's nodes; without the ring walks'; of the ring pairs alone; with one filter walk a chamber
@@ -304,6 +304,45 @@ SHORTEST = SIZES + [
     ("UNUSED = (0, 0, 0)", "UNUSED = (0, 0, 1)"),
 ]
 
+TAKEN_OUT = "        nearest = min(waiting)\n"
+NO_CHAMBER = "    if q_id not in [point[0] for point in q.points]:\n        return 20\n"
+NO_SIZE = "    if size is not None and (size < 1 or size > SIZE):\n        return 10\n"
+TOO_SHORT = "    if len(lent) < p.n + p.m:\n        return 25\n"
+
+NEAR = [
+    # points before boxes on a tie; the higher node or position first; those that wait longest, or shortest, first
+    ("BOX, POINT = 0, 1", "BOX, POINT = 1, 0"),
+    (TAKEN_OUT, "        nearest = min(waiting, key=lambda one: (one[0], one[1], -one[2]))\n"),
+    (TAKEN_OUT, "        nearest = min(waiting, key=lambda one: one[:2])\n"),
+    (TAKEN_OUT, "        nearest = waiting[0]\n"),
+    (TAKEN_OUT, "        nearest = waiting[-1]\n"),
+    # the distance along the axes; to a box's centre; to its farthest corner; 0 to a box beside q
+    ("    return (q[0] - x[0]) ** 2 + (q[1] - x[1]) ** 2", "    return (abs(q[0] - x[0]) + abs(q[1] - x[1])) ** 2"),
+    ("    return squared_to_point(q, nearest)", "    return squared_to_point(q, ((box[0] + box[2]) // 2, (box[1] + box[3]) // 2))"),
+    ("    return squared_to_point(q, nearest)", "    return max(squared_to_point(q, corner) for corner in corners(box))"),
+    ("    return squared_to_point(q, nearest)", "    return min(squared_to_point(q, corner) for corner in corners(box))"),
+    ("    return squared_to_point(q, nearest)", "    return 0 if box[0] <= q[0] <= box[2] else squared_to_point(q, nearest)"),
+    # a position by its place in the table; the root's own box left out of the count
+    ("wait_point(sheet.order[below])", "wait_point(below)"),
+    ("        elif not skipped(sheet.nodes[number][3:]):\n            opened += 1\n", "        elif not skipped(sheet.nodes[number][3:]):\n            opened += number < sheet.m - 1\n"),
+    ("        return len(given) == size\n", "        return len(given) == size + 1\n"),
+    # the numbers: 20 last, 10 before it, 25 before 10; exactly enough is too short; n alone, m alone; sizes 0 and 17
+    (NO_CHAMBER, "    if q_id < q.points[0][0] or q_id > q.points[-1][0]:\n        return 20\n"),
+    (NO_CHAMBER + "    # 10: size out of range, 1 to 16\n" + NO_SIZE, NO_SIZE + NO_CHAMBER),
+    (NO_SIZE + "    # 25: slice shorter than n + m\n" + TOO_SHORT, TOO_SHORT + NO_SIZE),
+    (NO_SIZE, NO_SIZE.replace("size < 1", "size < 0")),
+    (NO_SIZE, NO_SIZE.replace("size > SIZE", "size > SIZE + 1")),
+    (TOO_SHORT, TOO_SHORT.replace("<", "<=")),
+    (TOO_SHORT, TOO_SHORT.replace("p.n + p.m", "p.n")),
+    (TOO_SHORT, TOO_SHORT.replace("p.n + p.m", "p.m")),
+    # the lent numbers: all of them 0; the first n; none
+    ("    return [0] * (p.n + p.m) + lent[p.n + p.m:]", "    return [0] * len(lent)"),
+    ("    return [0] * (p.n + p.m) + lent[p.n + p.m:]", "    return [0] * p.n + lent[p.n:]"),
+    ("    return [0] * (p.n + p.m) + lent[p.n + p.m:]", "    return lent"),
+    ("None for the filter.\"\"\"\n    number = open_number(p_words) or open_number(q_words)", "None for the filter.\"\"\"\n    number = open_number(q_words) or open_number(p_words)"),
+    # whether a box contains a kept point's place is never asked here: such a box is no farther than the point, so it was taken out before
+] + SKIPS[:5]
+
 BOOK = [
     ("DIAMETER = 8_000_000_000_000", "DIAMETER = 7_999_999_999_999"),
     ("DIAMETER = 8_000_000_000_000", "DIAMETER = 8_000_000_000_001"),
@@ -327,7 +366,7 @@ BOOK = [
 ]
 
 STEP = 100
-WRONG = {"try_sheets": SHEETS, "try_walks": WALKS, "try_pages": PAGES, "try_runs": RUNS, "try_shortest": SHORTEST, "the book": BOOK}
+WRONG = {"try_sheets": SHEETS, "try_walks": WALKS, "try_pages": PAGES, "try_runs": RUNS, "try_shortest": SHORTEST, "try_near": NEAR, "the book": BOOK}
 
 
 def misread(old, new):

@@ -1,7 +1,7 @@
 /*
  * Every call of ring.h with random and damaged inputs: null with length 0, wrong lengths, extreme numbers, words changed at random.
  * Answers are held to a plain second reading of the rules: the numbers of open up to 6, of pack, next key and take; the list, by trying every pair against
- * every record; the shortest pairs and a leaf's run likewise, its nodes opened by a plain walk; the marker, doubled. Lent memory is held to a copy made before the call, with guards
+ * every record; the shortest pairs, the nearest pump houses and a leaf's run likewise, the nodes of a run and of the filter that goes nearest first by a plain walk; the marker, doubled. Lent memory is held to a copy made before the call, with guards
  * on both sides.
  * Prints one line, and ends with 1 where an answer differs or a number of refusal never came up.
  */
@@ -14,8 +14,12 @@
 #define MOST 6000
 #define GUARD 0x5ead5eed
 
+/* the numbers of refusal: 0 to 20, and 25 */
+#define LAST 31
+#define A_NUMBER(k) ((k) <= 21 || (k) == 25 || (k) == 31)
+
 static uint64_t seed = 88172645463325252ull;
-static unsigned long calls, wrong, first_wrong, seen[32], named[4];
+static unsigned long calls, wrong, first_wrong, seen[LAST + 1], named[4];
 
 #define HOLD(test) ((test) ? (void)0 : (void)(wrong++ ? 0 : (first_wrong = __LINE__)))
 
@@ -40,8 +44,8 @@ static size_t wild_size(void) { return below(4) ? wild() : below(2) ? (size_t)ch
 
 static void saw(uint32_t number) {
     calls++;
-    HOLD(number <= 21 || number == 31);
-    if (number <= 31) seen[number]++;
+    HOLD(A_NUMBER(number));
+    if (number <= LAST) seen[number]++;
 }
 
 /* ---- sheets: words between guards, and a copy of all */
@@ -633,16 +637,129 @@ static void try_leaf(void) {
     HOLD(memcmp(lent, lent_was, sizeof lent) == 0);
 }
 
+/* ---- nearest first */
+
+static uint64_t square(int64_t x) { return (uint64_t)(x * x); }
+
+static uint64_t to_spot(const int32_t *q, const int32_t *x) { return square((int64_t)q[1] - x[1]) + square((int64_t)q[2] - x[2]); }
+
+/* how far x is outside of low to high */
+static int64_t beside(int64_t low, int64_t x, int64_t high) { return x < low ? low - x : x > high ? x - high : 0; }
+
+static uint64_t to_box(const int32_t *q, const int32_t *box) { return square(beside(box[0], q[1], box[2])) + square(beside(box[1], q[2], box[3])); }
+
+/* what waits: node v by its number, the point at position i by m + i; how far it is from q */
+static uint64_t how_far(const int32_t *q, size_t e) {
+    size_t m = nodes_of(&P);
+    return e < m ? to_box(q, node_of(&P, e) + 3) : to_spot(q, P.words + 3 * (e - m));
+}
+
+/* what the walk that goes nearest first keeps for q; the nodes opened */
+static uint64_t near_walk(const int32_t *q, bool *kept) {
+    static size_t waits[2000];
+    size_t count = 0, m = nodes_of(&P);
+    uint64_t opened = 0;
+    memset(kept, 0, 1000 * sizeof *kept);
+    if (m) waits[count++] = m - 1;
+    while (count) {
+        size_t best = 0;
+        for (size_t k = 1; k < count; k++) {
+            uint64_t one = how_far(q, waits[k]), other = how_far(q, waits[best]);
+            if (one < other || (one == other && waits[k] < waits[best])) best = k;
+        }
+        size_t e = waits[best];
+        const int32_t *node = node_of(&P, e), *spot = P.words + 3 * (e - m);
+        bool out = false;
+        waits[best] = waits[--count];
+        for (size_t i = 0; i < count_of(&P); i++)
+            if (kept[i]) out |= e < m ? skips(q, node + 3, P.words + 3 * i) : blocks(q, spot, P.words + 3 * i);
+        if (out) continue;
+        if (e >= m) {
+            kept[e - m] = true;
+            continue;
+        }
+        opened++;
+        for (int32_t c = node[1]; c < node[1] + node[2]; c++) waits[count++] = node[0] ? (size_t)c : m + stands(&P, c);
+    }
+    return opened;
+}
+
+/* the pump houses by distance, then position: each the first of all that come after the last one */
+static size_t nearest_of(const int32_t *q, size_t size, RingNear *near) {
+    size_t count = 0, last = 0;
+    for (bool more = true; more && count < size; count += more) {
+        size_t next = 0;
+        more = false;
+        for (size_t i = 0; i < count_of(&P); i++) {
+            uint64_t d = to_spot(q, P.words + 3 * i), to_last = to_spot(q, P.words + 3 * last), to_next = to_spot(q, P.words + 3 * next);
+            if (count && (d < to_last || (d == to_last && i <= last))) continue;
+            if (more && (d > to_next || (d == to_next && i > next))) continue;
+            next = i, more = true;
+        }
+        if (more) near[count].id = (uint32_t)P.words[3 * next], near[count].distance = to_spot(q, P.words + 3 * next), last = next;
+    }
+    return count;
+}
+
+static uint64_t lent[1604], lent_was[1604];
+
+/* lent numbers between guards: how many; the number of refusal from the sheets' on, and the position of the chamber */
+static uint32_t near_asked(uint32_t *id, size_t *j, bool sized, size_t size, size_t *len) {
+    size_t i, need;
+    uint32_t number = two_sheets(60, j, &i);
+    *id = wild();
+    if (!number && count_of(&Q) && below(8)) *id = (uint32_t)Q.words[3 * below(count_of(&Q))];
+    for (*j = 0; !number && *j < count_of(&Q) && (uint32_t)Q.words[3 * *j] != *id;) ++*j;
+    need = number ? 10 : count_of(&P) + nodes_of(&P);
+    *len = below(3) ? need : below(2) && need ? need - 1 : need + below(3);
+    if (!number && *j >= count_of(&Q)) number = 20;
+    if (!number && sized && (size < 1 || size > 16)) number = 10;
+    if (!number && *len < need) number = 25;
+    for (size_t k = 0; k < 1604; k++) lent[k] = chance();
+    memcpy(lent_was, lent, sizeof lent);
+    if (!number) memset(lent_was + 2, 0, need * sizeof lent[0]);
+    return number;
+}
+
+static void try_nearest(void) {
+    size_t j, len, count = 0, size = below(6) ? 1 + below(16) : wild_size();
+    uint32_t id, number = near_asked(&id, &j, true, size, &len);
+    RingNear expected[16];
+    memset(expected, 0, sizeof expected);
+    if (!number) count = nearest_of(Q.words + 3 * j, size, expected);
+    RingFound r = ring_nearest(at(&P), P.len, at(&Q), Q.len, id, size, len ? lent + 2 : NULL, len);
+    saw(r.number), hold_saved();
+    HOLD(r.number == number && r.count == count);
+    for (size_t k = 0; k < 16; k++) HOLD(r.points[k].id == expected[k].id && r.points[k].distance == expected[k].distance);
+    HOLD(memcmp(lent, lent_was, sizeof lent) == 0);
+}
+
+static void try_near_filter(void) {
+    static bool kept[1000];
+    size_t j, len, count = 0;
+    uint64_t bits[16], opened = 0;
+    uint32_t id, number = near_asked(&id, &j, false, 0, &len);
+    memset(bits, 0, sizeof bits);
+    if (!number) opened = near_walk(Q.words + 3 * j, kept);
+    for (size_t i = 0; !number && i < count_of(&P); i++)
+        if (kept[i]) bits[i / 64] |= (uint64_t)1 << (i % 64), count++;
+    RingFiltered r = ring_near_filter(at(&P), P.len, at(&Q), Q.len, id, len ? lent + 2 : NULL, len);
+    saw(r.number), hold_saved();
+    HOLD(r.number == number && r.count == count && r.opened == opened && memcmp(r.bits, bits, sizeof bits) == 0);
+    for (size_t i = 0; !number && i < count_of(&P); i++) HOLD(kept[i] || !is_pair(j, i));
+    HOLD(memcmp(lent, lent_was, sizeof lent) == 0);
+}
+
 int main(void) {
-    static void (*const tries[])(void) = {try_open, try_pack, try_point, try_filter, try_pair, try_page, try_partners, try_shortest, try_begin, try_next, try_take, try_marker, try_leaf};
+    static void (*const tries[])(void) = {try_open, try_pack, try_point, try_filter, try_pair, try_page, try_partners, try_shortest, try_begin, try_next, try_take, try_marker, try_leaf, try_nearest, try_near_filter};
     size_t exports = sizeof tries / sizeof tries[0];
     guard(&P), guard(&Q);
     for (size_t k = 0; k < exports; k++)
         for (int i = 0; i < TIMES; i++) tries[k]();
-    unsigned long unseen = seen[31] == 0, unnamed = 0;
-    for (int k = 0; k < 22; k++) unseen += seen[k] == 0;
+    unsigned long unseen = 0, unnamed = 0;
+    for (int k = 0; k <= LAST; k++) unseen += A_NUMBER(k) && seen[k] == 0;
     for (int k = 0; k < 4; k++) unnamed += named[k] == 0;
-    printf("c calls: %zu exports, %lu calls with %lu served, %lu of the numbers 0 to 21 and 31 never seen, %lu sides never named, %lu answers wrong", exports, calls, seen[0], unseen, unnamed, wrong);
+    printf("c calls: %zu exports, %lu calls with %lu served, %lu of the numbers never seen, %lu sides never named, %lu answers wrong", exports, calls, seen[0], unseen, unnamed, wrong);
     if (wrong) printf(" (the first at line %lu)", first_wrong);
     printf("\n");
     return wrong || unseen || unnamed;

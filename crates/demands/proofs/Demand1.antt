@@ -5,7 +5,7 @@
 -- That every input is taken is proofs/Takes. Here is one theorem for each call: the number of its answer is the defined one, 0 where no rule is broken; and an answer with another number is that number and
 -- nothing else. None has a premise but that the call answered. The definitions of the numbers stand in the document's order: `openNo` of sheet/specs/Open,
 -- `packNo` of pack/specs/Pack, `pointNo`, `filterNo`, `ringNo` of ring/specs/Numbers, `pageNo` of ring/specs/Page, `partnersNo` of ring/specs/Partners, `beginNo`, `nextNo`, `takeNo` of
--- book/specs/Rules, `markNo` of marker/specs/Mark, `runNo` of runs/specs/Run. For the calls through views and on arrays see proofs/Alike. What is lent as `&` cannot be written; what is lent as `&mut` (pack, take, leaf_run) is spoken of here.
+-- book/specs/Rules, `markNo` of marker/specs/Mark, `runNo` of runs/specs/Run, `nearestNo` and `nearFilterNo` of nearest/specs/Nearest. For the calls through views and on arrays see proofs/Alike. What is lent as `&` cannot be written; what is lent as `&mut` (pack, take, leaf_run, nearest, near_filter) is spoken of here.
 -- Assumes nothing.
 use mathlib.Core.Path.{_≡_, refl, sym, ap, subst, _∙_}
 use mathlib.Core.List.{List, [], _++_}
@@ -64,12 +64,15 @@ use Rattle.marker.specs.declared.Marked.the-variants as marking
 use Rattle.shortest.specs.declared.Shortlist.{Shortlist}
 use Rattle.shortest.specs.Answer.{shortNo, shortRefused}
 use Rattle.shortest.proofs.AnswerLaws as of-shortest
+use Rattle.nearest.specs.declared.Found.{Found}
+use Rattle.nearest.specs.Nearest.{nearestNo, nearFilterNo, nearestRefused}
+use Rattle.nearest.proofs.Meaning as of-nearest
 use Rattle.runs.specs.declared.Run.{Run}
 use Rattle.runs.specs.declared.RunArray.{RunArray}
 use Rattle.runs.specs.Run.{runNo, runRefused, runAnswer, runSlots, lentOf as lentForRun}
 use Rattle.runs.proofs.Once as of-runs
 use Rattle.runs.proofs.Meaning as of-run
-use Rattle.demands.specs.Promises.{OpenAnswers, HeadAnswers, PointAnswers, FilterAnswers, RingAnswers, PageAnswers, ShortAnswers, PackAnswers, MarkAnswers, BeginAnswers, NextAnswers, TakeAnswers, TakeArrayAnswers, RunAnswers, RunArrayAnswers, ViewOpens, PartnersAnswers}
+use Rattle.demands.specs.Promises.{OpenAnswers, HeadAnswers, PointAnswers, FilterAnswers, RingAnswers, PageAnswers, ShortAnswers, PackAnswers, MarkAnswers, BeginAnswers, NextAnswers, TakeAnswers, TakeArrayAnswers, RunAnswers, RunArrayAnswers, ViewOpens, PartnersAnswers, NearestAnswers, NearFilterAnswers}
 use Rattle.demands.proofs.Alike.{take-array, take-array-slots, run-array, run-array-slots}
 
 -- the number k is one of refusal
@@ -137,6 +140,22 @@ pub partners-no : (P Q : List ℤ) (id t : ℕ) (r : Partnered) → PartnersAnsw
     → (r .number ≡ partnersNo P Q id t) × (Refuses (partnersNo P Q id t) → r ≡ partnersRefused (partnersNo P Q id t))
 partners-no P Q id t r a =
     (ap (λ (x : Partnered). x .number) (a .promised) ∙ of-partners.partners-no P Q id t, λ ne. a .promised ∙ of-partners.partners-refused P Q id t (partnersNo P Q id t) refl ne)
+
+-- ---- nearest first, 1 to 8 for P, then for Q, then 20, then 10 (not of the filter), then 25: refused, all is zero, and the lent numbers are as they were
+
+pub nearest-no : (P Q : List ℤ) (id size : ℕ) (ws : List ℕ) (r : Found) (t : List ℕ) → NearestAnswers P Q id size ws r t
+    → (r .number ≡ nearestNo P Q id size (length ws)) × (Refuses (nearestNo P Q id size (length ws)) → (r ≡ nearestRefused (nearestNo P Q id size (length ws))) × (t ≡ ws))
+nearest-no P Q id size ws r t a = (
+  ap (λ (x : Found). x .number) (a .promised .0) ∙ of-nearest.nearest-no P Q id size (length ws),
+  λ ne. (a .promised .0 ∙ of-nearest.nearest-refused P Q id size (length ws) _ refl ne, a .promised .1 ∙ of-nearest.waited-refused _ P ws ne),
+)
+
+pub near-filter-no : (P Q : List ℤ) (id : ℕ) (ws : List ℕ) (r : Filtered) (t : List ℕ) → NearFilterAnswers P Q id ws r t
+    → (r .number ≡ nearFilterNo P Q id (length ws)) × (Refuses (nearFilterNo P Q id (length ws)) → (r ≡ unfiltered (nearFilterNo P Q id (length ws))) × (t ≡ ws))
+near-filter-no P Q id ws r t a = (
+  ap (λ (x : Filtered). x .number) (a .promised .0) ∙ of-nearest.near-filter-no P Q id (length ws),
+  λ ne. (a .promised .0 ∙ of-nearest.near-filter-refused P Q id (length ws) _ refl ne, a .promised .1 ∙ of-nearest.waited-refused _ P ws ne),
+)
 
 -- ---- begin, 3, then 21
 

@@ -114,7 +114,7 @@ facts : (w : List ℤ) → WellFormed w → Opens w (points w) (nodes w)
 facts w e = open-facts form1 form1-fair w e
 
 -- the sixteen words of the filter walk have a position for each point
-fits : (w : List ℤ) → WellFormed w → points w ≤ 64 * 16
+pub fits : (w : List ℤ) → WellFormed w → points w ≤ 64 * 16
 unfolding form1
 fits w e = omega (arith, open-trailer form1 w e .n-le)
 

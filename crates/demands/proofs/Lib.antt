@@ -4,6 +4,7 @@
 --     Demand2     the list is that of the ring rule, and the calls answer for it
 --     ByRow       in what order a list by rows has its pairs
 --     Shortest    the shortest circles of the list, in order
+--     Nearest     the pump houses nearest first, and the filter that goes so
 --     Demand3     the book's story, with the pages that the shipped page request answers
 --     Worlds      the premises of demand 3 can be had
 --     Says        where a promise is stated anew, it is the `ensures` of its call
@@ -18,6 +19,7 @@ pub mod Demand1
 pub mod ByRow
 pub mod Demand2
 pub mod Shortest
+pub mod Nearest
 pub mod Demand3
 pub mod OverC
 pub mod Worlds

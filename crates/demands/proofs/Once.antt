@@ -27,18 +27,20 @@ use Rattle.book.specs.declared.Taken.{Taken}
 use Rattle.book.specs.declared.TakenArray.{TakenArray}
 use Rattle.marker.specs.declared.Marked.{Marked}
 use Rattle.shortest.specs.declared.Shortlist.{Shortlist}
+use Rattle.nearest.specs.declared.Found.{Found}
 use Rattle.runs.specs.declared.Run.{Run}
 use Rattle.runs.specs.declared.RunArray.{RunArray}
 use Rattle.ring.proofs.Once as of-ring
 use Rattle.ring.proofs.PageLaws as of-page
 use Rattle.shortest.proofs.AnswerLaws as of-shortest
 use Rattle.ring.proofs.PartnersLaws as of-partners
+use Rattle.nearest.proofs.Meaning as of-nearest
 use Rattle.view.proofs.Once as of-view
 use Rattle.book.proofs.Once as of-book
 use Rattle.pack.proofs.Once as of-pack
 use Rattle.marker.proofs.Once as of-marker
 use Rattle.runs.proofs.Once as of-runs
-use Rattle.demands.specs.Promises.{OpenAnswers, HeadAnswers, PointAnswers, FilterAnswers, RingAnswers, PageAnswers, ShortAnswers, PackAnswers, MarkAnswers, BeginAnswers, NextAnswers, TakeAnswers, NextArrayAnswers, TakeArrayAnswers, RunAnswers, RunArrayAnswers, ViewOpens, ViewPoints, ViewFilters, ViewRings, ViewPages, OpenHead, PointOpened, PointThrough, FilterThrough, RingThrough, PageThrough, PartnersAnswers, ViewPartners, PartnersThrough}
+use Rattle.demands.specs.Promises.{OpenAnswers, HeadAnswers, PointAnswers, FilterAnswers, RingAnswers, PageAnswers, ShortAnswers, PackAnswers, MarkAnswers, BeginAnswers, NextAnswers, TakeAnswers, NextArrayAnswers, TakeArrayAnswers, RunAnswers, RunArrayAnswers, ViewOpens, ViewPoints, ViewFilters, ViewRings, ViewPages, OpenHead, PointOpened, PointThrough, FilterThrough, RingThrough, PageThrough, PartnersAnswers, ViewPartners, PartnersThrough, NearestAnswers, NearFilterAnswers}
 
 -- ---- ring
 
@@ -65,6 +67,14 @@ partners-once P Q id t r r′ a b = of-partners.partners-once P Q id t r r′ (a
 
 pub shortest-once : (P Q : List ℤ) (k : ℕ) (r r′ : Shortlist) → ShortAnswers P Q k r → ShortAnswers P Q k r′ → r ≡ r′
 shortest-once P Q k r r′ a b = of-shortest.short-once P Q k r r′ (a .promised) (b .promised)
+
+-- ---- nearest first: one answer, and one final state of the lent numbers
+
+pub nearest-once : (P Q : List ℤ) (id size : ℕ) (ws : List ℕ) (r r′ : Found) (t t′ : List ℕ) → NearestAnswers P Q id size ws r t → NearestAnswers P Q id size ws r′ t′ → (r ≡ r′) × (t ≡ t′)
+nearest-once P Q id size ws r r′ t t′ a b = of-nearest.nearest-once P Q id size ws r r′ t t′ (a .promised) (b .promised)
+
+pub near-filter-once : (P Q : List ℤ) (id : ℕ) (ws : List ℕ) (r r′ : Filtered) (t t′ : List ℕ) → NearFilterAnswers P Q id ws r t → NearFilterAnswers P Q id ws r′ t′ → (r ≡ r′) × (t ≡ t′)
+near-filter-once P Q id ws r r′ t t′ a b = of-nearest.near-filter-once P Q id ws r r′ t t′ (a .promised) (b .promised)
 
 -- ---- pack: one answer, and one final state of the lent words
 

@@ -41,6 +41,7 @@ use Rattle.book.specs.declared.Taken.{Taken}
 use Rattle.book.specs.Rules.{beginNo, begunNo, begunFor, nextNo, askedNo, asked}
 use Rattle.book.proofs.Once as of-book
 use Rattle.shortest.specs.declared.Shortlist.{Shortlist}
+use Rattle.nearest.specs.declared.Found.{Found}
 use Rattle.runs.specs.declared.Run.{Run}
 use Rattle.marker.specs.Mark.{markNo, numberOf}
 use Rattle.marker.specs.declared.Marked.{Marked}
@@ -60,13 +61,15 @@ use Rattle.ffi.proofs.ring_pair_walk.Reads as walk-c
 use Rattle.ffi.proofs.ring_page.Reads as page-c
 use Rattle.ffi.proofs.ring_shortest.Reads as shortest-c
 use Rattle.ffi.proofs.ring_partners.Reads as partners-c
+use Rattle.ffi.proofs.ring_nearest.Reads as nearest-c
+use Rattle.ffi.proofs.ring_near_filter.Reads as near-filter-c
 use Rattle.ffi.proofs.ring_book_begin.Reads as begin-c
 use Rattle.ffi.proofs.ring_marker.Reads as mark-c
 use Rattle.ffi.proofs.ring_book_next_key as next-c
 use Rattle.ffi.proofs.ring_book_take as take-c
 use Rattle.ffi.proofs.ring_leaf_run as run-c
-use Rattle.demands.specs.Promises.{Place, slice, HeadAnswers, PointAnswers, FilterAnswers, RingAnswers, PageAnswers, ShortAnswers, PackAnswers, MarkAnswers, BeginAnswers, NextAnswers, TakeAnswers, RunAnswers, PartnersAnswers}
-use Rattle.demands.specs.OverC.{OpenC, PackC, PointC, FilterC, WalkC, PageC, ShortC, BeginC, MarkC, NextC, PartnersC}
+use Rattle.demands.specs.Promises.{Place, slice, HeadAnswers, PointAnswers, FilterAnswers, RingAnswers, PageAnswers, ShortAnswers, PackAnswers, MarkAnswers, BeginAnswers, NextAnswers, TakeAnswers, RunAnswers, PartnersAnswers, NearestAnswers, NearFilterAnswers}
+use Rattle.demands.specs.OverC.{OpenC, PackC, PointC, FilterC, WalkC, PageC, ShortC, BeginC, MarkC, NextC, PartnersC, NearestC, NearFilterC}
 use Rattle.demands.proofs.Once as once
 
 -- ---- every input is taken
@@ -94,6 +97,12 @@ shortest-c-takes κs a = tt
 
 pub partners-c-takes : (κs : Lfts 2) (a : _) → partners-c.Asked κs a
 partners-c-takes κs a = tt
+
+pub nearest-c-takes : (κs : Lfts 3) (a : _) → nearest-c.Asked κs a
+nearest-c-takes κs a = tt
+
+pub near-filter-c-takes : (κs : Lfts 3) (a : _) → near-filter-c.Asked κs a
+near-filter-c-takes κs a = tt
 
 pub begin-c-takes : (κs : Lfts 0) (a : _) → begin-c.Asked κs a
 begin-c-takes κs a = tt
@@ -146,6 +155,12 @@ page-over P Q key size t r a = record { κs = a .κs; p-at = a .p-at; q-at = a .
 
 pub shortest-over : (P Q : List ℤ) (k : ℕ) (r : Shortlist) → ShortC P Q k r → ShortAnswers P Q k r
 shortest-over P Q k r a = record { κs = a .κs; p-at = a .p-at; q-at = a .q-at; promised = a .promised }
+
+pub nearest-over : (P Q : List ℤ) (id size : ℕ) (ws : List ℕ) (r : Found) (t : List ℕ) → NearestC P Q id size ws r t → NearestAnswers P Q id size ws r t
+nearest-over P Q id size ws r t a = record { κs = a .κs; p-at = a .p-at; q-at = a .q-at; w-at = a .w-at; promised = a .promised }
+
+pub near-filter-over : (P Q : List ℤ) (id : ℕ) (ws : List ℕ) (r : Filtered) (t : List ℕ) → NearFilterC P Q id ws r t → NearFilterAnswers P Q id ws r t
+near-filter-over P Q id ws r t a = record { κs = a .κs; p-at = a .p-at; q-at = a .q-at; w-at = a .w-at; promised = a .promised }
 
 pub point-over : (w : List ℤ) (i : ℕ) (c : PointAnswer) (r : Pointed) → PointC w i c → PointAnswers w i r → c ≡ pointOver r
 point-over w i c r a b = a .promised ∙ ap pointOver (sym (b .promised))
@@ -232,6 +247,12 @@ partners-c-once P Q id t r r′ a b = once.partners-once P Q id t r r′ (partne
 
 pub shortest-c-once : (P Q : List ℤ) (k : ℕ) (r r′ : Shortlist) → ShortC P Q k r → ShortC P Q k r′ → r ≡ r′
 shortest-c-once P Q k r r′ a b = once.shortest-once P Q k r r′ (shortest-over P Q k r a) (shortest-over P Q k r′ b)
+
+pub nearest-c-once : (P Q : List ℤ) (id size : ℕ) (ws : List ℕ) (r r′ : Found) (t t′ : List ℕ) → NearestC P Q id size ws r t → NearestC P Q id size ws r′ t′ → (r ≡ r′) × (t ≡ t′)
+nearest-c-once P Q id size ws r r′ t t′ a b = once.nearest-once P Q id size ws r r′ t t′ (nearest-over P Q id size ws r t a) (nearest-over P Q id size ws r′ t′ b)
+
+pub near-filter-c-once : (P Q : List ℤ) (id : ℕ) (ws : List ℕ) (r r′ : Filtered) (t t′ : List ℕ) → NearFilterC P Q id ws r t → NearFilterC P Q id ws r′ t′ → (r ≡ r′) × (t ≡ t′)
+near-filter-c-once P Q id ws r r′ t t′ a b = once.near-filter-once P Q id ws r r′ t t′ (near-filter-over P Q id ws r t a) (near-filter-over P Q id ws r′ t′ b)
 
 pub begin-c-once : (s : Source) (r r′ : BookAnswer) → BeginC s r → BeginC s r′ → r ≡ r′
 begin-c-once s r r′ a b = a .promised ∙ sym (b .promised)

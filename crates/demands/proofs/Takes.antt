@@ -18,6 +18,8 @@ use Rattle.ring.proofs.ringwalk.ring_walk.Reads as ring-walk
 use Rattle.ring.proofs.page.page.Reads as page
 use Rattle.shortest.proofs.shortest.Reads as shortest
 use Rattle.ring.proofs.partners.partners.Reads as partners
+use Rattle.nearest.proofs.nearest.Reads as nearest
+use Rattle.nearest.proofs.near_filter.Reads as near-filter
 use Rattle.pack.proofs.pack.Reads as pack
 use Rattle.marker.proofs.mark.Reads as mark
 use Rattle.book.proofs.Book.begin.Reads as begin
@@ -64,6 +66,12 @@ shortest-takes κs a = tt
 
 pub partners-takes : (κs : Lfts 2) (a : _) → partners.Asked κs a
 partners-takes κs a = tt
+
+pub nearest-takes : (κs : Lfts 3) (a : _) → nearest.Asked κs a
+nearest-takes κs a = tt
+
+pub near-filter-takes : (κs : Lfts 3) (a : _) → near-filter.Asked κs a
+near-filter-takes κs a = tt
 
 pub pack-takes : (κs : Lfts 3) (a : _) → pack.Asked κs a
 pack-takes κs a = tt

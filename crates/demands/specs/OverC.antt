@@ -13,6 +13,7 @@ use Rattle.ring.specs.declared.Filtered.{Filtered}
 use Rattle.ring.specs.declared.Paged.{Paged}
 use Rattle.shortest.specs.declared.Shortlist.{Shortlist}
 use Rattle.ring.specs.declared.Partnered.{Partnered}
+use Rattle.nearest.specs.declared.Found.{Found}
 use Rattle.book.specs.declared.Book.{Book}
 use Rattle.book.specs.Rules.{asked}
 use Rattle.ffi.specs.declared.PointAnswer.{PointAnswer}
@@ -29,6 +30,8 @@ use Rattle.ffi.proofs.ring_pair_walk.Reads as walk-c
 use Rattle.ffi.proofs.ring_page.Reads as page-c
 use Rattle.ffi.proofs.ring_shortest.Reads as shortest-c
 use Rattle.ffi.proofs.ring_partners.Reads as partners-c
+use Rattle.ffi.proofs.ring_nearest.Reads as nearest-c
+use Rattle.ffi.proofs.ring_near_filter.Reads as near-filter-c
 use Rattle.ffi.proofs.ring_book_begin.Reads as begin-c
 use Rattle.ffi.proofs.ring_marker.Reads as mark-c
 use Rattle.demands.specs.Promises.{Place, slice}
@@ -90,6 +93,28 @@ pub record ShortC (P Q : List ℤ) (k : ℕ) (r : Shortlist) : Type 0 where
   pub p-at : Place
   pub q-at : Place
   pub promised : shortest-c.Post κs (slice p-at P, (slice q-at Q, (k, tt))) r (slice p-at P, (slice q-at Q, (k, tt)))
+
+-- `ring_nearest(P, Q, id, size, waiting)` answers r, and the lent numbers are `waiting′` at its exit
+pub record NearestC (P Q : List ℤ) (id size : ℕ) (waiting : List ℕ) (r : Found) (waiting′ : List ℕ) : Type 0 where
+  pub κs : Lfts 3
+  pub p-at : Place
+  pub q-at : Place
+  pub w-at : Place
+  pub promised : nearest-c.Post κs
+      (slice p-at P, (slice q-at Q, (id, (size, (slice w-at waiting, tt)))))
+      r
+      (slice p-at P, (slice q-at Q, (id, (size, (slice w-at waiting′, tt)))))
+
+-- `ring_near_filter(P, Q, id, waiting)` answers r, and the lent numbers are `waiting′` at its exit
+pub record NearFilterC (P Q : List ℤ) (id : ℕ) (waiting : List ℕ) (r : Filtered) (waiting′ : List ℕ) : Type 0 where
+  pub κs : Lfts 3
+  pub p-at : Place
+  pub q-at : Place
+  pub w-at : Place
+  pub promised : near-filter-c.Post κs
+      (slice p-at P, (slice q-at Q, (id, (slice w-at waiting, tt))))
+      r
+      (slice p-at P, (slice q-at Q, (id, (slice w-at waiting′, tt))))
 
 -- `ring_book_begin(source)` answers r
 pub record BeginC (source : Source) (r : BookAnswer) : Type 0 where

@@ -37,6 +37,7 @@ use Rattle.book.specs.declared.TakenArray.{TakenArray}
 use Rattle.book.specs.Rules.{asked, taken, takenSlots}
 use Rattle.marker.specs.declared.Marked.{Marked}
 use Rattle.shortest.specs.declared.Shortlist.{Shortlist}
+use Rattle.nearest.specs.declared.Found.{Found}
 use Rattle.runs.specs.declared.Run.{Run}
 use Rattle.runs.specs.declared.RunArray.{RunArray}
 use Rattle.runs.specs.Run.{runAnswer, runSlots}
@@ -48,6 +49,8 @@ use Rattle.ring.proofs.ringwalk.ring_walk.Reads as ring-walk
 use Rattle.ring.proofs.page.page.Reads as page
 use Rattle.shortest.proofs.shortest.Reads as shortest
 use Rattle.ring.proofs.partners.partners.Reads as partners
+use Rattle.nearest.proofs.nearest.Reads as nearest
+use Rattle.nearest.proofs.near_filter.Reads as near-filter
 use Rattle.pack.proofs.pack.Reads as pack
 use Rattle.marker.proofs.mark.Reads as mark
 use Rattle.book.proofs.Book.begin.Reads as begin
@@ -127,6 +130,30 @@ pub record ShortAnswers (P Q : List ℤ) (k : ℕ) (r : Shortlist) : Type 0 wher
   pub p-at : Place
   pub q-at : Place
   pub promised : shortest.Post κs (slice p-at P, (slice q-at Q, (k, tt))) r (slice p-at P, (slice q-at Q, (k, tt)))
+
+-- ---- nearest first
+
+-- `nearest::nearest(P, Q, id, size, waiting)` answers r, and the lent numbers are `waiting′` at its exit
+pub record NearestAnswers (P Q : List ℤ) (id size : ℕ) (waiting : List ℕ) (r : Found) (waiting′ : List ℕ) : Type 0 where
+  pub κs : Lfts 3
+  pub p-at : Place
+  pub q-at : Place
+  pub w-at : Place
+  pub promised : nearest.Post κs
+      (slice p-at P, (slice q-at Q, (id, (size, (slice w-at waiting, tt)))))
+      r
+      (slice p-at P, (slice q-at Q, (id, (size, (slice w-at waiting′, tt)))))
+
+-- `nearest::near_filter(P, Q, id, waiting)` answers r, and the lent numbers are `waiting′` at its exit
+pub record NearFilterAnswers (P Q : List ℤ) (id : ℕ) (waiting : List ℕ) (r : Filtered) (waiting′ : List ℕ) : Type 0 where
+  pub κs : Lfts 3
+  pub p-at : Place
+  pub q-at : Place
+  pub w-at : Place
+  pub promised : near-filter.Post κs
+      (slice p-at P, (slice q-at Q, (id, (slice w-at waiting, tt))))
+      r
+      (slice p-at P, (slice q-at Q, (id, (slice w-at waiting′, tt))))
 
 -- ---- pack, marker
 

@@ -6,6 +6,7 @@ use list::Key;
 use list::Page;
 use list::Pair;
 use list::Source;
+use nearest::Found;
 use ring::Filtered;
 use ring::Head;
 use ring::Paged;
@@ -22,6 +23,7 @@ ghost use Rattle.shortest.specs.Answer.{shortAnswer};
 ghost use Rattle.ring.specs.Partners.{partnersAnswer};
 ghost use Rattle.book.specs.Rules.{begunFor, asked, taken, takenSlots};
 ghost use Rattle.runs.specs.Run.{runAnswer, runSlots};
+ghost use Rattle.nearest.specs.Nearest.{nearestNo, nearFilterNo, nearestAnswer, nearFiltered, waitedBy};
 ghost use Rattle.ffi.specs.Over.{pointOver, hitOver, walkOver, bookOver, nextOver, keyOver, markOver, markedAt};
 
 // The point reader's answer: the record, or zeros.
@@ -268,6 +270,28 @@ pub extern "C" fn ring_partners(p: &[i32], q: &[i32], id: u32, t: u32) -> Partne
     ensures { λ r. ⌜ r ≡ partnersAnswer (now (p .entry)) (now (q .entry)) id t ⌝ }
 {
     ring::partners::partners(p, q, id, t)
+}
+
+// The pump houses nearest to the chamber with this id, at most `size`, in order: 0, or 1 to 8 of P, of Q, 20, 10, 25 with the lent numbers as they were.
+#[no_mangle]
+pub extern "C" fn ring_nearest(
+    p: &[i32],
+    q: &[i32],
+    id: u32,
+    size: usize,
+    waiting: &mut [u64],
+) -> Found
+    ensures { λ r. ⌜ (r ≡ nearestAnswer (now (p .entry)) (now (q .entry)) id size (length (now (waiting .entry)))) × (now (waiting .exit) ≡ waitedBy (nearestNo (now (p .entry)) (now (q .entry)) id size (length (now (waiting .entry)))) (now (p .entry)) (now (waiting .entry))) ⌝ }
+{
+    nearest::nearest(p, q, id, size, waiting)
+}
+
+// The filter walk for the chamber with this id that goes nearest first: 0, or 1 to 8 of P, of Q, 20, 25 with the lent numbers as they were.
+#[no_mangle]
+pub extern "C" fn ring_near_filter(p: &[i32], q: &[i32], id: u32, waiting: &mut [u64]) -> Filtered
+    ensures { λ r. ⌜ (r ≡ nearFiltered (now (p .entry)) (now (q .entry)) id (length (now (waiting .entry)))) × (now (waiting .exit) ≡ waitedBy (nearFilterNo (now (p .entry)) (now (q .entry)) id (length (now (waiting .entry)))) (now (p .entry)) (now (waiting .entry))) ⌝ }
+{
+    nearest::near_filter(p, q, id, waiting)
 }
 
 // A book of two editions and a threshold with nothing held: 0, or 3, 21.

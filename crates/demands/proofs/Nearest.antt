@@ -1,0 +1,100 @@
+-- Request 10: "For a single chamber on a screen, walk P by source document 004's order [..]. Give the pump houses one after another in that order, up to a size of 16. Then use the
+-- same walk as a second filter [..]. Pairs made with its kept set equal the list." For every two sheets that open and the id of a chamber, which stands at position j of Q, and in terms of what
+-- the shipped calls answer for them; `enough` says that as many numbers are lent as P has points and nodes.
+--
+--     nearest-given      the call is served, and gives as many pump houses as are asked for, or all where P has fewer; unused ones are two zeros; the first n + m lent numbers are 0, and the rest as they were
+--     nearest-each       pump house a is that at the position which stands there in the order of the walk, with its id and its squared distance to the chamber
+--     nearest-order      that order: by squared distance, on a tie by position, so by id.  order-each: each pump house stands once in it. So none that is not given comes before one that is
+--     near-filter-given  the filter is served, and what is lent is left the same way
+--     near-filter-pairs  a pump house is a ring partner of the chamber exactly if it is kept and its ring walk is clear: the pairs so made are the list's
+--     near-opened        it opens at most the nodes of P
+-- Assumes nothing.
+use mathlib.Core.Path.{_≡_, sym, ap, subst, _∙_}
+use mathlib.Core.Bool.{Bool, _&&_}
+use mathlib.Core.List.{List}
+use Prim.Native.Nat.{ℕ, min, _+_, _-_, _≤_, _<_}
+use native.Mathlib.Omega.{arith}
+use lib.IntN.{ℤ}
+use lib.ListN.{length, drop, getD, replicate}
+use Rattle.plane.specs.declared.Spot.{Spot}
+use Rattle.plane.specs.Point.{idAt}
+use Rattle.sheet.specs.Limits.{form1}
+use Rattle.sheet.specs.Layout.{points, nodes}
+use Rattle.sheet.specs.Places.{spotOf, pointsOf}
+use Rattle.sheet.specs.Open.{Opens}
+use Rattle.sheet.proofs.SheetLaws.{open-facts, form1-fair}
+use Rattle.list.specs.RingList.{ringPair}
+use Rattle.bits.specs.Set.{kept}
+use Rattle.walk.specs.RingWalk.{clear, pairWalk}
+use Rattle.near.specs.NearWalk.{nearOrder, nearKept}
+use Rattle.near.specs.Room.{wiped}
+use Rattle.near.specs.Claims.{NotAfter, times}
+use Rattle.near.proofs.Meaning as of-near
+use Rattle.ring.specs.declared.Filtered.{Filtered}
+use Rattle.ring.specs.Answers.{filteredTo}
+use Rattle.nearest.specs.declared.Found.{Found}
+use Rattle.nearest.specs.Nearest.{standsAt, noPoint, nearAt, nearestAt}
+use Rattle.nearest.proofs.Meaning as of-nearest
+use Rattle.demands.specs.Promises.{NearestAnswers, NearFilterAnswers}
+use Rattle.demands.proofs.Demand2.{WellFormed, sheets, fits}
+
+-- the order in which the pump houses stand for a place: by squared distance to it, on a tie by position
+module _ (P : List ℤ) (opens : WellFormed P) (q : Spot) where
+  pub nearest-order : (a b : ℕ) → a ≤ b → b < points P → NotAfter P q (getD (nearOrder P q) a 0) (getD (nearOrder P q) b 0)
+  nearest-order a b h g =
+      let o = open-facts form1 form1-fair P opens in
+      of-near.near-ascends P q o a b h (omega (arith, of-near.near-all P q o))
+
+  pub order-each : (i : ℕ) → i < points P → times i (nearOrder P q) ≡ 1
+  order-each = of-near.near-once P q (open-facts form1 form1-fair P opens)
+
+module _ (P Q : List ℤ) (p-opens : WellFormed P) (q-opens : WellFormed Q) (id j : ℕ) (j-in : j < points Q) (named : idAt (pointsOf Q) j ≡ id) (ws : List ℕ) (enough : points P + nodes P ≤ length ws) where
+  p-facts : Opens P (points P) (nodes P)
+  p-facts = open-facts form1 form1-fair P p-opens
+
+  q-facts : Opens Q (points Q) (nodes Q)
+  q-facts = open-facts form1 form1-fair Q q-opens
+
+  at : standsAt Q id ≡ spotOf Q j
+  at = of-nearest.stands-is Q q-facts id j j-in named
+
+  module _ (size : ℕ) (some : 1 ≤ size) (most : size ≤ 16) (r : Found) (t : List ℕ) (a : NearestAnswers P Q id size ws r t) where
+    is : r ≡ nearestAt P (spotOf Q j) size
+    is =
+        a .promised .0
+        ∙ of-nearest.nearest-given P Q id size (length ws) (of-nearest.nearest-served P Q id (length ws) (sheets P Q p-opens q-opens) j j-in named enough size some most)
+        ∙ ap (λ (q : Spot). nearestAt P q size) at
+
+    pub nearest-given : (r .number ≡ 0) × (r .count ≡ min size (points P)) × (drop (r .count) (r .points) ≡ replicate (16 - r .count) noPoint) × (t ≡ wiped (points P + nodes P) ws)
+    unfolding nearestAt
+    nearest-given = (
+      ap (λ (x : Found). x .number) is,
+      ap (λ (x : Found). x .count) is ∙ of-nearest.nearest-count P (spotOf Q j) size p-facts,
+      subst (λ (x : Found). drop (x .count) (x .points) ≡ replicate (16 - x .count) noPoint) (sym is) (of-nearest.nearest-unused P (spotOf Q j) size),
+      a .promised .1 ∙ of-nearest.waited-given _ P ws (of-nearest.nearest-served P Q id (length ws) (sheets P Q p-opens q-opens) j j-in named enough size some most),
+    )
+
+    pub nearest-each : (b : ℕ) → b < r .count → getD (r .points) b noPoint ≡ nearAt P (spotOf Q j) (getD (nearOrder P (spotOf Q j)) b 0)
+    nearest-each b = subst (λ (x : Found). b < x .count → getD (x .points) b noPoint ≡ nearAt P (spotOf Q j) (getD (nearOrder P (spotOf Q j)) b 0)) (sym is) (of-nearest.nearest-at P (spotOf Q j) size b)
+
+  module _ (r : Filtered) (t : List ℕ) (a : NearFilterAnswers P Q id ws r t) where
+    kept-is : r ≡ filteredTo (nearKept 16 P (spotOf Q j))
+    kept-is =
+        a .promised .0
+        ∙ of-nearest.near-filter-given P Q id (length ws) (of-nearest.near-filter-served P Q id (length ws) (sheets P Q p-opens q-opens) j j-in named enough)
+        ∙ ap (λ (q : Spot). filteredTo (nearKept 16 P q)) at
+
+    pub near-filter-given : (r .number ≡ 0) × (t ≡ wiped (points P + nodes P) ws)
+    unfolding filteredTo
+    near-filter-given = (
+      ap (λ (x : Filtered). x .number) kept-is,
+      a .promised .1 ∙ of-nearest.waited-given _ P ws (of-nearest.near-filter-served P Q id (length ws) (sheets P Q p-opens q-opens) j j-in named enough),
+    )
+
+    pub near-filter-pairs : (i : ℕ) → i < points P → ringPair (pointsOf P) (pointsOf Q) j i ≡ (kept (r .bits) i && clear (pairWalk P Q j i .hit))
+    near-filter-pairs i i-in =
+        of-nearest.near-pairs P Q p-facts q-facts (fits P p-opens) j i j-in i-in ∙ ap (λ (x : Filtered). kept (x .bits) i && clear (pairWalk P Q j i .hit)) (sym kept-is)
+
+    pub near-opened : r .opened ≤ nodes P
+    unfolding filteredTo
+    near-opened = subst (λ (x : Filtered). x .opened ≤ nodes P) (sym kept-is) (of-near.near-opened-at-most-m 16 P (spotOf Q j) p-facts (fits P p-opens))

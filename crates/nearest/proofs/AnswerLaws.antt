@@ -1,0 +1,203 @@
+-- The answers of the calls, by their numbers; and the lent numbers after them.
+-- Assumes nothing.
+use mathlib.Core.Path.{_≡_, refl, sym, ap, subst, _∙_}
+use mathlib.Core.Bool.{Bool, true, false, cond, not, _&&_}
+use mathlib.Core.List.{List, [], _∷_, _++_, map, append-assoc}
+use Prim.Native.Nat.{ℕ, zero, suc, _+_, _-_, _≤_, _<_}
+use native.Mathlib.Omega.{arith}
+use native.Mathlib.Numerals.{add-one}
+use lib.Dec.{eqb, ltb, leb}
+use lib.IntN.{ℤ, pos}
+use lib.ListN.{length, getD, take, set, replicate, length-map, length-take, length-append, length-replicate, length-set, List·getD-append}
+use lib.Seq.{take-suc, take-all, set-at, length-take-le, getD-take}
+use borrow.Author.Tests.{leb-true, eq-eqb, ne-eqb, lt-ltb, le-ltb, not-true, not-false}
+use Rattle.plane.specs.declared.Spot.{Spot}
+use Rattle.plane.specs.Rule.{size}
+use Rattle.words.specs.Word.{num}
+use Rattle.plane.specs.Point.{idAt}
+use Rattle.sheet.specs.Layout.{points, nodes}
+use Rattle.sheet.specs.Places.{spotOf, pointsOf}
+use Rattle.sheet.specs.Open.{Opens}
+use Rattle.sheet.proofs.SheetLaws.{own}
+use Rattle.bits.specs.Set.{card}
+use Rattle.walk.specs.FilterWalk.{Kept}
+use Rattle.near.specs.NearWalk.{nearOrder, nearKept}
+use Rattle.near.specs.Room.{wiped, padded}
+use Rattle.near.specs.Claims.{distanceTo}
+use Rattle.near.proofs.OrderLaws.{order-small}
+use Rattle.ring.specs.declared.Filtered.{Filtered}
+use Rattle.ring.specs.Numbers.{first}
+use Rattle.ring.specs.Page.{sizeNo}
+use Rattle.ring.specs.Answers.{filteredTo, unfiltered}
+use Rattle.ring.proofs.NumberLaws.{first-stops, first-passes}
+use Rattle.nearest.specs.declared.Near.{Near}
+use Rattle.nearest.specs.declared.Found.{Found}
+use Rattle.nearest.specs.declared.Chamber.{Chamber}
+use Rattle.nearest.specs.Nearest.{waitNo, chamberNo, nearestNo, nearFilterNo, standsAt, chamberFound, noPoint, nearAt, sixteen, nearestAt, nearestRefused, nearestAnswer, nearFiltered, waitedBy}
+use Rattle.nearest.proofs.ChamberLaws.{chamber-number, Placed, placed-facts}
+
+-- ---- the size
+
+pub size-10 : (k : ℕ) → not (leb 1 k && leb k 16) ≡ true → 10 ≡ sizeNo k
+unfolding sizeNo
+size-10 k e = rw (not-true (leb 1 k && leb k 16) e)
+
+pub size-0 : (k : ℕ) → not (leb 1 k && leb k 16) ≡ false → 0 ≡ sizeNo k
+unfolding sizeNo
+size-0 k e = rw (not-false (leb 1 k && leb k 16) e)
+
+pub size-most : (k j : ℕ) → j ≡ sizeNo k → j ≡ 0 → k ≤ 16
+unfolding sizeNo
+size-most k j e z = go (leb 1 k) (leb k 16) refl (sym e ∙ z)
+  where
+    go : (s t : Bool) → leb k 16 ≡ t → _≡_ {A = ℕ} (cond (s && t) 0 10) 0 → k ≤ 16
+    go true true u f = leb-true k 16 u
+    go true false u f = absurd (omega (arith, f))
+    go false t u f = absurd (omega (arith, f))
+
+-- ---- the pump houses, one by one
+
+pub near-is : (P : List ℤ) (q : Spot) (i : ℕ) (z : Spot) (id d : ℕ) → z ≡ spotOf P i → id ≡ idAt (pointsOf P) i → pos d ≡ size q z → record { id = id; distance = d } ≡ nearAt P q i
+unfolding nearAt distanceTo num
+near-is P q i z id d e f g =
+    let h : d ≡ num (size q (spotOf P i)) = ap num g ∙ ap (λ (x : Spot). num (size q x)) e in
+    λ t. record { id = f t; distance = h t }
+
+-- the first k of them are listed
+pub record Listing (f : ℕ → Near) (s : List ℕ) (found : List Near) (k : ℕ) : Type 0 where
+  pub most : k ≤ length s
+  pub is : found ≡ map f (take k s) ++ replicate (16 - k) noPoint
+
+module _ (f : ℕ → Near) (s : List ℕ) (few : length s ≤ 16) where
+  pub listing-start : Listing f s (replicate 16 noPoint) 0
+  listing-start = record { most = omega arith; is = refl }
+
+  map-more : (a : ℕ) (l : List ℕ) → map f (l ++ (a ∷ [])) ≡ map f l ++ (f a ∷ [])
+  map-more a [] = refl
+  map-more a (x ∷ l) = ap (λ (r : List Near). f x ∷ r) (map-more a l)
+
+  pub listing-step : (found : List Near) (k : ℕ) (v : Near) → k < length s → v ≡ f (getD s k 0) → Listing f s found k → Listing f s (set found k v) (k + 1)
+  listing-step found k v h e x =
+      let z : 16 - k ≡ suc (16 - (k + 1)) = omega arith in
+      let here : length (map f (take k s)) ≡ k = length-map (take k s) f ∙ length-take-le k s (omega arith) in
+      record {
+        most = omega arith;
+        is =
+            ap (λ (l : List Near). set l k v) (x .is ∙ ap (λ (i : ℕ). map f (take k s) ++ replicate i noPoint) z)
+            ∙ set-at (map f (take k s)) noPoint (replicate (16 - (k + 1)) noPoint) v k here
+            ∙ sym (append-assoc (map f (take k s)) (v ∷ []) (replicate (16 - (k + 1)) noPoint))
+            ∙ ap (λ (r : List Near). r ++ replicate (16 - (k + 1)) noPoint)
+            (ap (λ (a : Near). map f (take k s) ++ (a ∷ [])) e ∙ sym (map-more (getD s k 0) (take k s)) ∙ ap (map f) (sym (take-suc s k 0 h) ∙ ap (λ (i : ℕ). take i s) (sym (add-one k))));
+      }
+
+  pub listing-end : (found : List Near) (k : ℕ) → length s ≤ k → Listing f s found k → found ≡ sixteen f s
+  unfolding sixteen
+  listing-end found k h x =
+      let z : k ≡ length s = omega (arith, x .most) in
+      x .is ∙ ap (λ (i : ℕ). map f (take i s) ++ replicate (16 - i) noPoint) z ∙ ap (λ (l : List ℕ). map f l ++ replicate (16 - length s) noPoint) (take-all (length s) s (omega arith))
+
+-- what is read of the positions found
+pub padded-at : (s at : List ℕ) (k : ℕ) → at ≡ padded s → k < length s → getD at k 0 ≡ getD s k 0
+unfolding padded
+padded-at s at k e h = ap (λ (l : List ℕ). getD l k 0) e ∙ List·getD-append s (replicate (16 - length s) 0) 0 k h
+
+pub first-small : (w : List ℤ) (n m : ℕ) (q : Spot) → Opens w n m → (k i : ℕ) → i < length (take k (nearOrder w q)) → getD (take k (nearOrder w q)) i 0 < n
+first-small w n m q o k i h =
+    let l = nearOrder w q in
+    let a : i < k = omega (arith, length-take k l) in
+    let b : i < length l = omega (arith, length-take k l) in
+    rw (getD-take k l i 0 a) (omega (arith, order-small w q (own o) i b, o .n-is))
+
+pub first-few : (w : List ℤ) (q : Spot) (k : ℕ) → k ≤ 16 → length (take k (nearOrder w q)) ≤ 16
+first-few w q k h = omega (arith, length-take k (nearOrder w q))
+
+pub found-is : (P : List ℤ) (q : Spot) (k c : ℕ) (l : List Near) → c ≡ length (take k (nearOrder P q)) → l ≡ sixteen (nearAt P q) (take k (nearOrder P q)) → record { number = 0; count = c; points = l } ≡ nearestAt P q k
+unfolding nearestAt
+found-is P q k c l e f = λ t. record { number = 0; count = e t; points = f t }
+
+-- ---- nearest
+
+module _ (P Q : List ℤ) (id k : ℕ) (ws : List ℕ) where
+  abbrev no : ℕ
+  no = nearestNo P Q id k (length ws)
+
+  abbrev Answered : Found → List ℕ → Type 0
+  Answered r ws′ = (r ≡ nearestAnswer P Q id k (length ws)) × (ws′ ≡ waitedBy no P ws)
+
+  nearest-refused : (i : ℕ) → no ≡ i → (i ≡ 0 → ⊥) → (r : Found) → r ≡ nearestRefused i → Answered r ws
+  unfolding nearestAnswer waitedBy
+  nearest-refused i e ne r f = (f ∙ (rw (e, ne-eqb i 0 ne)), rw (e, ne-eqb i 0 ne))
+
+  module _ (c : Chamber) (e : c ≡ chamberFound P Q id) where
+    pub nearest-chamber : (c .number ≡ 0 → ⊥) → (r : Found) → r ≡ nearestRefused (c .number) → Answered r ws
+    unfolding nearestNo
+    nearest-chamber ne r f =
+        let n = chamber-number P Q id c e in
+        nearest-refused (c .number) (first-stops (chamberNo P Q id) _ (λ x. ne (n ∙ x)) ∙ sym n) ne r f
+
+    module _ (z : c .number ≡ 0) (j : ℕ) (g : j ≡ sizeNo k) where
+      at : Placed P Q id c
+      at = placed-facts P Q id c e z
+
+      pub nearest-size : (j ≡ 0 → ⊥) → (r : Found) → r ≡ nearestRefused j → Answered r ws
+      unfolding nearestNo
+      nearest-size ne r f = nearest-refused j (first-passes (chamberNo P Q id) _ (at .no) ∙ first-stops (sizeNo k) _ (λ x. ne (g ∙ x)) ∙ sym g) ne r f
+
+      module _ (y : j ≡ 0) where
+        passes : no ≡ waitNo P (length ws)
+        unfolding nearestNo
+        passes = first-passes (chamberNo P Q id) _ (at .no) ∙ first-passes (sizeNo k) _ (sym g ∙ y)
+
+        pub nearest-room : length ws < c .n + c .m → (r : Found) → r ≡ nearestRefused 25 → Answered r ws
+        unfolding waitNo
+        nearest-room h r f = nearest-refused 25 (passes ∙ (rw (lt-ltb (length ws) (points P + nodes P) (omega (arith, at .n-is, at .m-is))))) (λ x. omega arith) r f
+
+        pub nearest-given : c .n + c .m ≤ length ws → (r : Found) (q : Spot) (ws′ : List ℕ) → q ≡ c .at → r ≡ nearestAt P q k → ws′ ≡ wiped (c .n + c .m) ws → Answered r ws′
+        unfolding waitNo nearestAnswer waitedBy
+        nearest-given h r q ws′ i f d =
+            let v : no ≡ 0 = passes ∙ (rw (le-ltb (length ws) (points P + nodes P) (omega (arith, at .n-is, at .m-is)))) in
+            let s : c .n + c .m ≡ points P + nodes P = omega (arith, at .n-is, at .m-is) in
+            (f ∙ ap (λ (x : Spot). nearestAt P x k) (i ∙ at .at-is) ∙ (rw (eq-eqb no 0 v)), d ∙ ap (λ (x : ℕ). wiped x ws) s ∙ (rw (eq-eqb no 0 v)))
+
+-- ---- near_filter
+
+module _ (P Q : List ℤ) (id : ℕ) (ws : List ℕ) where
+  abbrev filter-no : ℕ
+  filter-no = nearFilterNo P Q id (length ws)
+
+  abbrev Filters : Filtered → List ℕ → Type 0
+  Filters r ws′ = (r ≡ nearFiltered P Q id (length ws)) × (ws′ ≡ waitedBy filter-no P ws)
+
+  filter-refused : (i : ℕ) → filter-no ≡ i → (i ≡ 0 → ⊥) → (r : Filtered) → r ≡ unfiltered i → Filters r ws
+  unfolding nearFiltered waitedBy
+  filter-refused i e ne r f = (f ∙ (rw (e, ne-eqb i 0 ne)), rw (e, ne-eqb i 0 ne))
+
+  module _ (c : Chamber) (e : c ≡ chamberFound P Q id) where
+    pub filter-chamber : (c .number ≡ 0 → ⊥) → (r : Filtered) → r ≡ unfiltered (c .number) → Filters r ws
+    unfolding nearFilterNo
+    filter-chamber ne r f =
+        let n = chamber-number P Q id c e in
+        filter-refused (c .number) (first-stops (chamberNo P Q id) _ (λ x. ne (n ∙ x)) ∙ sym n) ne r f
+
+    module _ (z : c .number ≡ 0) where
+      filter-at : Placed P Q id c
+      filter-at = placed-facts P Q id c e z
+
+      filter-passes : filter-no ≡ waitNo P (length ws)
+      unfolding nearFilterNo
+      filter-passes = first-passes (chamberNo P Q id) _ (filter-at .no)
+
+      pub filter-room : length ws < c .n + c .m → (r : Filtered) → r ≡ unfiltered 25 → Filters r ws
+      unfolding waitNo
+      filter-room h r f = filter-refused 25 (filter-passes ∙ (rw (lt-ltb (length ws) (points P + nodes P) (omega (arith, filter-at .n-is, filter-at .m-is))))) (λ x. omega arith) r f
+
+      pub filter-given : c .n + c .m ≤ length ws → (q : Spot) (b : List ℕ) (count opened : ℕ) (ws′ : List ℕ) → q ≡ c .at → b ≡ nearKept 16 P q .bits → opened ≡ nearKept 16 P q .opened → count ≡ card b → ws′ ≡ wiped (c .n + c .m) ws → Filters (record { number = 0; bits = b; count = count; opened = opened }) ws′
+      unfolding waitNo nearFiltered waitedBy filteredTo
+      filter-given h q b count opened ws′ i eb eo ec d =
+          let v : filter-no ≡ 0 = filter-passes ∙ (rw (le-ltb (length ws) (points P + nodes P) (omega (arith, filter-at .n-is, filter-at .m-is)))) in
+          let s : c .n + c .m ≡ points P + nodes P = omega (arith, filter-at .n-is, filter-at .m-is) in
+          let k : nearKept 16 P q ≡ nearKept 16 P (standsAt Q id) = ap (nearKept 16 P) (i ∙ filter-at .at-is) in
+          let x : b ≡ nearKept 16 P (standsAt Q id) .bits = eb ∙ ap (λ (f : Kept). f .bits) k in
+          let y : opened ≡ nearKept 16 P (standsAt Q id) .opened = eo ∙ ap (λ (f : Kept). f .opened) k in
+          let u : count ≡ card (nearKept 16 P (standsAt Q id) .bits) = ec ∙ ap card x in
+          ((λ t. record { number = 0; bits = x t; count = u t; opened = y t }) ∙ (rw (eq-eqb filter-no 0 v)), d ∙ ap (λ (a : ℕ). wiped a ws) s ∙ (rw (eq-eqb filter-no 0 v)))

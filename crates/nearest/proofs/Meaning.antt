@@ -1,0 +1,180 @@
+-- What the answers of the calls mean, from their promises alone.
+--
+--     nearest-no, near-filter-no      the number is the first that applies
+--     nearest-refused, near-filter-refused, waited-refused      refused, all else is zero, and what was lent is as it was
+--     nearest-served, near-filter-served      sheets that open, the id of a chamber, a size from 1 to 16 and enough numbers lent are served
+--     chamber-is      the chamber with an id
+--     nearest-count, nearest-at, nearest-unused     the pump houses given are the first of the order in which the walk comes to them, which near's Meaning speaks of
+--     near-pairs      a ring partner of the chamber is a kept position whose ring walk is clear, and no other
+--     nearest-once, near-filter-once      one input, one answer, one final state
+-- Assumes nothing.
+use mathlib.Core.Path.{_≡_, refl, sym, ap, subst, _∙_}
+use mathlib.Core.Bool.{Bool, true, false, cond, _&&_}
+use mathlib.Core.List.{List, [], _∷_, map}
+use Prim.Native.Nat.{ℕ, zero, suc, min, _+_, _-_, _*_, _≤_, _<_}
+use native.Mathlib.Omega.{arith}
+use lib.Dec.{eqb, ltb, leb}
+use lib.IntN.{ℤ}
+use lib.ListN.{length, getD, take, drop, replicate, length-map, length-take, List·getD-append}
+use lib.Seq.{drop-at, getD-take}
+use borrow.Author.Tests.{eq-eqb, ne-eqb, eqb-true, lt-ltb, le-ltb, le-leb}
+use Rattle.words.specs.All.{firstB}
+use Rattle.words.proofs.AllLaws.{first-in, first-hit}
+use Rattle.plane.specs.declared.Spot.{Spot}
+use Rattle.plane.specs.Point.{idAt}
+use Rattle.sheet.specs.Layout.{points, nodes}
+use Rattle.sheet.specs.Places.{spotOf, pointsOf}
+use Rattle.sheet.specs.Open.{Opens}
+use Rattle.sheet.proofs.PointsLaws.{length-points}
+use Rattle.list.specs.RingList.{ringPair}
+use Rattle.list.proofs.RowLaws.{by-id}
+use Rattle.join.proofs.Meaning.{points-rise}
+use Rattle.bits.specs.Set.{kept, card}
+use Rattle.walk.specs.RingWalk.{clear, pairWalk}
+use Rattle.near.specs.NearWalk.{nearOrder, nearKept}
+use Rattle.near.specs.Room.{wiped}
+use Rattle.near.proofs.Meaning.{near-all, near-exact}
+use Rattle.ring.specs.declared.Filtered.{Filtered}
+use Rattle.ring.specs.Numbers.{first, sheetsNo}
+use Rattle.ring.specs.Page.{sizeNo}
+use Rattle.ring.specs.Answers.{filteredTo, unfiltered}
+use Rattle.ring.proofs.NumberLaws.{first-passes}
+use Rattle.nearest.specs.declared.Near.{Near}
+use Rattle.nearest.specs.declared.Found.{Found}
+use Rattle.nearest.specs.Nearest.{waitNo, chamberNo, nearestNo, nearFilterNo, standsAt, noPoint, nearAt, sixteen, nearestAt, nearestRefused, nearestAnswer, nearFiltered, waitedBy}
+use Rattle.ring.specs.Partners.{chamberOf, idNo}
+use Rattle.nearest.proofs.ChamberLaws.{has}
+
+-- ---- by number
+
+-- what was lent, by the number of the call
+pub waited-refused : (k : ℕ) (P : List ℤ) (ws : List ℕ) → (k ≡ 0 → ⊥) → waitedBy k P ws ≡ ws
+unfolding waitedBy
+waited-refused k P ws ne = rw (ne-eqb k 0 ne)
+
+pub waited-given : (k : ℕ) (P : List ℤ) (ws : List ℕ) → k ≡ 0 → waitedBy k P ws ≡ wiped (points P + nodes P) ws
+unfolding waitedBy
+waited-given k P ws e = rw (eq-eqb k 0 e)
+
+module _ (P Q : List ℤ) (id k len : ℕ) where
+  pub nearest-refused : (i : ℕ) → nearestNo P Q id k len ≡ i → (i ≡ 0 → ⊥) → nearestAnswer P Q id k len ≡ nearestRefused i
+  unfolding nearestAnswer
+  nearest-refused i e ne = rw (e, ne-eqb i 0 ne)
+
+  pub nearest-given : nearestNo P Q id k len ≡ 0 → nearestAnswer P Q id k len ≡ nearestAt P (standsAt Q id) k
+  unfolding nearestAnswer
+  nearest-given e = rw (eq-eqb (nearestNo P Q id k len) 0 e)
+
+  pub nearest-no : nearestAnswer P Q id k len .number ≡ nearestNo P Q id k len
+  unfolding nearestAnswer nearestAt nearestRefused
+  nearest-no = go (eqb (nearestNo P Q id k len) 0) refl
+    where
+      go : (t : Bool) → eqb (nearestNo P Q id k len) 0 ≡ t → cond t (nearestAt P (standsAt Q id) k) (nearestRefused (nearestNo P Q id k len)) .number ≡ nearestNo P Q id k len
+      go true e = sym (eqb-true (nearestNo P Q id k len) 0 e)
+      go false e = refl
+
+module _ (P Q : List ℤ) (id len : ℕ) where
+  pub near-filter-refused : (i : ℕ) → nearFilterNo P Q id len ≡ i → (i ≡ 0 → ⊥) → nearFiltered P Q id len ≡ unfiltered i
+  unfolding nearFiltered
+  near-filter-refused i e ne = rw (e, ne-eqb i 0 ne)
+
+  pub near-filter-given : nearFilterNo P Q id len ≡ 0 → nearFiltered P Q id len ≡ filteredTo (nearKept 16 P (standsAt Q id))
+  unfolding nearFiltered
+  near-filter-given e = rw (eq-eqb (nearFilterNo P Q id len) 0 e)
+
+  pub near-filter-no : nearFiltered P Q id len .number ≡ nearFilterNo P Q id len
+  unfolding nearFiltered filteredTo unfiltered
+  near-filter-no = go (eqb (nearFilterNo P Q id len) 0) refl
+    where
+      go : (t : Bool) → eqb (nearFilterNo P Q id len) 0 ≡ t → cond t (filteredTo (nearKept 16 P (standsAt Q id))) (unfiltered (nearFilterNo P Q id len)) .number ≡ nearFilterNo P Q id len
+      go true e = sym (eqb-true (nearFilterNo P Q id len) 0 e)
+      go false e = refl
+
+-- ---- what is served
+
+size-in : (k : ℕ) → 1 ≤ k → k ≤ 16 → sizeNo k ≡ 0
+unfolding sizeNo
+size-in k some most = rw (le-leb 1 k some, le-leb k 16 most)
+
+module _ (P Q : List ℤ) (id len : ℕ) (opens : sheetsNo P Q ≡ 0) (j : ℕ) (j-in : j < points Q) (named : idAt (pointsOf Q) j ≡ id) (room : points P + nodes P ≤ len) where
+  known : idNo (pointsOf Q) id ≡ 0
+  unfolding idNo chamberOf
+  known = rw (lt-ltb (firstB (length (pointsOf Q)) (has Q id)) (length (pointsOf Q)) (first-in (has Q id) (length (pointsOf Q)) j (omega (arith, length-points Q)) (eq-eqb (idAt (pointsOf Q) j) id named)))
+
+  enough : waitNo P len ≡ 0
+  unfolding waitNo
+  enough = rw (le-ltb len (points P + nodes P) room)
+
+  chamber : chamberNo P Q id ≡ 0
+  unfolding chamberNo
+  chamber = first-passes (sheetsNo P Q) (idNo (pointsOf Q) id) opens ∙ known
+
+  pub near-filter-served : nearFilterNo P Q id len ≡ 0
+  unfolding nearFilterNo
+  near-filter-served = first-passes (chamberNo P Q id) (waitNo P len) chamber ∙ enough
+
+  pub nearest-served : (k : ℕ) → 1 ≤ k → k ≤ 16 → nearestNo P Q id k len ≡ 0
+  unfolding nearestNo
+  nearest-served k some most = first-passes (chamberNo P Q id) _ chamber ∙ first-passes (sizeNo k) (waitNo P len) (size-in k some most) ∙ enough
+
+-- ---- the chamber
+
+-- ids ascend, so one chamber has the id
+pub chamber-is : (Q : List ℤ) → Opens Q (points Q) (nodes Q) → (id j : ℕ) → j < points Q → idAt (pointsOf Q) j ≡ id → chamberOf (pointsOf Q) id ≡ j
+unfolding chamberOf
+chamber-is Q o id j h e =
+    let n = length (pointsOf Q) in
+    let j-in : j < n = omega (arith, length-points Q) in
+    let low : firstB n (has Q id) < n = first-in (has Q id) n j j-in (eq-eqb (idAt (pointsOf Q) j) id e) in
+    let hit : idAt (pointsOf Q) (firstB n (has Q id)) ≡ id = eqb-true _ id (first-hit (has Q id) n low) in
+    by-id (idAt (pointsOf Q)) n (points-rise o) (firstB n (has Q id)) j low j-in (hit ∙ sym e)
+
+pub stands-is : (Q : List ℤ) → Opens Q (points Q) (nodes Q) → (id j : ℕ) → j < points Q → idAt (pointsOf Q) j ≡ id → standsAt Q id ≡ spotOf Q j
+unfolding standsAt
+stands-is Q o id j h e = ap (spotOf Q) (chamber-is Q o id j h e)
+
+-- ---- the pump houses
+
+mapped : (f : ℕ → Near) (l : List ℕ) (a : ℕ) → a < length l → getD (map f l) a noPoint ≡ f (getD l a 0)
+mapped f [] a h = absurd (omega arith)
+mapped f (x ∷ l) zero h = refl
+mapped f (x ∷ l) (suc a) h = mapped f l a (omega arith)
+
+module _ (P : List ℤ) (q : Spot) (k : ℕ) where
+  pub nearest-count : Opens P (points P) (nodes P) → nearestAt P q k .count ≡ min k (points P)
+  unfolding nearestAt
+  nearest-count o = length-take k (nearOrder P q) ∙ ap (min k) (near-all P q o)
+
+  -- pump house a of the answer is the one at the position that stands there in the order of the walk
+  pub nearest-at : (a : ℕ) → a < nearestAt P q k .count → getD (nearestAt P q k .points) a noPoint ≡ nearAt P q (getD (nearOrder P q) a 0)
+  unfolding nearestAt sixteen
+  nearest-at a h =
+      let l = take k (nearOrder P q) in
+      let b : a < length (map (nearAt P q) l) = omega (arith, length-map l (nearAt P q)) in
+      let c : a < k = omega (arith, length-take k (nearOrder P q)) in
+      List·getD-append (map (nearAt P q) l) (replicate (16 - length l) noPoint) noPoint a b ∙ mapped (nearAt P q) l a h ∙ ap (nearAt P q) (getD-take k (nearOrder P q) a 0 c)
+
+  -- the rest are zeros
+  pub nearest-unused : drop (nearestAt P q k .count) (nearestAt P q k .points) ≡ replicate (16 - nearestAt P q k .count) noPoint
+  unfolding nearestAt sixteen
+  nearest-unused = drop-at (map (nearAt P q) (take k (nearOrder P q))) _ (length (take k (nearOrder P q))) (length-map (take k (nearOrder P q)) (nearAt P q))
+
+-- ---- the filter
+
+-- "Pairs made with its kept set equal the list"
+pub near-pairs : (P Q : List ℤ) → Opens P (points P) (nodes P) → Opens Q (points Q) (nodes Q) → points P ≤ 64 * 16 → (j i : ℕ) → j < points Q → i < points P
+    → ringPair (pointsOf P) (pointsOf Q) j i ≡ (kept (filteredTo (nearKept 16 P (spotOf Q j)) .bits) i && clear (pairWalk P Q j i .hit))
+unfolding filteredTo
+near-pairs P Q p-opens q-opens fits j i j-in i-in = near-exact 16 P Q p-opens fits j i j-in i-in q-opens
+
+-- ---- one input, one answer, one final state
+
+pub nearest-once : (P Q : List ℤ) (id k : ℕ) (ws : List ℕ) (r r′ : Found) (t t′ : List ℕ)
+    → (r ≡ nearestAnswer P Q id k (length ws)) × (t ≡ waitedBy (nearestNo P Q id k (length ws)) P ws) → (r′ ≡ nearestAnswer P Q id k (length ws)) × (t′ ≡ waitedBy (nearestNo P Q id k (length ws)) P ws)
+    → (r ≡ r′) × (t ≡ t′)
+nearest-once P Q id k ws r r′ t t′ a b = (a .0 ∙ sym (b .0), a .1 ∙ sym (b .1))
+
+pub near-filter-once : (P Q : List ℤ) (id : ℕ) (ws : List ℕ) (r r′ : Filtered) (t t′ : List ℕ)
+    → (r ≡ nearFiltered P Q id (length ws)) × (t ≡ waitedBy (nearFilterNo P Q id (length ws)) P ws) → (r′ ≡ nearFiltered P Q id (length ws)) × (t′ ≡ waitedBy (nearFilterNo P Q id (length ws)) P ws)
+    → (r ≡ r′) × (t ≡ t′)
+near-filter-once P Q id ws r r′ t t′ a b = (a .0 ∙ sym (b .0), a .1 ∙ sym (b .1))

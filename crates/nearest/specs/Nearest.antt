@@ -1,0 +1,92 @@
+-- Nearest first, for a single chamber: the numbers of the calls, their answers, and the lent numbers after them.
+-- "Give the pump houses one after another in that order, up to a size of 16. Then use the same walk as a second filter [..]. Waiting boxes and points stand in a lent slice of at
+-- least n + m entries, the first n + m zero after an answer, the rest untouched. Refusals: 20, 10 (the filter has no size), then 25 slice shorter than that."
+use mathlib.Core.Bool.{cond}
+use mathlib.Core.List.{List, _++_, map}
+use Prim.Native.Nat.{ℕ, _+_, _-_}
+use lib.Dec.{eqb, ltb}
+use lib.IntN.{ℤ, pos}
+use lib.ListN.{length, take, replicate}
+use Rattle.plane.specs.declared.Spot.{Spot}
+use Rattle.plane.specs.Rule.{spot}
+use Rattle.plane.specs.Point.{idAt}
+use Rattle.sheet.specs.Layout.{points, nodes}
+use Rattle.sheet.specs.Places.{spotOf, pointsOf}
+use Rattle.near.specs.NearWalk.{nearOrder, nearKept}
+use Rattle.near.specs.Room.{wiped}
+use Rattle.near.specs.Claims.{distanceTo}
+use Rattle.ring.specs.declared.Filtered.{Filtered}
+use Rattle.ring.specs.Numbers.{first, sheetsNo}
+use Rattle.ring.specs.Page.{sizeNo}
+use Rattle.ring.specs.Partners.{chamberOf, idNo}
+use Rattle.ring.specs.Answers.{filteredTo, unfiltered}
+use Rattle.nearest.specs.declared.Near.{Near}
+use Rattle.nearest.specs.declared.Found.{Found}
+use Rattle.nearest.specs.declared.Chamber.{Chamber}
+
+-- ---- numbers
+
+-- "25 slice shorter than that": fewer numbers are lent than P has points and nodes
+unfoldable pub waitNo : List ℤ → ℕ → ℕ
+waitNo P len = cond (ltb len (points P + nodes P)) 25 0
+
+-- the sheets' numbers, P's first, then 20
+unfoldable pub chamberNo : List ℤ → List ℤ → ℕ → ℕ
+chamberNo P Q id = first (sheetsNo P Q) (idNo (pointsOf Q) id)
+
+-- then 10 for the size, then 25
+unfoldable pub nearestNo : List ℤ → List ℤ → ℕ → ℕ → ℕ → ℕ
+nearestNo P Q id size len = first (chamberNo P Q id) (first (sizeNo size) (waitNo P len))
+
+-- "the filter has no size"
+unfoldable pub nearFilterNo : List ℤ → List ℤ → ℕ → ℕ → ℕ
+nearFilterNo P Q id len = first (chamberNo P Q id) (waitNo P len)
+
+-- ---- answers
+
+-- where the chamber with this id stands
+unfoldable pub standsAt : List ℤ → ℕ → Spot
+standsAt Q id = spotOf Q (chamberOf (pointsOf Q) id)
+
+unfoldable pub unplacedAt : ℕ → Chamber
+unplacedAt k = record { number = k; n = 0; m = 0; at = spot (pos 0) (pos 0) }
+
+-- what is found of two sheets and an id: 0, the points and nodes of P and where the chamber stands; or the number and zeros
+unfoldable pub chamberFound : List ℤ → List ℤ → ℕ → Chamber
+chamberFound P Q id =
+    cond (eqb (chamberNo P Q id) 0) (record { number = 0; n = points P; m = nodes P; at = standsAt Q id })
+    (unplacedAt (chamberNo P Q id))
+
+abbrev pub noPoint : Near
+noPoint = record { id = 0; distance = 0 }
+
+-- the pump house at position i of P: its id and its squared distance to q
+unfoldable pub nearAt : List ℤ → Spot → ℕ → Near
+nearAt P q i = record { id = idAt (pointsOf P) i; distance = distanceTo P q i }
+
+-- sixteen of them: those at the positions of a list, and then zeros
+unfoldable pub sixteen : (ℕ → Near) → List ℕ → List Near
+sixteen f l = map f l ++ replicate (16 - length l) noPoint
+
+-- the first `size` pump houses of P for the place q, fewer if P has fewer, and their number
+unfoldable pub nearestAt : List ℤ → Spot → ℕ → Found
+nearestAt P q size =
+    record { number = 0; count = length (take size (nearOrder P q)); points = sixteen (nearAt P q) (take size (nearOrder P q)) }
+
+-- refused, the number and zeros
+unfoldable pub nearestRefused : ℕ → Found
+nearestRefused k = record { number = k; count = 0; points = replicate 16 noPoint }
+
+-- the answer by its number: 0 is the pump houses, any other is the refusal of that number
+unfoldable pub nearestAnswer : List ℤ → List ℤ → ℕ → ℕ → ℕ → Found
+nearestAnswer P Q id size len =
+    cond (eqb (nearestNo P Q id size len) 0) (nearestAt P (standsAt Q id) size) (nearestRefused (nearestNo P Q id size len))
+
+-- the kept set on sixteen words, the number of bits set and the nodes opened; or the refusal
+unfoldable pub nearFiltered : List ℤ → List ℤ → ℕ → ℕ → Filtered
+nearFiltered P Q id len =
+    cond (eqb (nearFilterNo P Q id len) 0) (filteredTo (nearKept 16 P (standsAt Q id))) (unfiltered (nearFilterNo P Q id len))
+
+-- ---- the lent numbers after a call by its number: "the first n + m zero after an answer, the rest untouched"; a refusal "leaves lent memory [..] as they stood"
+unfoldable pub waitedBy : ℕ → List ℤ → List ℕ → List ℕ
+waitedBy k P ws = cond (eqb k 0) (wiped (points P + nodes P) ws) ws

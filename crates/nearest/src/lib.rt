@@ -1,0 +1,201 @@
+// Nearest first: the calls for a single chamber, on plain slices. Every input is answered, and a refusal gives only its number.
+// What waits in the walk stands in numbers that the caller lends: as many as P has points and nodes, or more.
+use plane::Spot;
+use ring::Filtered;
+ghost use mathlib.Core.Path.{_≡_};
+ghost use Prim.Native.Nat.{ℕ, _+_, _≤_, _<_};
+ghost use lib.ListN.{length};
+ghost use Rattle.plane.specs.Rule.{SpotIn};
+ghost use Rattle.sheet.specs.Open.{Opens};
+ghost use Rattle.sheet.specs.Places.{pointsOf};
+ghost use Rattle.near.specs.Room.{wiped};
+ghost use Rattle.near.specs.NearWalk.{nearKept};
+ghost use Rattle.ring.specs.Answers.{unfiltered, filteredTo};
+ghost use Rattle.ring.specs.Page.{sizeNo};
+ghost use Rattle.nearest.specs.Nearest.{waitNo, nearestNo, nearFilterNo, unplacedAt, chamberFound, nearAt, nearestAt, nearestRefused, nearestAnswer, nearFiltered, waitedBy};
+ghost use Rattle.ring.specs.Partners.{chamberOf};
+
+// A pump house: its id and its squared distance to the chamber.
+#[repr(C)]
+pub struct Near {
+    pub id: u32,
+    pub distance: u64,
+}
+
+// What `nearest` answers: 0, how many pump houses there are and these, the nearest first, the rest zeros; or the number of refusal and zeros.
+#[repr(C)]
+pub struct Found {
+    pub number: u32,
+    pub count: usize,
+    pub points: [Near; 16],
+}
+
+// What is found of two sheets and the id of a chamber: 0, the points and nodes of P and where the chamber stands; or the number of refusal and zeros.
+struct Chamber {
+    number: u32,
+    n: usize,
+    m: usize,
+    at: Spot,
+}
+
+// A refused answer: its number, and zeros.
+fn refused(number: u32) -> Found
+    ensures { λ r. ⌜ r ≡ nearestRefused number ⌝ }
+{
+    Found {
+        number: number,
+        count: 0,
+        points: [Near { id: 0, distance: 0 }; 16],
+    }
+}
+
+// The same of the filter.
+fn unkept(number: u32) -> Filtered
+    ensures { λ r. ⌜ r ≡ unfiltered number ⌝ }
+{
+    Filtered {
+        number: number,
+        bits: [0u64; 16],
+        count: 0,
+        opened: 0,
+    }
+}
+
+// The same of the chamber.
+fn unplaced(number: u32) -> Chamber
+    ensures { λ r. ⌜ r ≡ unplacedAt number ⌝ }
+{
+    Chamber {
+        number: number,
+        n: 0,
+        m: 0,
+        at: Spot { x: 0, y: 0 },
+    }
+}
+
+// The position of the chamber with this id, or nq where none has it.
+fn chamber_of(q: &[i32], nq: usize, mq: usize, id: u32) -> usize
+    requires { ⌜ Opens (now q) nq mq ⌝ }
+    ensures { λ r. ⌜ r ≡ chamberOf (pointsOf (now (q .entry))) id ⌝ }
+{
+    let mut j = 0;
+    while j < nq {
+        if sheet::reads::id_at(q, nq, mq, j) == id {
+            return j;
+        }
+        j += 1;
+    }
+    j
+}
+
+// Both sheets and the id: refused by 1 to 8 of P, then of Q, then by 20 where no chamber has the id.
+fn placed(p: &[i32], q: &[i32], id: u32) -> Chamber
+    ensures { λ r. ⌜ r ≡ chamberFound (now (p .entry)) (now (q .entry)) id ⌝ }
+{
+    let a = ring::open::head_of(p);
+    if a.number != 0 {
+        return unplaced(a.number);
+    }
+    let b = ring::open::head_of(q);
+    if b.number != 0 {
+        return unplaced(b.number);
+    }
+    let j = chamber_of(q, b.n, b.m, id);
+    if b.n <= j {
+        return unplaced(20);
+    }
+    Chamber {
+        number: 0,
+        n: a.n,
+        m: a.m,
+        at: sheet::reads::spot_at(q, b.n, b.m, j),
+    }
+}
+
+// 10 where the size is not 1 to 16, else 0.
+fn size_no(size: usize) -> u32
+    ensures { λ r. ⌜ r ≡ sizeNo size ⌝ }
+{
+    if !((1 <= size) & (size <= 16)) {
+        return 10;
+    }
+    0
+}
+
+// The pump house at position i: its id and its squared distance to q.
+fn near_at(p: &[i32], n: usize, m: usize, q: Spot, i: usize) -> Near
+    requires { ⌜ Opens (now p) n m × SpotIn q × (i < n) ⌝ }
+    ensures { λ r. ⌜ r ≡ nearAt (now (p .entry)) q i ⌝ }
+{
+    let at = sheet::reads::spot_at(p, n, m, i);
+    Near {
+        id: sheet::reads::id_at(p, n, m, i),
+        distance: plane::diameter(q, at),
+    }
+}
+
+// The first `size` pump houses for the place q.
+fn given(p: &[i32], n: usize, m: usize, q: Spot, size: usize, waiting: &mut [u64]) -> Found
+    requires { ⌜ Opens (now p) n m × SpotIn q × (size ≤ 16) × (n + m ≤ length (now waiting)) ⌝ }
+    ensures { λ r. ⌜ (r ≡ nearestAt (now (p .entry)) q size) × (now (waiting .exit) ≡ wiped (n + m) (now (waiting .entry))) ⌝ }
+{
+    let f = near::order::first_points(p, n, m, q, size, waiting);
+    let count = f.count;
+    let mut points = [Near { id: 0, distance: 0 }; 16];
+    let mut k = 0;
+    while k < count {
+        let i = f.at[k];
+        points[k] = near_at(p, n, m, q, i);
+        k += 1;
+    }
+    Found {
+        number: 0,
+        count: count,
+        points: points,
+    }
+}
+
+// The pump houses of P, the nearest to the chamber with this id first, at most `size`; on a tie that at the lower position, so of the lower id.
+// The first n + m lent numbers are 0 after an answer, and the rest as they were.
+// Refused by 1 to 8 of P, then of Q, then by 20 where no chamber has the id, then by 10 for the size, then by 25 where fewer numbers are lent than P has points and nodes;
+// no lent number is touched then.
+pub fn nearest(p: &[i32], q: &[i32], id: u32, size: usize, waiting: &mut [u64]) -> Found
+    ensures { λ r. ⌜ (r ≡ nearestAnswer (now (p .entry)) (now (q .entry)) id size (length (now (waiting .entry)))) × (now (waiting .exit) ≡ waitedBy (nearestNo (now (p .entry)) (now (q .entry)) id size (length (now (waiting .entry)))) (now (p .entry)) (now (waiting .entry))) ⌝ }
+{
+    let c = placed(p, q, id);
+    if c.number != 0 {
+        return refused(c.number);
+    }
+    let no = size_no(size);
+    if no != 0 {
+        return refused(no);
+    }
+    if waiting.len() < c.n + c.m {
+        return refused(25);
+    }
+    let at = c.at;
+    given(p, c.n, c.m, at, size, waiting)
+}
+
+// The filter walk for the chamber with this id over P that goes nearest first: the positions of P that may be ring partners.
+// The lent numbers as `nearest` leaves them. Refused as it is, but for the size.
+pub fn near_filter(p: &[i32], q: &[i32], id: u32, waiting: &mut [u64]) -> Filtered
+    ensures { λ r. ⌜ (r ≡ nearFiltered (now (p .entry)) (now (q .entry)) id (length (now (waiting .entry)))) × (now (waiting .exit) ≡ waitedBy (nearFilterNo (now (p .entry)) (now (q .entry)) id (length (now (waiting .entry)))) (now (p .entry)) (now (waiting .entry))) ⌝ }
+{
+    let c = placed(p, q, id);
+    if c.number != 0 {
+        return unkept(c.number);
+    }
+    if waiting.len() < c.n + c.m {
+        return unkept(25);
+    }
+    let at = c.at;
+    let mut kept = [0u64; 16];
+    let opened = near::filter::near_kept(p, c.n, c.m, at, &mut kept, waiting);
+    Filtered {
+        number: 0,
+        bits: kept,
+        count: bits::len(&kept),
+        opened: opened,
+    }
+}
