@@ -46,11 +46,12 @@ typedef struct RingPair {
 } RingPair;
 
 /* What list a page or a book is of: the editions of both sheets, and the threshold: the list of all pairs where it is 0, and otherwise of the pairs of those
- * chambers that have at least so many. */
+ * chambers that have at least so many. And the kind: `own` is set for the self join of one sheet, whose edition then stands twice, with the threshold 0. */
 typedef struct RingSource {
     uint32_t p_edition;
     uint32_t q_edition;
     uint32_t threshold;
+    bool own;
 } RingSource;
 
 /* One page of a list. Of `pairs` the first `count` are used, the others are three zeros. `end` is set exactly when no pair follows the last one shown, or
@@ -223,6 +224,13 @@ RingWalked ring_pair_walk(const int32_t *p, size_t p_len, const int32_t *q, size
  * Refused  1 to 8 for P, then 1 to 8 for Q, then 9 where an id of the key is over 2,000,000,000, then 10 where the size is not 1 to 16, then 21. */
 RingPaged ring_page(const int32_t *p, size_t p_len, const int32_t *q, size_t q_len, RingKey key, size_t size, uint32_t threshold);
 
+/* The self join of one sheet: the first `size` pairs strictly after a key. Its list has two different records of the sheet exactly if no other record of it blocks
+ * them, each pair once, by the lower id, then the higher: in a pair q is the lower id, p the higher.
+ * Input    the sheet, a key and a size 1 to 16. The words are only read.
+ * Answer   the page: the edition twice, the threshold 0, the kind, the key, the pairs in the list's order, their number, the end mark; and the nodes opened.
+ * Refused  1 to 8, then 9 where an id of the key is over 2,000,000,000, then 10 where the size is not 1 to 16. */
+RingPaged ring_own_page(const int32_t *words, size_t words_len, RingKey key, size_t size);
+
 /* Whether the chamber with this id has at least t ring partners.
  * Input    both sheets, the id of a chamber, and a t from 1 to 1,000. The words are only read.
  * Answer   the smaller of t and the number of its pairs in the list, and whether that is t.
@@ -247,8 +255,8 @@ RingFound ring_nearest(const int32_t *p, size_t p_len, const int32_t *q, size_t 
  * Input, lent numbers and refusals as of ring_nearest, but for the size. Answer as of ring_filter_walk. */
 RingFiltered ring_near_filter(const int32_t *p, size_t p_len, const int32_t *q, size_t q_len, uint32_t id, uint64_t *waiting, size_t waiting_len);
 
-/* Begins a book of the list of two editions and a threshold: nothing held, open.
- * Input    two editions, each 1 to 1,000,000,000, and a threshold 0 to 1,000.
+/* Begins a book of the list of two editions and a threshold, or of a self join: nothing held, open.
+ * Input    two editions, each 1 to 1,000,000,000, and a threshold 0 to 1,000; for a self join one edition in both fields, and the threshold 0.
  * Answer   the book. A book begun again starts from nothing.
  * Refused  3, then 21. */
 RingBegun ring_book_begin(RingSource source);
@@ -263,8 +271,8 @@ RingNext ring_book_next_key(RingBook book, const RingPair *slots, size_t slots_l
  * order: one that is not the next is refused and changes nothing.
  * Input    the book, its slots, and a page.
  * Answer   0 and the book from now on. Slots that were held before, and slots past those held after, are not written.
- * Refused  11 the book holds more than there are slots; 12 it is closed; 13 the page is of other editions; 31 it is of another threshold; 14 its key is not the
- *          book's next key;
+ * Refused  11 the book holds more than there are slots; 12 it is closed; 22 the page is of the other kind; 13 it is of other editions; 31 it is of another
+ *          threshold; 14 its key is not the book's next key;
  *          15 it has over 16 pairs, an id outside 1 to 2,000,000,000, a size over 8,000,000,000,000, pairs not ascending strictly after the key, or no pair
  *          and no end mark;
  *          16 it has more pairs than slots are left. In this order, and no slot is written. */
@@ -286,7 +294,7 @@ RingRun ring_leaf_run(const int32_t *p, size_t p_len, const int32_t *q, size_t q
  * The numbers of refusal
  *    1  under 6 words
  *    2  form number not 1
- *    3  n, m or edition out of range
+ *    3  n, m or edition out of range; a self join of two editions
  *    4  span, root word or length wrong
  *    5  an id or coordinate breaks its rule
  *    6  order (and rank) not as stated
@@ -304,7 +312,8 @@ RingRun ring_leaf_run(const int32_t *p, size_t p_len, const int32_t *q, size_t q
  *   18  point words not 3n, or order list not n long
  *   19  no such leaf
  *   20  unknown q id
- *   21  threshold outside 0 to 1,000, or 0 in ring_partners
+ *   21  threshold outside 0 to 1,000, or 0 in ring_partners, or above 0 for a self join
+ *   22  page of the other kind
  *   31  page of another threshold
  */
 

@@ -76,6 +76,18 @@ def nearest_are_listed(p_words, q_words):
     assert bool(couples) == bool(reading.ring_list(p.points, q.points))
 
 
+def self_join_is_its_list(words):
+    """The self join is one way of the pairs that one sheet used as both gives, without those of a record with itself: passing over q changes the bit of q alone,
+    and every pair of it is kept."""
+    sheet = reading.Sheet(words)
+    listed = reading.self_list(sheet.points)
+    assert listed == [pair for pair in reading.ring_list(sheet.points, sheet.points) if pair[0] < pair[1]]
+    for j in range(sheet.n):
+        kept, opened = reading.filter_walk(sheet, sheet.place(j))
+        assert reading.self_filter(sheet, j) == ([i for i in kept if i != j], opened) and j in kept
+    assert reading.self_opened(sheet, (0, 0), len(listed))[1] == listed
+
+
 def runs_are_the_list(p_words, q_words):
     """The runs of all leaves together are the list, each pair once; a pair that a run's walks find is of its list, and the other way round. Answers the run
     of each node that is a leaf."""
@@ -112,15 +124,22 @@ def taken(rules, pairs, count, unused):
     return number, book.held, slots[:2]
 
 
-def begun(rules, editions, t):
+def begun(rules, editions, t, own=False):
     """The number of begin."""
-    return rules.begin(editions, t)[0]
+    return rules.begin(editions, t, own)[0]
 
 
-def taken_of(rules, editions, t, key):
+def taken_of(rules, editions, t, key, own=False):
     """The number by which an empty book of editions (3, 4) and t 2 takes a page of others."""
     _, book = rules.begin((3, 4), 2)
-    return rules.take(book, [(9, 9, 9)] * 3, rules.Page(editions, key, [(5, 1, 4)], True, t))
+    return rules.take(book, [(9, 9, 9)] * 3, rules.Page(editions, key, [(5, 1, 4)], True, t, own))
+
+
+def taken_alone(rules, editions, own, closed):
+    """The number by which a book of a self join, open or closed, takes a page."""
+    _, book = rules.begin((3, 3), 0, True)
+    book.closed = closed
+    return rules.take(book, [(9, 9, 9)] * 3, rules.Page(editions, (0, 0), [(1, 5, 4)], True, 0, own))
 
 
 def book():
@@ -133,6 +152,9 @@ def book():
     asked += [(taken, [(5, 2, 4), (5, other, 4)], 2, []) for other in (1, 2, 3)]
     asked += [(begun, editions, t) for editions in ((3, 4), (0, 4), (3, reading.EDITION + 1)) for t in (0, 1, reading.THRESHOLD, reading.THRESHOLD + 1, 2 ** 32 - 1)]
     asked += [(taken_of, editions, t, key) for editions in ((3, 4), (3, 5), (4, 3)) for t in (0, 1, 2, 3) for key in ((0, 0), (5, 0))]
+    asked += [(begun, editions, t, True) for editions in ((3, 3), (3, 4), (4, 3), (0, 0), (0, 3), (reading.EDITION + 1,) * 2) for t in (0, 1, reading.THRESHOLD, reading.THRESHOLD + 1)]
+    asked += [(taken_of, editions, t, key, True) for editions in ((3, 4), (3, 5)) for t in (2, 3) for key in ((0, 0), (5, 0))]
+    asked += [(taken_alone, editions, own, closed) for editions in ((3, 3), (3, 4)) for own in (False, True) for closed in (False, True)]
     lines = [ask(reading, *given) for ask, *given in asked]
     assert [line[0] for line in lines[:10]] == [0, 0, 0, 0, 15, 15, 15, 0, 15, 0]
     return types.SimpleNamespace(program="the book", asked=asked, lines=lines)
@@ -148,6 +170,7 @@ def main():
         p, q = towns.sheet(rng, places, rng.randint(1, 24))[1], towns.sheet(rng, places, rng.randint(1, 24))[1]
         walks_mean_the_rule(p, q)
         nearest_are_listed(p, q)
+        self_join_is_its_list(p)
         runs_are_the_list(p, q)
     for count in (0, 1, 16, 40):
         keys = sorted({(rng.randint(1, 9), rng.randint(1, 40)) for _ in range(count)})

@@ -1,13 +1,14 @@
 #!/usr/bin/env python3
-"""The cases of crates/try_pages: pairs of sheets with page requests over them: pairs, number, end mark, nodes opened; and the question whether a chamber has
-at least t partners.
+"""The cases of crates/try_pages: pairs of sheets with page requests over them: pairs, number, end mark, nodes opened; the question whether a chamber has
+at least t partners; and page requests of self joins, of one sheet each.
 
     make_pages.py         writes crates/try_pages/stdin and stdout
 
 The input, in words: 1, the lengths of P's and Q's sheet, the number of requests, P's words, Q's words, and for each request the key's q id and p id,
-the size and the threshold; 2 and the same, but for each question a q id and a t; 0 ends it. A negative word stands for the largest number that a call can be
-given. A line has the request, its number of refusal, the nodes opened, and the page whole: both editions, the threshold, the key, the number of pairs, the end
-mark, sixteen pairs with their sizes; or the question, its number of refusal, the count and the yes.
+the size and the threshold; 2 and the same, but for each question a q id and a t; 3, the length of one sheet, 0, the number of requests, its words, and for each
+request the key and the size; 0 ends it. A negative word stands for the largest number that a call can be given. A line has the request, its number of refusal,
+the nodes opened, and the page whole: both editions, the threshold, the kind, the key, the number of pairs, the end mark, sixteen pairs with their sizes; or the
+question, its number of refusal, the count and the yes.
 """
 import collections
 
@@ -22,13 +23,20 @@ LARGEST = 2 ** 64 - 1
 PAST = reading.ID + 1
 
 
-def page_line(rules, p, q, key, size, t, listed):
-    number, page, opened = rules.page_call(p, q, key, size, t, listed)
+def fields(rules, number, page, opened):
     if number:
         page = rules.Page((0, 0), (0, 0), [], False)
     shown = page.pairs + [rules.UNUSED] * (16 - len(page.pairs))
-    fields = [number, opened, *page.editions, page.t, *page.key, len(page.pairs), int(page.end)] + [word for pair in shown for word in pair]
-    return "page %d %d %d %d: %s" % (key + (size, t, " ".join(map(str, fields))))
+    words = [number, opened, *page.editions, page.t, int(page.own), *page.key, len(page.pairs), int(page.end)] + [word for pair in shown for word in pair]
+    return " ".join(map(str, words))
+
+
+def page_line(rules, p, q, key, size, t, listed):
+    return "page %d %d %d %d: %s" % (key + (size, t, fields(rules, *rules.page_call(p, q, key, size, t, listed))))
+
+
+def own_line(rules, words, key, size, listed):
+    return "own %d %d %d: %s" % (key + (size, fields(rules, *rules.own_call(words, key, size, listed))))
 
 
 def partners_line(rules, p, q, q_id, t, listed):
@@ -51,7 +59,7 @@ class Pages:
             asked.append((page_line, p, q, (key_q, key_p), LARGEST if size < 0 else size, t, listed))
         for line in self.cases.add(label, words, asked):
             size, t = map(int, line.split(":")[0].split()[3:5])
-            number, _, _, _, _, _, _, count, end = map(int, line.split(": ")[1].split()[:9])
+            number, _, _, _, _, _, _, _, count, end = map(int, line.split(": ")[1].split()[:10])
             self.seen[number] += 1
             if not number:
                 self.seen["end mark" if end else "no end mark"] += 1
@@ -59,6 +67,20 @@ class Pages:
                 self.seen["empty page"] += end and count == 0
                 self.seen["page of a t"] += t > 0 and count > 0
         self.pairs += 1
+
+    def own(self, label, sheet, requests, listed=None):
+        words = [3, len(sheet), 0, len(requests)] + sheet + [word for request in requests for word in request]
+        asked = []
+        for key_q, key_p, size in requests:
+            key = tuple(LARGEST_ID if word < 0 else word for word in (key_q, key_p))
+            asked.append((own_line, sheet, key, LARGEST if size < 0 else size, listed))
+        for line in self.cases.add(label, words, asked):
+            size = int(line.split(":")[0].split()[3])
+            number, _, _, _, _, _, _, _, count, end = map(int, line.split(": ")[1].split()[:10])
+            self.seen["own", number] += 1
+            if not number:
+                self.seen["own full last page"] += end and count == size
+                self.seen["own page amid"] += not end
 
     def ask(self, label, p, q, questions, listed=None):
         words = [2, len(p), len(q), len(questions)] + p + q + [word for question in questions for word in question]
@@ -231,6 +253,28 @@ def refused_questions(out, rng):
         out.ask("an empty sheet, partners", p, q, [(q_id, t) for q_id in [point[0] for point in reading.Sheet(q).points] + [0, 1] for t in (0, 1, 1001)])
 
 
+def self_joins(out, rng):
+    """One sheet with itself: its list followed, keys of it and near it; several records on one spot; one record, none; and what is refused."""
+    for k in range(40):
+        places = towns.PLACES[k % len(towns.PLACES)]
+        _, words = towns.sheet(rng, places, rng.randint(1, 14) if k % 4 else rng.randint(20, 50))
+        sheet = reading.Sheet(words)
+        listed = reading.self_list(sheet.points)
+        requests = [request[:3] for request in followed(rng, listed, [1, 2, 3, 16] if k % 4 else [7, 15, 16])]
+        out.own("%s, one sheet with itself" % places.__name__, words, requests + some_keys(rng, sheet, sheet, listed, 4) + rng.sample(ENDS, 1), listed)
+    for number in range(1, 9):
+        wrong = towns.faulty(rng, number)
+        assert reading.own_call(wrong, (PAST, 0), 0)[0] == number
+        out.own("bad sheet, self join", wrong, [(0, 0, 1), (PAST, 0, 1), (0, 0, 0)])
+    _, some = towns.sheet(rng, towns.grid, 5)
+    for words in (some, reading.pack([(4, 2, 2)], [0], 3), reading.pack([], [], 3)):
+        out.own("keys and sizes of a self join", words, ENDS + OUTSIDE)
+    points = [(number,) + place for number, place in zip(trees.ids(rng, 300, reading.ID), towns.land(rng, 300))]
+    words = trees.sheet(points, trees.near(rng, points), reading.runs_of_sixteen(300), 33)
+    listed = reading.self_list(points)
+    out.own("300 points, self join", words, [(0, 0, 16), reading.key_of(listed[len(listed) // 2]) + (16,), reading.key_of(listed[-17]) + (16,), reading.key_of(listed[-1]) + (1,)], listed)
+
+
 def large_pairs(out, rng):
     """1,000 points each. The list is too long to make by brute force here: from a key among the last few q, what follows is short."""
     points = [[(n,) + place for n, place in zip(trees.ids(rng, 1000, reading.ID), towns.land(rng, 1000))] for _ in range(2)]
@@ -254,10 +298,13 @@ def cases():
     refused(out, rng)
     thresholds(out, rng)
     refused_questions(out, rng)
+    self_joins(out, rng)
     large_pairs(out, rng)
     assert out.pairs >= 100
     assert all(out.seen[number] >= 10 for number in range(11)), out.seen
     assert all(out.seen[what] >= 10 for what in ("end mark", "no end mark", "full last page", "empty page", "page of a t", "yes", "no", 21)), out.seen
+    assert all(out.seen["own", number] >= 2 for number in range(11)), out.seen
+    assert all(out.seen[what] >= 10 for what in ("own full last page", "own page amid")), out.seen
     assert all(out.seen["question", number] >= 2 for number in list(range(9)) + [20, 21]), out.seen
     return out.cases
 

@@ -462,10 +462,10 @@ def point_call(words, i):
 
 class Page:
     """"The page holds both editions, the key, the first `size` ring pairs strictly after the key (fewer if fewer follow), their number and an end mark".
-    "Pages and books now carry t, 0 for the full list" """
+    "Pages and books now carry t, 0 for the full list"; "Pages and books now say their kind" """
 
-    def __init__(self, editions, key, pairs, end, t=0):
-        self.editions, self.key, self.pairs, self.end, self.t = editions, key, pairs, end, t
+    def __init__(self, editions, key, pairs, end, t=0, own=False):
+        self.editions, self.key, self.pairs, self.end, self.t, self.own = editions, key, pairs, end, t, own
 
 
 # "an end mark, set exactly when no ring pair follows the last one shown, or follows the key if none is shown"
@@ -539,6 +539,73 @@ def page_call(p_words, q_words, key, size, t=0, pairs=None):
         pairs = ring_list(p.points, q.points)
     page = page_of(pairs, (p.edition, q.edition), key, size, t)
     opened, found = page_opened_of(p, q, key, size, t) if t > 0 else page_opened(p, q, key, size)
+    assert found == page.pairs
+    return 0, page, opened
+
+
+# ---------------------------------------------------------------- one kind of asset only
+
+# "the self join [..]: pairs of two different records of one sheet, lower id first, in order of lower then higher id, blocked by the other records of that
+# sheet under request 3's rule"
+def self_list(points):
+    pairs = []
+    for j, one in enumerate(points):
+        for i, other in enumerate(points):
+            others = [point for k, point in enumerate(points) if k != j and k != i]
+            if one[0] < other[0] and not any(blocks(one[1:], other[1:], point[1:]) for point in others):
+                pairs.append(pair_of(points, points, j, i))
+    return sorted(pairs)
+
+
+# "the filter passes over q"
+def self_filter(sheet, j):
+    """The kept positions, ascending, and the nodes opened, of the filter walk for position j of a sheet over the sheet itself."""
+    q, kept = sheet.place(j), []
+
+    def take(position):
+        if position != j and not any(drops_point(q, sheet.place(k), sheet.place(position)) for k in kept):
+            kept.append(position)
+
+    more = walk_down(sheet, lambda node, box: any(drops_box(q, sheet.place(k), box) for k in kept), take)
+    return sorted(kept), more
+
+
+# "Pages, counts [..] work as before"; "kept partners of higher id get one ring walk"
+def self_opened(sheet, key, size):
+    """The nodes opened, and the pairs found on the way, the one beyond the size left out."""
+    opened, found = 0, []
+    for j in range(sheet.n):
+        if sheet.points[j][0] < key[0]:
+            continue
+        kept, more = self_filter(sheet, j)
+        opened += more
+        for i in kept:
+            pair = pair_of(sheet.points, sheet.points, j, i)
+            if pair[1] > pair[0] and key_of(pair) > key:
+                answer, more = ring_walk(sheet, 0, sheet.place(j), sheet.place(i), i)
+                opened += more
+                if answer == CLEAR and len(found) == size:
+                    return opened, found
+                found += [pair] * (answer == CLEAR)
+    return opened, found
+
+
+# "with one edition in both fields and t 0"; 1 to 8 of the sheet, then 9, then 10
+def own_call(words, key, size, pairs=None):
+    """(number, page, opened) of a page request of a self join. `pairs` is its list, made anew where it is not handed in."""
+    number = open_number(words)
+    if number:
+        return number, None, 0
+    if not (0 <= key[0] <= ID and 0 <= key[1] <= ID):
+        return 9, None, 0
+    if not 1 <= size <= SIZE:
+        return 10, None, 0
+    sheet = Sheet(words)
+    if pairs is None:
+        pairs = self_list(sheet.points)
+    page = page_of(pairs, (sheet.edition, sheet.edition), key, size)
+    page.own = True
+    opened, found = self_opened(sheet, key, size)
     assert found == page.pairs
     return 0, page, opened
 
@@ -799,19 +866,23 @@ def near_filter_call(p_words, q_words, q_id, lent):
 # ---------------------------------------------------------------- the book
 
 class Book:
-    """"A book is begun for two editions with nothing held, open, key (0, 0)." "Pages and books now carry t" """
+    """"A book is begun for two editions with nothing held, open, key (0, 0)." "Pages and books now carry t" and "say their kind" """
 
-    def __init__(self, editions, t):
-        self.editions, self.t, self.held, self.closed = editions, t, 0, False
+    def __init__(self, editions, t, own):
+        self.editions, self.t, self.own, self.held, self.closed = editions, t, own, 0, False
 
 
-# 3: edition out of range; "21 t outside 0 to 1,000 [..] after [..] 3 for begin"
-def begin(editions, t=0):
+# 3: edition out of range; "21 t outside 0 to 1,000 [..] after [..] 3 for begin"; "begin gives 3 for a self join of two editions, 21 with a t"
+def begin(editions, t=0, own=False):
     if any(edition < 1 or edition > EDITION for edition in editions):
         return 3, None
+    if own and editions[0] != editions[1]:
+        return 3, None
+    if own and t > 0:
+        return 21, None
     if t < 0 or t > THRESHOLD:
         return 21, None
-    return 0, Book(editions, t)
+    return 0, Book(editions, t, own)
 
 
 # "Its next key is its last pair." 11: held exceeds the slice's length. "Asking the next key refuses only by 11."
@@ -833,6 +904,9 @@ def take(book, slots, page, page_count=None):
     # 12: book closed
     if book.closed:
         return 12
+    # 22: "wrong kind, after 12 and before 13"
+    if page.own != book.own:
+        return 22
     # 13: page of other editions
     if page.editions != book.editions:
         return 13

@@ -216,6 +216,29 @@ PAGES = SIZES + [
     ("of the single question. `pairs` as above.\"\"\"\n    number = open_number(p_words) or open_number(q_words)", "of the single question. `pairs` as above.\"\"\"\n    number = open_number(q_words) or open_number(p_words)"),
 ]
 
+# of a self join: pairs both ways; higher id first; a record with itself; blocked by an end's copy, as before request 3; not blocked by records of lower id than both
+PAGES += [
+    ("            if one[0] < other[0] and not", "            if one[0] != other[0] and not"),
+    ("                pairs.append(pair_of(points, points, j, i))\n", "                pairs.append(pair_of(points, points, i, j))\n"),
+    ("            if one[0] < other[0] and not", "            if one[0] <= other[0] and not"),
+    ("not any(blocks(one[1:], other[1:], point[1:]) for point in others)", "not any(point[1:] in (one[1:], other[1:]) or blocks(one[1:], other[1:], point[1:]) for point in others)"),
+    ("not any(blocks(one[1:], other[1:], point[1:]) for point in others)", "not any(blocks(one[1:], other[1:], point[1:]) for point in others if point > one)"),
+    # its count: q is walked with itself; partners of lower id are walked too; two ring walks, as of two sheets; of the kept partners before the key too; no filter for q's
+    # whose partners all have lower ids
+    ("        kept, more = self_filter(sheet, j)\n        opened += more\n", "        kept, more = self_filter(sheet, j)\n        opened += more + ring_walk(sheet, 0, sheet.place(j), sheet.place(j), j)[1]\n"),
+    ("            if pair[1] > pair[0] and key_of(pair) > key:\n", "            if key_of(pair) > key:\n"),
+    ("                opened += more\n                if answer == CLEAR and", "                opened += 2 * more if answer == CLEAR else more\n                if answer == CLEAR and"),
+    ("            if pair[1] > pair[0] and key_of(pair) > key:\n", "            opened += 0 if key_of(pair) > key or pair[1] < pair[0] else ring_walk(sheet, 0, sheet.place(j), sheet.place(i), i)[1]\n            if pair[1] > pair[0] and key_of(pair) > key:\n"),
+    ("        kept, more = self_filter(sheet, j)\n        opened += more\n", "        kept, more = self_filter(sheet, j)\n        opened += more if any(i > j for i in kept) else 0\n"),
+    ("                if answer == CLEAR and len(found) == size:\n", "                if len(found) == size:\n"),
+    # its page: another kind; a t; 9 after 10; the sheet after the key
+    ("    page.own = True\n", "    page.own = False\n"),
+    ("    page.own = True\n", "    page.own, page.t = True, 1\n"),
+    ("    if not (0 <= key[0] <= ID and 0 <= key[1] <= ID):\n        return 9, None, 0\n", "    if not (0 <= key[0] <= ID and 0 <= key[1] <= ID):\n        return 9 if 1 <= size <= SIZE else 10, None, 0\n"),
+    ("    number = open_number(words)\n    if number:\n        return number, None, 0\n    if not", "    number = open_number(words)\n    if number:\n        return number if 0 <= key[0] <= ID else 9, None, 0\n    if not"),
+    ("    if not 1 <= size <= SIZE:", "    if not 1 <= size < SIZE:"),
+]
+
 SHEETS_OF_RUN = '''of a run."""
     number = open_number(p_words) or open_number(q_words)'''
 NO_LEAF = "    if leaf >= q.m or q.nodes[leaf][0] != 0:\n        return 19, 0, 0, slots\n"
@@ -359,6 +382,16 @@ BOOK = [
     ("    if page.t != book.t:\n        return 31\n", "    if page.t != book.t:\n        return 31 if page.key == next_key(book, slots)[1] else 14\n"),
     ("    if page.t != book.t:\n        return 31\n", ""),
     ("    if page.t != book.t:\n", "    if page.t != book.t and not page.t:\n"),
+    # 22: before 12; after 13; not at all; for a self join's book alone
+    ("    if book.closed:\n        return 12\n", "    if page.own != book.own:\n        return 22\n    if book.closed:\n        return 12\n"),
+    ("    if page.own != book.own:\n        return 22\n", "    if page.own != book.own:\n        return 22 if page.editions == book.editions else 13\n"),
+    ("    if page.own != book.own:\n        return 22\n", ""),
+    ("    if page.own != book.own:\n        return 22\n", "    if book.own and not page.own:\n        return 22\n"),
+    # begin of a self join: of two editions; 21 before 3; with a t
+    ("    if own and editions[0] != editions[1]:\n        return 3, None\n", ""),
+    ("    if own and editions[0] != editions[1]:\n        return 3, None\n", "    if own and editions[0] != editions[1]:\n        return 21 if t > 0 else 3, None\n"),
+    ("    if own and t > 0:\n        return 21, None\n", ""),
+    ("    if own and t > 0:\n        return 21, None\n", "    if own and t > 1:\n        return 21, None\n"),
     # 21 of begin: before 3; its bound
     ("    if any(edition < 1 or edition > EDITION for edition in editions):\n        return 3, None\n", "    if t > THRESHOLD:\n        return 21, None\n    if any(edition < 1 or edition > EDITION for edition in editions):\n        return 3, None\n"),
     ("THRESHOLD = 1_000", "THRESHOLD = 999"),

@@ -66,7 +66,7 @@ int main(void) {
     if (refused("pump houses", p.number) || refused("chambers", q.number)) return 1;
     printf("%zu pump houses, %zu chambers\n", p.n, q.n);
 
-    RingSource source = {(uint32_t)pumps[p.len - 2], (uint32_t)chambers[q.len - 2], 0};
+    RingSource source = {(uint32_t)pumps[p.len - 2], (uint32_t)chambers[q.len - 2], 0, false};
     RingBegun begun = ring_book_begin(source);
     if (refused("begin", begun.number)) return 1;
     printf("a book of editions %u and %u\n", begun.book.source.p_edition, begun.book.source.q_edition);

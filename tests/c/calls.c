@@ -16,7 +16,7 @@
 
 /* the numbers of refusal: 0 to 20, and 25 */
 #define LAST 31
-#define A_NUMBER(k) ((k) <= 21 || (k) == 25 || (k) == 31)
+#define A_NUMBER(k) ((k) <= 22 || (k) == 25 || (k) == 31)
 
 static uint64_t seed = 88172645463325252ull;
 static unsigned long calls, wrong, first_wrong, seen[LAST + 1], named[4];
@@ -192,13 +192,15 @@ static bool is_pair(size_t j, size_t i) {
     return true;
 }
 
-/* the pair of two positions, with the squared distance of the two */
-static RingPair pair_of(size_t j, size_t i) {
-    const int32_t *q = Q.words + 3 * j, *p = P.words + 3 * i;
+/* the pair of two records, with the squared distance of the two */
+static RingPair size_of(const int32_t *q, const int32_t *p) {
     int64_t x = (int64_t)q[1] - p[1], y = (int64_t)q[2] - p[2];
     RingPair v = {(uint32_t)q[0], (uint32_t)p[0], (uint64_t)(x * x + y * y)};
     return v;
 }
+
+/* that of two positions */
+static RingPair pair_of(size_t j, size_t i) { return size_of(Q.words + 3 * j, P.words + 3 * i); }
 
 static bool after(RingKey k, RingPair v) { return k.q < v.q || (k.q == v.q && k.p < v.p); }
 
@@ -223,6 +225,7 @@ static bool page_bad(const RingPage *g) {
 static uint32_t take_no(const RingBook *b, const RingPair *slots, size_t len, const RingPage *g) {
     if (b->held > len) return 11;
     if (b->closed) return 12;
+    if (g->source.own != b->source.own) return 22;
     if (g->source.p_edition != b->source.p_edition || g->source.q_edition != b->source.q_edition) return 13;
     if (g->source.threshold != b->source.threshold) return 31;
     RingKey next = key_of(slots, b->held);
@@ -233,7 +236,7 @@ static uint32_t take_no(const RingBook *b, const RingPair *slots, size_t len, co
 
 static bool same_book(RingBook a, RingBook b) {
     return a.held == b.held && a.closed == b.closed && a.source.p_edition == b.source.p_edition && a.source.q_edition == b.source.q_edition
-        && a.source.threshold == b.source.threshold;
+        && a.source.threshold == b.source.threshold && a.source.own == b.source.own;
 }
 
 /* ---- the calls */
@@ -382,7 +385,7 @@ static RingPage page_of(RingKey key, size_t size, uint32_t t) {
 
 static bool same_page(const RingPage *a, const RingPage *b) {
     return a->source.p_edition == b->source.p_edition && a->source.q_edition == b->source.q_edition && a->source.threshold == b->source.threshold
-        && a->key.q == b->key.q && a->key.p == b->key.p && a->count == b->count && a->end == b->end && memcmp(a->pairs, b->pairs, sizeof a->pairs) == 0;
+        && a->source.own == b->source.own && a->key.q == b->key.q && a->key.p == b->key.p && a->count == b->count && a->end == b->end && memcmp(a->pairs, b->pairs, sizeof a->pairs) == 0;
 }
 
 /* a threshold: few, or anything */
@@ -403,6 +406,43 @@ static void try_page(void) {
     HOLD(r.number == number);
     if (r.number) memset(&expected, 0, sizeof expected), HOLD(r.opened == 0);
     else expected = page_of(key, size, t);
+    HOLD(same_page(&r.page, &expected));
+}
+
+/* the page of P's self join, by trying every two records: no other stands in their circle */
+static RingPage own_of(RingKey key, size_t size) {
+    RingPage g;
+    memset(&g, 0, sizeof g);
+    g.source.p_edition = g.source.q_edition = (uint32_t)P.words[P.len - 2], g.source.own = true;
+    g.key = key, g.end = true;
+    for (size_t j = 0; j < count_of(&P) && g.end; j++)
+        for (size_t i = j + 1; i < count_of(&P) && g.end; i++) {
+            const int32_t *a = P.words + 3 * j, *b = P.words + 3 * i;
+            RingPair v = size_of(a, b);
+            bool free = after(key, v);
+            for (size_t k = 0; k < count_of(&P) && free; k++) free = k == j || k == i || !blocks(a, b, P.words + 3 * k);
+            if (!free) continue;
+            if (g.count < size) g.pairs[g.count++] = v;
+            else g.end = false;
+        }
+    return g;
+}
+
+static void try_own(void) {
+    size_t j, i, size = below(6) ? 1 + below(16) : wild_size();
+    RingKey key = {0, 0};
+    RingPage expected;
+    two_sheets(40, &j, &i);
+    uint32_t number = ring_open(at(&P), P.len).number;
+    if (!number && i < count_of(&P) && below(2)) key.q = (uint32_t)P.words[3 * i], key.p = key.q + (uint32_t)below(3);
+    if (below(6) == 0) key.q = wild();
+    if (below(6) == 0) key.p = wild();
+    if (!number) number = key.q > 2000000000 || key.p > 2000000000 ? 9 : size < 1 || size > 16 ? 10 : 0;
+    RingPaged r = ring_own_page(at(&P), P.len, key, size);
+    saw(r.number), hold_saved();
+    HOLD(r.number == number);
+    if (r.number) memset(&expected, 0, sizeof expected), HOLD(r.opened == 0);
+    else expected = own_of(key, size);
     HOLD(same_page(&r.page, &expected));
 }
 
@@ -456,9 +496,10 @@ static void try_partners(void) {
 static uint32_t some_edition(void) { return below(2) ? 1 + (uint32_t)below(1000000000) : wild(); }
 
 static void try_begin(void) {
-    RingSource s = {some_edition(), some_edition(), some_threshold()}, none = {0, 0, 0};
-    bool ok = in(1, s.p_edition, 1000000000) && in(1, s.q_edition, 1000000000);
-    uint32_t number = !ok ? 3 : s.threshold > 1000 ? 21 : 0;
+    RingSource s = {some_edition(), some_edition(), some_threshold(), below(2)}, none = {0, 0, 0, false};
+    if (below(2)) s.q_edition = s.p_edition;
+    bool ok = in(1, s.p_edition, 1000000000) && in(1, s.q_edition, 1000000000) && !(s.own && s.p_edition != s.q_edition);
+    uint32_t number = !ok ? 3 : s.threshold > (s.own ? 0 : 1000) ? 21 : 0;
     RingBook begun = {0, false, number ? none : s};
     RingBegun r = ring_book_begin(s);
     saw(r.number);
@@ -477,7 +518,7 @@ static size_t make_slots(RingBook *b) {
         if (room[k].q == room[k - 1].q && room[k].p <= room[k - 1].p) room[k].p = room[k - 1].p + 1;
     b->held = below(8) ? below(len + 1) : below(2) ? len + 1 + below(3) : wild_size();
     b->closed = below(9) == 0;
-    b->source.p_edition = some_edition(), b->source.q_edition = some_edition(), b->source.threshold = some_threshold();
+    b->source.p_edition = some_edition(), b->source.q_edition = some_edition(), b->source.threshold = some_threshold(), b->source.own = below(2);
     return len;
 }
 
@@ -524,6 +565,7 @@ static void spoil_page(RingPage *g) {
     case 11: g->pairs[below(16)].size = wild_size(); break;
     case 12: g->source.threshold++; break;
     case 13: g->source.threshold = wild(); break;
+    case 14: g->source.own = !g->source.own; break;
     }
 }
 
@@ -751,7 +793,7 @@ static void try_near_filter(void) {
 }
 
 int main(void) {
-    static void (*const tries[])(void) = {try_open, try_pack, try_point, try_filter, try_pair, try_page, try_partners, try_shortest, try_begin, try_next, try_take, try_marker, try_leaf, try_nearest, try_near_filter};
+    static void (*const tries[])(void) = {try_open, try_pack, try_point, try_filter, try_pair, try_page, try_own, try_partners, try_shortest, try_begin, try_next, try_take, try_marker, try_leaf, try_nearest, try_near_filter};
     size_t exports = sizeof tries / sizeof tries[0];
     guard(&P), guard(&Q);
     for (size_t k = 0; k < exports; k++)

@@ -18,14 +18,18 @@ use Rattle.book.specs.Rules.{beginNo, begunBook, begunBy, begunFor, last
 
 -- editions 7 and 9, whose list is (5, 1), (5, 2), (6, 2)
 abbrev ours : Source
-ours = record { «p_edition» = 7; «q_edition» = 9; threshold = 0 }
+ours = record { «p_edition» = 7; «q_edition» = 9; threshold = 0; own = false }
 
 abbrev others : Source
-others = record { «p_edition» = 8; «q_edition» = 9; threshold = 2 }
+others = record { «p_edition» = 8; «q_edition» = 9; threshold = 2; own = false }
 
 -- the same editions, of another t
 abbrev less : Source
-less = record { «p_edition» = 7; «q_edition» = 9; threshold = 2 }
+less = record { «p_edition» = 7; «q_edition» = 9; threshold = 2; own = false }
+
+-- a self join
+abbrev alone : Source
+alone = record { «p_edition» = 7; «q_edition» = 7; threshold = 0; own = true }
 
 abbrev at : ℕ → ℕ → Pair
 at q p = record { q = q; p = p; size = 16 }
@@ -50,13 +54,26 @@ begins : begunFor ours ≡ begun.Open (book 0 false)
 unfolding begunFor begunBy beginNo begunBook editionOk thresholdNo
 begins = refl
 
-no-edition : begunFor (record { «p_edition» = 7; «q_edition» = 0; threshold = 1001 }) ≡ begun.Refused 3
+no-edition : begunFor (record { «p_edition» = 7; «q_edition» = 0; threshold = 1001; own = false }) ≡ begun.Refused 3
 unfolding begunFor begunBy beginNo editionOk
 no-edition = refl
 
-no-threshold : begunFor (record { «p_edition» = 7; «q_edition» = 9; threshold = 1001 }) ≡ begun.Refused 21
+no-threshold : begunFor (record { «p_edition» = 7; «q_edition» = 9; threshold = 1001; own = false }) ≡ begun.Refused 21
 unfolding begunFor begunBy beginNo editionOk thresholdNo
 no-threshold = refl
+
+-- a self join: of one edition; of two; with a t
+begins-own : begunFor alone ≡ begun.Open (record { held = 0; closed = false; source = alone })
+unfolding begunFor begunBy beginNo begunBook editionOk thresholdNo
+begins-own = refl
+
+no-two : begunFor (record { «p_edition» = 7; «q_edition» = 9; threshold = 2; own = true }) ≡ begun.Refused 3
+unfolding begunFor begunBy beginNo editionOk
+no-two = refl
+
+no-t : begunFor (record { «p_edition» = 7; «q_edition» = 7; threshold = 2; own = true }) ≡ begun.Refused 21
+unfolding begunFor begunBy beginNo editionOk
+no-t = refl
 
 asks-first : asked (book 0 false) slots ≡ record { next = next.After start; book = book 0 false }
 unfolding asked askedAt nextBy nextNo lastKey
@@ -91,6 +108,15 @@ eleven = refl
 twelve : number (book 2 true) (page others (at 5 2) true []) 12
 unfolding takeNo takeNoAt
 twelve = refl
+
+-- closed, and a page of another kind; another kind, and other editions and another key
+twelve-first : number (book 2 true) (page alone (at 5 2) true []) 12
+unfolding takeNo takeNoAt
+twelve-first = refl
+
+twenty-two : number (book 2 false) (page alone (at 5 1) true []) 22
+unfolding takeNo takeNoAt firstNo sourceNo
+twenty-two = refl
 
 -- other editions, and another t and key
 thirteen : number (book 2 false) (page others (at 5 1) true []) 13

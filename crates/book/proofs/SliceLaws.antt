@@ -89,7 +89,11 @@ first-16 a b r e = go (sourceNo a b) refl
         absurd
         (⊎-elim
         (λ (z : sourceNo a b ≡ 0). omega arith)
-        (λ (z : (sourceNo a b ≡ 13) ⊎ (sourceNo a b ≡ 31)). ⊎-elim (λ (u : sourceNo a b ≡ 13). omega arith) (λ (u : sourceNo a b ≡ 31). omega arith) z)
+        (λ (z : (sourceNo a b ≡ 22) ⊎ ((sourceNo a b ≡ 13) ⊎ (sourceNo a b ≡ 31))).
+        ⊎-elim
+        (λ (u : sourceNo a b ≡ 22). omega arith)
+        (λ (u : (sourceNo a b ≡ 13) ⊎ (sourceNo a b ≡ 31)). ⊎-elim (λ (v : sourceNo a b ≡ 13). omega arith) (λ (v : sourceNo a b ≡ 31). omega arith) u)
+        z)
         (source-numbers a b))
 
 room-at : (b : Book) (len m : ℕ) (k : Key) (g : Page) → takeNoAt b len k g ≡ 16 → b .held + g .count ≤ m → (b .held ≤ len) × (takeNoAt b m k g ≡ 0)

@@ -10,7 +10,7 @@ use native.Mathlib.Omega.{arith}
 use lib.ListN.{length, take, drop, length-take, length-drop, take-append-drop}
 use lib.Seq.{paste, take-paste, take-add, take-length, length-paste}
 use lib.Dec.{eqb, ltb, leb}
-use borrow.Author.Tests.{leb-true, ltb-true, ltb-false, le-ltb, ne-eqb, not-true}
+use borrow.Author.Tests.{leb-true, ltb-true, ltb-false, le-ltb, ne-eqb, eqb-true, not-true, not-false}
 use Rattle.integers.specs.Bools.{decide, and-left, and-right, and-both, or-both-false}
 use Rattle.plane.specs.Point.{Point}
 use Rattle.words.specs.Range.{editionOk, idOk, sizeOk}
@@ -21,16 +21,18 @@ use Rattle.list.specs.declared.Page.{Page}
 use Rattle.list.specs.Pairs.{start, keyOf, follows, ascends, after, lastOr}
 use Rattle.list.specs.Pages.{lastThreshold, thresholdNo, sourceNo, shown, pageOf, pagePairs}
 use Rattle.list.specs.RingList.{thresholdList}
+use Rattle.list.specs.SelfList.{selfList}
 use Rattle.list.proofs.Order.{asc-left, after-asc, after-last}
 use Rattle.list.proofs.PageLaws.{page-shows, shown-count, length-padded, end-mark}
 use Rattle.list.proofs.SourceLaws.{source-same}
 use Rattle.list.proofs.RowLaws.{ring-ids, ring-sizes}
 use Rattle.list.proofs.ThresholdLaws.{threshold-in, threshold-ascends}
+use Rattle.list.proofs.SelfLaws.{self-ascends, self-ids, self-sizes}
 use Rattle.book.specs.declared.Book.{Book}
 use Rattle.book.specs.declared.Begun.the-variants as begun
-use Rattle.book.specs.Rules.{beginNo, begunBy, begunBook, begunFor, lastKey, pairOk, pairsOk, pageMost, pageBad, takeNo, advanced, taken, takenSlots}
+use Rattle.book.specs.Rules.{oneSheet, ownWithT, beginNo, begunBy, begunBook, begunFor, lastKey, pairOk, pairsOk, pageMost, pageBad, takeNo, advanced, taken, takenSlots}
 use Rattle.book.specs.World.{World, listOf, Honest, Reached, began, took, lent, ownPage, served}
-use Rattle.book.proofs.TakeLaws.{Passed, passed, taken-book, taken-slots, refused-book, refused-slots, or-zero, no-refusal, same-length, closed-no, same-book-source}
+use Rattle.book.proofs.TakeLaws.{no-cond, Passed, passed, taken-book, taken-slots, refused-book, refused-slots, or-zero, no-refusal, same-length, closed-no, same-book-source}
 use Rattle.book.proofs.SliceLaws.{last-held}
 
 -- ---- the ids and sizes of a list
@@ -231,42 +233,79 @@ begun-is : (s : Source) (b : Book) → begunFor s ≡ begun.Open b → begunBook
 unfolding begunFor
 begun-is s b e = by-begun (beginNo s) (begunBook s) b e
 
--- .. was not refused, so its t is at most 1,000
+-- .. was not refused
 open-no : (n : ℕ) (b c : Book) → begunBy n b ≡ begun.Open c → n ≡ 0
 unfolding begunBy
 open-no zero b c e = refl
 open-no (suc n) b c e = let z : _≡_ {A = ℕ} 0 1 = cc in absurd (omega arith)
 
-begun-in : (s : Source) (b : Book) → begunFor s ≡ begun.Open b → s .threshold ≤ lastThreshold
+-- what a book can be begun for: a t up to 1,000, and a self join only of one edition and with no t
+pub record Fair (s : Source) : Type 0 where
+  pub t-most : s .threshold ≤ lastThreshold
+  pub one-edition : s .own ≡ true → s .«p_edition» ≡ s .«q_edition»
+  pub no-t : s .own ≡ true → s .threshold ≡ 0
+
+begun-in : (s : Source) (b : Book) → begunFor s ≡ begun.Open b → Fair s
 unfolding begunFor beginNo thresholdNo
-begun-in s b e = by (not (editionOk (s .«p_edition») && editionOk (s .«q_edition»))) (leb (s .threshold) lastThreshold) refl (open-no _ (begunBook s) b e)
+begun-in s b e =
+    let both = editionOk (s .«p_edition») && editionOk (s .«q_edition») in
+    let e1 = no-cond (not (both && oneSheet s)) 3 _ 0 (λ z. omega arith) (open-no _ (begunBook s) b e) in
+    let e2 = no-cond (ownWithT s) 21 _ 0 (λ z. omega arith) (e1 .1) in
+    record {
+      t-most = most (leb (s .threshold) lastThreshold) refl (e2 .1);
+      one-edition = λ o. eqb-true (s .«p_edition») (s .«q_edition») (sym (ap (λ (x : Bool). not x || eqb (s .«p_edition») (s .«q_edition»)) o) ∙ and-right both (oneSheet s) (not-false (both && oneSheet s) (e1 .0)));
+      no-t = λ o. eqb-true (s .threshold) 0 (not-false (eqb (s .threshold) 0) (sym (ap (λ (x : Bool). x && not (eqb (s .threshold) 0)) o) ∙ e2 .0));
+    }
   where
-    by : (a t : Bool) → leb (s .threshold) lastThreshold ≡ t → _≡_ {A = ℕ} (cond a 3 (cond t 0 21)) 0 → s .threshold ≤ lastThreshold
-    by true t d z = absurd (omega arith)
-    by false true d z = leb-true (s .threshold) lastThreshold d
-    by false false d z = absurd (omega arith)
+    most : (t : Bool) → leb (s .threshold) lastThreshold ≡ t → _≡_ {A = ℕ} (cond t 0 21) 0 → s .threshold ≤ lastThreshold
+    most true d z = leb-true (s .threshold) lastThreshold d
+    most false d z = absurd (omega arith)
 
 module _ (w : World) where
   list-asc : (s : Source) → ascends start (listOf w s) ≡ true
-  list-asc s = threshold-ascends (w .pumps (s .«p_edition»)) (w .chambers (s .«q_edition»)) (w .pumps-sound (s .«p_edition») .rising) (w .chambers-sound (s .«q_edition») .rising) (s .threshold)
+  list-asc s = go (s .own)
+    where
+      go : (o : Bool) → ascends start (cond o (selfList (w .assets (s .«q_edition»))) (thresholdList (s .threshold) (w .pumps (s .«p_edition»)) (w .chambers (s .«q_edition»)))) ≡ true
+      go true = self-ascends (w .assets (s .«q_edition»)) (w .assets-sound (s .«q_edition») .rising)
+      go false = threshold-ascends (w .pumps (s .«p_edition»)) (w .chambers (s .«q_edition»)) (w .pumps-sound (s .«p_edition») .rising) (w .chambers-sound (s .«q_edition») .rising) (s .threshold)
 
   list-ok : (s : Source) → pairsOk (listOf w s) ≡ true
-  list-ok s =
-      let P = w .pumps (s .«p_edition») in
-      let Q = w .chambers (s .«q_edition») in
-      let sp = w .pumps-sound (s .«p_edition») in
-      let sq = w .chambers-sound (s .«q_edition») in
-      ok-of (listOf w s)
-      (λ v m.
-      let n = threshold-in P Q (sp .rising) (sq .rising) (s .threshold) v m in
-      let z = ring-ids P Q (sp .rising) (sq .rising) v n in
-      pair-ok v (z .0) (z .1) (ring-sizes P Q sp sq v n))
+  list-ok s = go (s .own)
+    where
+      go : (o : Bool) → pairsOk (cond o (selfList (w .assets (s .«q_edition»))) (thresholdList (s .threshold) (w .pumps (s .«p_edition»)) (w .chambers (s .«q_edition»)))) ≡ true
+      go true =
+          let S = w .assets (s .«q_edition») in
+          let o = w .assets-sound (s .«q_edition») in
+          ok-of (selfList S) (λ v m. let z = self-ids S (o .rising) v m in pair-ok v (z .0) (z .1) (self-sizes S o v m))
+      go false =
+          let P = w .pumps (s .«p_edition») in
+          let Q = w .chambers (s .«q_edition») in
+          let sp = w .pumps-sound (s .«p_edition») in
+          let sq = w .chambers-sound (s .«q_edition») in
+          ok-of (thresholdList (s .threshold) P Q)
+          (λ v m.
+          let n = threshold-in P Q (sp .rising) (sq .rising) (s .threshold) v m in
+          let z = ring-ids P Q (sp .rising) (sq .rising) v n in
+          pair-ok v (z .0) (z .1) (ring-sizes P Q sp sq v n))
+
+  -- the list of a source by its kind
+  pub two-list : (s : Source) → s .own ≡ false → listOf w s ≡ thresholdList (s .threshold) (w .pumps (s .«p_edition»)) (w .chambers (s .«q_edition»))
+  two-list s o = rw o
+
+  pub own-list : (s : Source) → s .own ≡ true → listOf w s ≡ selfList (w .assets (s .«q_edition»))
+  own-list s o = rw o
 
   -- what a page request answers on two sheets with these points is honest, where the points are those of their editions
-  pub honest-from : (s : Source) (k : Key) (size : ℕ) (P Q : List Point) (g : Page) → 0 < size → size ≤ 16 → w .pumps (s .«p_edition») ≡ P → w .chambers (s .«q_edition») ≡ Q
+  pub honest-from : (s : Source) (k : Key) (size : ℕ) (P Q : List Point) (g : Page) → s .own ≡ false → 0 < size → size ≤ 16 → w .pumps (s .«p_edition») ≡ P → w .chambers (s .«q_edition») ≡ Q
       → g ≡ pageOf s (thresholdList (s .threshold) P Q) k size → Honest w g
-  honest-from s k size P Q g some most p q e =
-      record { of = s; after = k; size = size; some = some; most = most; is = e ∙ sym (ap₂ (λ (x y : List Point). pageOf s (thresholdList (s .threshold) x y) k size) p q) }
+  honest-from s k size P Q g o some most p q e =
+      record { of = s; after = k; size = size; some = some; most = most; is = e ∙ sym (ap (λ (l : List Pair). pageOf s l k size) (two-list s o) ∙ ap₂ (λ (x y : List Point). pageOf s (thresholdList (s .threshold) x y) k size) p q) }
+
+  -- and so is what a self join's answers
+  pub honest-own : (s : Source) (k : Key) (size : ℕ) (S : List Point) (g : Page) → s .own ≡ true → 0 < size → size ≤ 16 → w .assets (s .«q_edition») ≡ S
+      → g ≡ pageOf s (selfList S) k size → Honest w g
+  honest-own s k size S g o some most p e =
+      record { of = s; after = k; size = size; some = some; most = most; is = e ∙ sym (ap (λ (l : List Pair). pageOf s l k size) (own-list s o ∙ ap selfList p)) }
 
   -- the list of a book
   abbrev pub bookList : Book → List Pair
@@ -292,9 +331,9 @@ module _ (w : World) where
       (keeps-take (bookList b) (list-asc (b .source)) b slots g k (honest-on b slots g k h))
   story (lent {b} {slots} other r h e) = let k = story r in record { room = h; few = k .few; same = e ∙ k .same; shut = k .shut }
 
-  -- its t is one that a page request may ask for
-  pub begun-fair : {b : Book} {s : List Pair} → Reached w b s → b .source .threshold ≤ lastThreshold
-  begun-fair (began s b slots e) = subst (λ (x : Book). x .source .threshold ≤ lastThreshold) (begun-is s b e) (unfold begunBook in begun-in s b e)
+  -- what it is of is what a page request may ask for
+  pub begun-fair : {b : Book} {s : List Pair} → Reached w b s → Fair (b .source)
+  begun-fair (began s b slots e) = subst (λ (x : Book). Fair (x .source)) (begun-is s b e) (unfold begunBook in begun-in s b e)
   begun-fair (took {b} {slots} g r h) = rw (same-book-source b slots g) (begun-fair r)
   begun-fair (lent other r h e) = begun-fair r
 

@@ -15,7 +15,7 @@ use Rattle.list.specs.declared.Key.{Key}
 use Rattle.list.specs.declared.Pair.{Pair}
 use Rattle.list.specs.declared.Page.{Page}
 use Rattle.list.specs.Pairs.{ascends}
-use Rattle.list.specs.Pages.{sourceNo, pagePairs}
+use Rattle.list.specs.Pages.{sameKind, sourceNo, pagePairs}
 use Rattle.list.proofs.SourceLaws.{same-source}
 use Rattle.book.specs.declared.Book.{Book}
 use Rattle.book.specs.declared.Decided.{Decided}
@@ -160,6 +160,11 @@ module _ (b : Book) (s : List Pair) (g : Page) where
   -- a closed book takes nothing
   pub closed-no : b .closed ≡ true → takeNo b s g ≡ 0 → ⊥
   closed-no e z = true≢false (sym e ∙ passed z .still-open)
+
+  -- an open book whose slots can hold it refuses a page of another kind by 22
+  pub kind-no : b .held ≤ length s → b .closed ≡ false → sameKind (b .source) (g .source) ≡ false → takeNo b s g ≡ 22
+  unfolding takeNo takeNoAt firstNo sourceNo
+  kind-no room still other = rw (le-ltb (length s) (b .held) room, still, other)
 
   module _ (long : length (g .pairs) ≡ 16) where
     -- slots past those held after the call are never touched

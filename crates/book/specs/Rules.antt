@@ -29,11 +29,22 @@ firstNo (suc n) rest = suc n
 
 -- ---- begin
 
--- 3: an edition out of range; 21 "t outside 0 to 1,000 [..] after [..] 3 for begin"
-unfoldable pub beginNo : Source → ℕ
-beginNo s = cond (not (editionOk (s .«p_edition») && editionOk (s .«q_edition»))) 3 (thresholdNo (s .threshold))
+-- a self join is of one sheet: "3 for a self join of two editions"
+abbrev pub oneSheet : Source → Bool
+oneSheet s = not (s .own) || eqb (s .«p_edition») (s .«q_edition»)
 
--- "A book is begun for two editions with nothing held, open, key (0, 0)." "Pages and books now carry t": it is begun for that too.
+-- a self join has no t
+abbrev pub ownWithT : Source → Bool
+ownWithT s = s .own && not (eqb (s .threshold) 0)
+
+-- 3: an edition out of range, or a self join of two editions; then 21 "t outside 0 to 1,000 [..] after [..] 3 for begin", and for a self join "21 with a t"
+unfoldable pub beginNo : Source → ℕ
+beginNo s =
+    cond (not (editionOk (s .«p_edition») && editionOk (s .«q_edition») && oneSheet s)) 3
+    (cond (ownWithT s) 21
+    (thresholdNo (s .threshold)))
+
+-- "A book is begun for two editions with nothing held, open, key (0, 0)." "Pages and books now carry t" and "say their kind": it is begun for these too.
 unfoldable pub begunBook : Source → Book
 begunBook s = record { held = 0; closed = false; source = s }
 
@@ -109,7 +120,7 @@ pageBad g =
     ltb pageMost (g .count) || not (pairsOk (pagePairs g)) || not (ascends (g .key) (pagePairs g)) || (eqb (g .count) 0 && not (g .end))
 
 -- the number of refusal in the document's order, 0 where the page is taken: for a slice of `len` slots of which the last held one has the key k.
--- 11 held exceeds the slice's length; 12 book closed; 13 page of other editions, 31 of another t; 14 page key is not the book's next key; 15; 16 more pairs than
+-- 11 held exceeds the slice's length; 12 book closed; 22 wrong kind, 13 page of other editions, 31 of another t; 14 page key is not the book's next key; 15; 16 more pairs than
 -- slots left
 unfoldable pub takeNoAt : Book → ℕ → Key → Page → ℕ
 takeNoAt b len k g =

@@ -1,5 +1,6 @@
 -- The world of demand 3: sheets with one edition number hold the same points; pages are not altered or invented; one book, begun empty.
 use mathlib.Core.Path.{_≡_}
+use mathlib.Core.Bool.{cond}
 use mathlib.Core.List.{List}
 use Prim.Native.Nat.{ℕ, zero, suc, _≤_, _<_}
 use lib.ListN.{length, take}
@@ -10,23 +11,27 @@ use Rattle.list.specs.declared.Source.{Source}
 use Rattle.list.specs.declared.Page.{Page}
 use Rattle.list.specs.Pages.{pageOf}
 use Rattle.list.specs.RingList.{thresholdList, Sound}
+use Rattle.list.specs.SelfList.{selfList}
 use Rattle.book.specs.declared.Book.{Book}
 use Rattle.book.specs.declared.Begun.the-variants as begun
 use Rattle.book.specs.Rules.{begunFor, lastKey, taken, takenSlots}
 
--- each edition number has one list of points for P and one for Q, such as sheets hold: their ids ascend strictly, and they stand within 1,000,000
+-- each edition number has one list of points for P, one for Q and one for self joins ("all sheets given to self joins under one edition number hold the same
+-- points"), such as sheets hold: their ids ascend strictly, and they stand within 1,000,000
 pub record World : Type 0 where
   pub pumps : ℕ → List Point
   pub chambers : ℕ → List Point
+  pub assets : ℕ → List Point
   pub pumps-sound : (e : ℕ) → Sound (pumps e)
   pub chambers-sound : (e : ℕ) → Sound (chambers e)
+  pub assets-sound : (e : ℕ) → Sound (assets e)
 
 module _ (w : World) where
-  -- the list of a page or a book: that of its editions and its t
+  -- the list of a page or a book: of a self join that of its edition, else that of its two editions and its t
   abbrev pub listOf : Source → List Pair
-  listOf s = thresholdList (s .threshold) (w .pumps (s .«p_edition»)) (w .chambers (s .«q_edition»))
+  listOf s = cond (s .own) (selfList (w .assets (s .«q_edition»))) (thresholdList (s .threshold) (w .pumps (s .«p_edition»)) (w .chambers (s .«q_edition»)))
 
-  -- a page that answers some request on two sheets of this world
+  -- a page that answers some request on two sheets of this world, or on one of a self join
   pub record Honest (g : Page) : Type 0 where
     pub of : Source
     pub after : Key

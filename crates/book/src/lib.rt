@@ -187,12 +187,17 @@ fn pair_of(g: Page, k: usize) -> Pair
 }
 
 impl Book {
-    // A book of a list, with nothing held; 3 where an edition is out of range, then 21 where the threshold is.
+    // A book of a list, with nothing held; 3 where an edition is out of range or a self join is of two, then 21 where the threshold is, or a self join has one.
     pub fn begin(source: Source) -> Begun
         ensures { λ r. ⌜ r ≡ begunFor source ⌝ }
     {
-        if !(words::is_edition(source.p_edition) & words::is_edition(source.q_edition)) {
+        if !(words::is_edition(source.p_edition)
+            & words::is_edition(source.q_edition)
+            & (!source.own | (source.p_edition == source.q_edition))) {
             return Begun::Refused(3);
+        }
+        if source.own & !(source.threshold == 0) {
+            return Begun::Refused(21);
         }
         let no = list::threshold_no(source.threshold);
         if no != 0 {

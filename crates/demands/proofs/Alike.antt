@@ -24,7 +24,7 @@ use Rattle.book.specs.declared.TakenArray.{TakenArray}
 use Rattle.book.specs.Rules.{takenSlots, lentOf, takenArray}
 use Rattle.runs.specs.declared.RunArray.{RunArray}
 use Rattle.runs.specs.Run as runs
-use Rattle.demands.specs.Promises.{Place, HeadAnswers, PointAnswers, FilterAnswers, RingAnswers, PageAnswers, PartnersAnswers, NextAnswers, TakeAnswers, NextArrayAnswers, TakeArrayAnswers, RunAnswers, RunArrayAnswers, ViewPoints, ViewFilters, ViewRings, ViewPages, ViewPartners, OpenHead, PointOpened, PointThrough, FilterThrough, RingThrough, PageThrough, PartnersThrough}
+use Rattle.demands.specs.Promises.{Place, HeadAnswers, PointAnswers, FilterAnswers, RingAnswers, PageAnswers, PartnersAnswers, NextAnswers, TakeAnswers, NextArrayAnswers, TakeArrayAnswers, RunAnswers, RunArrayAnswers, ViewPoints, ViewFilters, ViewRings, ViewPages, ViewPartners, OpenHead, PointOpened, PointThrough, FilterThrough, RingThrough, PageThrough, PartnersThrough, OwnAnswers, ViewOwnPages, OwnThrough}
 
 -- ---- through a view
 
@@ -39,6 +39,9 @@ view-filter p q j r a = record { κs = ([], ([], tt)); p-at = place (p .words); 
 
 pub view-ring : (p q : Sheet) (j i : ℕ) (r : Walked) → ViewRings p q j i r → RingAnswers (now (p .words)) (now (q .words)) j i r
 view-ring p q j i r a = record { κs = ([], ([], tt)); p-at = place (p .words); q-at = place (q .words); promised = a }
+
+pub view-own-page : (d : Sheet) (key : Key) (size : ℕ) (r : Paged) → ViewOwnPages d key size r → OwnAnswers (now (d .words)) key size r
+view-own-page d key size r a = record { κs = ([], tt); w-at = place (d .words); promised = a }
 
 pub view-partners : (p q : Sheet) (id t : ℕ) (r : Partnered) → ViewPartners p q id t r → PartnersAnswers (now (p .words)) (now (q .words)) id t r
 view-partners p q id t r a = record { κs = ([], ([], tt)); p-at = place (p .words); q-at = place (q .words); promised = a }
@@ -64,6 +67,9 @@ filter-through P np mp Q nq mq j r a = record { κs = a .κs; p-at = a .p-at; q-
 
 pub ring-through : (P : List ℤ) (np mp : ℕ) (Q : List ℤ) (nq mq j i : ℕ) (r : Walked) → RingThrough P np mp Q nq mq j i r → RingAnswers P Q j i r
 ring-through P np mp Q nq mq j i r a = record { κs = a .κs; p-at = a .p-at; q-at = a .q-at; promised = a .promised }
+
+pub own-page-through : (S : List ℤ) (n m : ℕ) (key : Key) (size : ℕ) (r : Paged) → OwnThrough S n m key size r → OwnAnswers S key size r
+own-page-through S n m key size r a = record { κs = a .κs; w-at = a .w-at; promised = a .promised }
 
 pub partners-through : (P : List ℤ) (np mp : ℕ) (Q : List ℤ) (nq mq id t : ℕ) (r : Partnered) → PartnersThrough P np mp Q nq mq id t r → PartnersAnswers P Q id t r
 partners-through P np mp Q nq mq id t r a = record { κs = a .κs; p-at = a .p-at; q-at = a .q-at; promised = a .promised }

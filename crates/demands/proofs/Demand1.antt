@@ -4,7 +4,7 @@
 --
 -- That every input is taken is proofs/Takes. Here is one theorem for each call: the number of its answer is the defined one, 0 where no rule is broken; and an answer with another number is that number and
 -- nothing else. None has a premise but that the call answered. The definitions of the numbers stand in the document's order: `openNo` of sheet/specs/Open,
--- `packNo` of pack/specs/Pack, `pointNo`, `filterNo`, `ringNo` of ring/specs/Numbers, `pageNo` of ring/specs/Page, `partnersNo` of ring/specs/Partners, `beginNo`, `nextNo`, `takeNo` of
+-- `packNo` of pack/specs/Pack, `pointNo`, `filterNo`, `ringNo` of ring/specs/Numbers, `pageNo` of ring/specs/Page, `ownNo` of ring/specs/Own, `partnersNo` of ring/specs/Partners, `beginNo`, `nextNo`, `takeNo` of
 -- book/specs/Rules, `markNo` of marker/specs/Mark, `runNo` of runs/specs/Run, `nearestNo` and `nearFilterNo` of nearest/specs/Nearest. For the calls through views and on arrays see proofs/Alike. What is lent as `&` cannot be written; what is lent as `&mut` (pack, take, leaf_run, nearest, near_filter) is spoken of here.
 -- Assumes nothing.
 use mathlib.Core.Path.{_≡_, refl, sym, ap, subst, _∙_}
@@ -24,6 +24,7 @@ use Rattle.list.specs.declared.Page.{Page}
 use Rattle.ring.specs.Numbers.{pointNo, filterNo, ringNo}
 use Rattle.ring.specs.Answers.{pointedNo, unfiltered, walkedNo}
 use Rattle.ring.specs.Page.{pageNo, pageRefused}
+use Rattle.ring.specs.Own.{ownNo}
 use Rattle.ring.specs.Partners.{partnersNo, partnersRefused}
 use Rattle.ring.specs.declared.Head.{Head}
 use Rattle.ring.specs.declared.Pointed.{Pointed}
@@ -40,6 +41,7 @@ use Rattle.ring.proofs.RingLaws.{ring-refused}
 use Rattle.ring.proofs.PageLaws.{page-refused}
 use Rattle.ring.proofs.Once as of-ring
 use Rattle.ring.proofs.PageLaws as of-page
+use Rattle.ring.proofs.OwnLaws as of-own
 use Rattle.ring.proofs.PartnersLaws as of-partners
 use Rattle.view.specs.declared.Opened.{Opened}
 use Rattle.view.specs.Shown.{shown}
@@ -72,7 +74,7 @@ use Rattle.runs.specs.declared.RunArray.{RunArray}
 use Rattle.runs.specs.Run.{runNo, runRefused, runAnswer, runSlots, lentOf as lentForRun}
 use Rattle.runs.proofs.Once as of-runs
 use Rattle.runs.proofs.Meaning as of-run
-use Rattle.demands.specs.Promises.{OpenAnswers, HeadAnswers, PointAnswers, FilterAnswers, RingAnswers, PageAnswers, ShortAnswers, PackAnswers, MarkAnswers, BeginAnswers, NextAnswers, TakeAnswers, TakeArrayAnswers, RunAnswers, RunArrayAnswers, ViewOpens, PartnersAnswers, NearestAnswers, NearFilterAnswers}
+use Rattle.demands.specs.Promises.{OpenAnswers, HeadAnswers, PointAnswers, FilterAnswers, RingAnswers, PageAnswers, ShortAnswers, PackAnswers, MarkAnswers, BeginAnswers, NextAnswers, TakeAnswers, TakeArrayAnswers, RunAnswers, RunArrayAnswers, ViewOpens, PartnersAnswers, NearestAnswers, NearFilterAnswers, OwnAnswers}
 use Rattle.demands.proofs.Alike.{take-array, take-array-slots, run-array, run-array-slots}
 
 -- the number k is one of refusal
@@ -126,6 +128,13 @@ pub page-no : (P Q : List ℤ) (key : Key) (size t : ℕ) (r : Paged) → PageAn
     → (r .number ≡ pageNo P Q key size t) × (Refuses (pageNo P Q key size t) → r ≡ pageRefused (pageNo P Q key size t))
 page-no P Q key size t r a =
     (ap (λ (x : Paged). x .number) (a .promised) ∙ of-page.page-no P Q key size t, λ ne. a .promised ∙ page-refused P Q key size t (pageNo P Q key size t) refl ne)
+
+-- ---- the page request of a self join, 1 to 8 for its sheet, then 9, then 10: refused, the page is all zero, and so is its count
+
+pub own-no : (S : List ℤ) (key : Key) (size : ℕ) (r : Paged) → OwnAnswers S key size r
+    → (r .number ≡ ownNo S key size) × (Refuses (ownNo S key size) → r ≡ pageRefused (ownNo S key size))
+own-no S key size r a =
+    (ap (λ (x : Paged). x .number) (a .promised) ∙ of-own.own-no S key size, λ ne. a .promised ∙ of-own.own-refused S key size (ownNo S key size) refl ne)
 
 -- ---- the shortest circles, 1 to 8 for P, then for Q, then 10: refused, the number of pairs is 0, and each pair is three zeros
 

@@ -17,6 +17,8 @@
 --     run-pairs          a leaf's run stores the ring pairs of its chambers, by place, then p id, and touches no other slot.  run-exact, run-only: these and no others.  run-order: in this order.  run-size: each with its squared diameter
 --     run-opened         the count beside it is that of the defined walks.  run-at-most-m: its walk of P opens at most the nodes of P
 --     runs-list          a pair is listed exactly if the run of one leaf has it, and then no other leaf's has it.  stored-once: no run has it twice
+--     own-exact          the self join of one sheet: two different records, lower id first, exactly if no other record blocks.  own-only, own-low, own-listed-once: nothing else, never the higher id first, and nothing twice.  own-size: each with its squared diameter
+--     own-pairs          its pages are those of its list.  own-opened: their count is that of its walks.  own-pages: followed from (0, 0) they give it.  own-by-points: it depends on the points alone
 --     return-trip        pack, then open, gives the same points back
 -- Assumes nothing.
 use mathlib.Core.Path.{_≡_, refl, sym, ap, ap₂, subst, _∙_}
@@ -33,6 +35,7 @@ use Rattle.integers.specs.Bools.{decide}
 use Rattle.words.specs.Range.{lastId}
 use Rattle.words.proofs.TabLaws.{at-tab}
 use Rattle.plane.specs.Point.{Point, pointAt, idAt, spotAt}
+use Rattle.plane.specs.Rule.{blocks}
 use Rattle.sheet.specs.Limits.{form1}
 use Rattle.sheet.specs.Layout.{points, nodes, edition}
 use Rattle.sheet.specs.Nodes.{levelOf, countOf}
@@ -48,10 +51,12 @@ use Rattle.list.specs.Pairs.{start, none, after, chamberPairs}
 use Rattle.list.specs.Pages.{pageOf, pagePairs, shown, followed, lastThreshold}
 use Rattle.list.specs.Rows.{Rising}
 use Rattle.list.specs.RingList.{ringPair, sizeOf, pairAt, ringList, thresholdList}
+use Rattle.list.specs.SelfList.{selfPair, selfList}
 use Rattle.list.proofs.PageLaws.{page-shows, shown-member}
 use Rattle.list.specs.Nearest.{Nearest}
 use Rattle.list.proofs.Order.{after-all}
 use Rattle.list.proofs.NearestLaws as of-nearest
+use Rattle.list.proofs.SelfLaws as of-self
 use Rattle.list.proofs.RowLaws.{Placed, ring-ascends, ring-iff, ring-only, ring-size, ring-once}
 use Rattle.list.proofs.ThresholdLaws.{threshold-none, threshold-pairs, threshold-iff, threshold-in}
 use Rattle.walk.specs.declared.Blocker.{Blocker}
@@ -65,10 +70,12 @@ use Rattle.walk.proofs.Meaning as of-walk
 use Rattle.join.specs.Work.{pageOpened}
 use Rattle.join.specs.Sheets.{walksOf}
 use Rattle.join.specs.Threshold.{walksFor, smaller}
+use Rattle.join.specs.Self.{selfWalks}
 use Rattle.join.proofs.Meaning as of-join
 use Rattle.ring.specs.Numbers.{first, sheetsNo, positionNo, pointNo, filterNo, ringNo}
 use Rattle.ring.specs.Answers.{assetOf, filteredTo, walkedClear}
 use Rattle.ring.specs.Page.{sizeNo, sourceOf, pageGiven, pageAnswer}
+use Rattle.ring.specs.Own.{ownSource, ownGiven}
 use Rattle.ring.specs.Partners.{partnersCount, partnersGiven}
 use Rattle.ring.specs.declared.Pointed.{Pointed}
 use Rattle.ring.specs.declared.Pointed.the-variants.{At}
@@ -82,6 +89,7 @@ use Rattle.ring.proofs.FilterLaws.{filter-given}
 use Rattle.ring.proofs.RingLaws.{ring-given}
 use Rattle.ring.proofs.PointLaws.{point-given}
 use Rattle.ring.proofs.PageLaws as of-page
+use Rattle.ring.proofs.OwnLaws as of-own
 use Rattle.ring.proofs.PartnersLaws as of-partners
 use Rattle.pack.specs.Pack.{pointsIn}
 use Rattle.pack.specs.Claims.{Returned}
@@ -95,7 +103,7 @@ use Rattle.runs.specs.Run.{leafNo, runNo, runGiven, runAnswer}
 use Rattle.runs.proofs.DecideLaws.{leaf-here}
 use Rattle.runs.proofs.Meaning as of-run
 use Rattle.runs.proofs.Once as of-runs
-use Rattle.demands.specs.Promises.{OpenAnswers, PointAnswers, FilterAnswers, RingAnswers, PageAnswers, PartnersAnswers, PackAnswers, RunAnswers}
+use Rattle.demands.specs.Promises.{OpenAnswers, PointAnswers, FilterAnswers, RingAnswers, PageAnswers, OwnAnswers, PartnersAnswers, PackAnswers, RunAnswers}
 use Rattle.demands.proofs.ByRow.{InTurn, in-turn}
 
 -- the words are a sheet: "every well-formed sheet"
@@ -464,6 +472,64 @@ module _ (P P′ Q Q′ : List ℤ) (p-opens : WellFormed P) (p-opens′ : WellF
       let f = page-pairs P′ Q′ p-opens′ q-opens′ key size t r′ h b .1 in
       let l = of-join.list-by-points P P′ Q Q′ same-p same-q t (sourceOf P Q t) (sourceOf P′ Q′ t) key size in
       (ap (λ (g : Page). g .pairs) e ∙ l .0 ∙ sym (ap (λ (g : Page). g .pairs) f), ap (λ (g : Page). g .count) e ∙ l .1 ∙ sym (ap (λ (g : Page). g .count) f), ap (λ (g : Page). g .end) e ∙ l .2 ∙ sym (ap (λ (g : Page). g .end) f))
+
+-- ---- the self join of one sheet
+
+-- "pairs of two different records of one sheet, lower id first, in order of lower then higher id, blocked by the other records of that sheet under request 3's rule"
+module _ (S : List ℤ) (opens : WellFormed S) where
+  rise-s : Rising (idAt (pointsOf S)) (length (pointsOf S))
+  rise-s = of-join.points-rise (facts S opens)
+
+  -- Two records, of which the first has the lower id, are listed exactly if no other record of the sheet blocks their pair.
+  pub own-exact : (j i : ℕ) → j < length (pointsOf S) → i < length (pointsOf S) → idAt (pointsOf S) j < idAt (pointsOf S) i
+      → List·Memᴰ (pairAt (pointsOf S) (pointsOf S) j i) (selfList (pointsOf S))
+      ↔ ((k : ℕ) → k < length (pointsOf S) → (k ≡ j → ⊥) → (k ≡ i → ⊥) → blocks (spotAt (pointsOf S) j) (spotAt (pointsOf S) i) (spotAt (pointsOf S) k) ≡ false)
+  own-exact = of-self.self-exact (pointsOf S) rise-s
+
+  -- Nothing else is listed: every listed pair is of two records of the sheet, the lower id first, with the squared diameter of their places.
+  pub own-only : (v : Pair) → List·Memᴰ v (selfList (pointsOf S)) → Placed (selfPair (pointsOf S)) (pairAt (pointsOf S) (pointsOf S)) (length (pointsOf S)) (length (pointsOf S)) v
+  own-only = of-self.self-only (pointsOf S) rise-s
+
+  pub own-low : (v : Pair) → List·Memᴰ v (selfList (pointsOf S)) → v .q < v .p
+  own-low = of-self.self-low (pointsOf S) rise-s
+
+  pub own-size : (v : Pair) → List·Memᴰ v (selfList (pointsOf S)) → (j i : ℕ) → j < length (pointsOf S) → i < length (pointsOf S) → idAt (pointsOf S) j ≡ v .q → idAt (pointsOf S) i ≡ v .p
+      → v .size ≡ sizeOf (spotAt (pointsOf S) j) (spotAt (pointsOf S) i)
+  own-size = of-self.self-size (pointsOf S) rise-s
+
+  -- and nothing twice
+  pub own-listed-once : (a b : ℕ) → a < b → b < length (selfList (pointsOf S)) → getD (selfList (pointsOf S)) a none ≡ getD (selfList (pointsOf S)) b none → ⊥
+  own-listed-once = of-self.self-once (pointsOf S) rise-s
+
+  own-is : (key : Key) (size : ℕ) (r : Paged) → InRange key size 0 → OwnAnswers S key size r → r ≡ ownGiven S key size
+  own-is key size r h a = a .promised ∙ of-own.own-served S key size opens (h .q-in) (h .p-in) (h .some) (h .most)
+
+  -- "Pages, counts, end mark and book work as before, with one edition in both fields and t 0".
+  pub own-pairs : (key : Key) (size : ℕ) (r : Paged) → InRange key size 0 → OwnAnswers S key size r → (r .number ≡ 0) × (r .page ≡ pageOf (ownSource S) (selfList (pointsOf S)) key size)
+  unfolding ownGiven
+  own-pairs key size r h a = let e = own-is key size r h a in (ap (λ (x : Paged). x .number) e, ap (λ (x : Paged). x .page) e)
+
+  -- The count beside the page is that of the defined walks: "the filter passes over q, and kept partners of higher id get one ring walk".
+  pub own-opened : (key : Key) (size : ℕ) (r : Paged) → InRange key size 0 → OwnAnswers S key size r → r .opened ≡ pageOpened (selfWalks 16 S) key size (points S) (points S)
+  unfolding ownGiven
+  own-opened key size r h a = ap (λ (x : Paged). x .opened) (own-is key size r h a)
+
+  -- Following the pages from (0, 0), whatever their sizes from 1 to 16, gives the list.
+  pub own-pages : (ask : Key → ℕ → Paged) → ((key : Key) (size : ℕ) → OwnAnswers S key size (ask key size)) → (sizes : ℕ → ℕ) → ((i : ℕ) → sizeNo (sizes i) ≡ 0)
+      → followed (length (selfList (pointsOf S))) sizes (λ k n. ask k n .page) start ≡ selfList (pointsOf S)
+  own-pages ask a sizes s =
+      ap (λ (f : Key → ℕ → Page). followed (length (selfList (pointsOf S))) sizes f start) (λ i k n. a k n .promised i .page) ∙ of-own.own-list S opens sizes s
+
+-- It depends on the points alone.
+module _ (S S′ : List ℤ) (opens : WellFormed S) (opens′ : WellFormed S′) (same : pointsOf S ≡ pointsOf S′) where
+  pub own-by-points : (key : Key) (size : ℕ) (r r′ : Paged) → InRange key size 0 → OwnAnswers S key size r → OwnAnswers S′ key size r′
+      → (r .page .pairs ≡ r′ .page .pairs) × (r .page .count ≡ r′ .page .count) × (r .page .end ≡ r′ .page .end)
+  unfolding pageOf
+  own-by-points key size r r′ h a b =
+      let e = own-pairs S opens key size r h a .1 in
+      let f = own-pairs S′ opens′ key size r′ h b .1 in
+      let s = ownSource S in
+      (ap (λ (g : Page). g .pairs) e ∙ ap (λ (l : List Point). pageOf s (selfList l) key size .pairs) same ∙ sym (ap (λ (g : Page). g .pairs) f), ap (λ (g : Page). g .count) e ∙ ap (λ (l : List Point). pageOf s (selfList l) key size .count) same ∙ sym (ap (λ (g : Page). g .count) f), ap (λ (g : Page). g .end) e ∙ ap (λ (l : List Point). pageOf s (selfList l) key size .end) same ∙ sym (ap (λ (g : Page). g .end) f))
 
 -- ---- the return trip
 

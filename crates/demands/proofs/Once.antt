@@ -32,6 +32,7 @@ use Rattle.runs.specs.declared.Run.{Run}
 use Rattle.runs.specs.declared.RunArray.{RunArray}
 use Rattle.ring.proofs.Once as of-ring
 use Rattle.ring.proofs.PageLaws as of-page
+use Rattle.ring.proofs.OwnLaws as of-own
 use Rattle.shortest.proofs.AnswerLaws as of-shortest
 use Rattle.ring.proofs.PartnersLaws as of-partners
 use Rattle.nearest.proofs.Meaning as of-nearest
@@ -40,7 +41,7 @@ use Rattle.book.proofs.Once as of-book
 use Rattle.pack.proofs.Once as of-pack
 use Rattle.marker.proofs.Once as of-marker
 use Rattle.runs.proofs.Once as of-runs
-use Rattle.demands.specs.Promises.{OpenAnswers, HeadAnswers, PointAnswers, FilterAnswers, RingAnswers, PageAnswers, ShortAnswers, PackAnswers, MarkAnswers, BeginAnswers, NextAnswers, TakeAnswers, NextArrayAnswers, TakeArrayAnswers, RunAnswers, RunArrayAnswers, ViewOpens, ViewPoints, ViewFilters, ViewRings, ViewPages, OpenHead, PointOpened, PointThrough, FilterThrough, RingThrough, PageThrough, PartnersAnswers, ViewPartners, PartnersThrough, NearestAnswers, NearFilterAnswers}
+use Rattle.demands.specs.Promises.{OpenAnswers, HeadAnswers, PointAnswers, FilterAnswers, RingAnswers, PageAnswers, ShortAnswers, PackAnswers, MarkAnswers, BeginAnswers, NextAnswers, TakeAnswers, NextArrayAnswers, TakeArrayAnswers, RunAnswers, RunArrayAnswers, ViewOpens, ViewPoints, ViewFilters, ViewRings, ViewPages, OpenHead, PointOpened, PointThrough, FilterThrough, RingThrough, PageThrough, PartnersAnswers, ViewPartners, PartnersThrough, NearestAnswers, NearFilterAnswers, OwnAnswers, ViewOwnPages, OwnThrough}
 
 -- ---- ring
 
@@ -61,6 +62,9 @@ ring-once P Q j i r r′ a b = of-ring.ring-once P Q j i r r′ (a .promised) (b
 
 pub page-once : (P Q : List ℤ) (key : Key) (size t : ℕ) (r r′ : Paged) → PageAnswers P Q key size t r → PageAnswers P Q key size t r′ → r ≡ r′
 page-once P Q key size t r r′ a b = of-page.page-once P Q key size t r r′ (a .promised) (b .promised)
+
+pub own-once : (S : List ℤ) (key : Key) (size : ℕ) (r r′ : Paged) → OwnAnswers S key size r → OwnAnswers S key size r′ → r ≡ r′
+own-once S key size r r′ a b = of-own.own-once S key size r r′ (a .promised) (b .promised)
 
 pub partners-once : (P Q : List ℤ) (id t : ℕ) (r r′ : Partnered) → PartnersAnswers P Q id t r → PartnersAnswers P Q id t r′ → r ≡ r′
 partners-once P Q id t r r′ a b = of-partners.partners-once P Q id t r r′ (a .promised) (b .promised)
@@ -130,6 +134,9 @@ view-ring-once p q j i r r′ x y = of-view.ring-once p p q q j i r r′ refl re
 pub view-page-once : (p q : Sheet) (key : Key) (size t : ℕ) (r r′ : Paged) → ViewPages p q key size t r → ViewPages p q key size t r′ → r ≡ r′
 view-page-once p q key size t r r′ x y = of-view.page-once p p q q key size t r r′ refl refl x y
 
+pub view-own-once : (d : Sheet) (key : Key) (size : ℕ) (r r′ : Paged) → ViewOwnPages d key size r → ViewOwnPages d key size r′ → r ≡ r′
+view-own-once d key size r r′ x y = of-view.own-once d d key size r r′ refl x y
+
 pub view-partners-once : (p q : Sheet) (id t : ℕ) (r r′ : Partnered) → ViewPartners p q id t r → ViewPartners p q id t r′ → r ≡ r′
 view-partners-once p q id t r r′ x y = of-view.partners-once p p q q id t r r′ refl refl x y
 
@@ -150,6 +157,9 @@ ring-through-once P np mp Q nq mq j i r r′ a b = of-ring.ring-once P Q j i r r
 
 pub page-through-once : (P : List ℤ) (np mp : ℕ) (Q : List ℤ) (nq mq : ℕ) (key : Key) (size t : ℕ) (r r′ : Paged) → PageThrough P np mp Q nq mq key size t r → PageThrough P np mp Q nq mq key size t r′ → r ≡ r′
 page-through-once P np mp Q nq mq key size t r r′ a b = of-page.page-once P Q key size t r r′ (a .promised) (b .promised)
+
+pub own-through-once : (S : List ℤ) (n m : ℕ) (key : Key) (size : ℕ) (r r′ : Paged) → OwnThrough S n m key size r → OwnThrough S n m key size r′ → r ≡ r′
+own-through-once S n m key size r r′ a b = of-own.own-once S key size r r′ (a .promised) (b .promised)
 
 pub partners-through-once : (P : List ℤ) (np mp : ℕ) (Q : List ℤ) (nq mq id t : ℕ) (r r′ : Partnered) → PartnersThrough P np mp Q nq mq id t r → PartnersThrough P np mp Q nq mq id t r′ → r ≡ r′
 partners-through-once P np mp Q nq mq id t r r′ a b = of-partners.partners-once P Q id t r r′ (a .promised) (b .promised)

@@ -59,6 +59,7 @@ use Rattle.ffi.proofs.ring_point.Reads as point-c
 use Rattle.ffi.proofs.ring_filter_walk.Reads as filter-c
 use Rattle.ffi.proofs.ring_pair_walk.Reads as walk-c
 use Rattle.ffi.proofs.ring_page.Reads as page-c
+use Rattle.ffi.proofs.ring_own_page.Reads as own-c
 use Rattle.ffi.proofs.ring_shortest.Reads as shortest-c
 use Rattle.ffi.proofs.ring_partners.Reads as partners-c
 use Rattle.ffi.proofs.ring_nearest.Reads as nearest-c
@@ -68,8 +69,8 @@ use Rattle.ffi.proofs.ring_marker.Reads as mark-c
 use Rattle.ffi.proofs.ring_book_next_key as next-c
 use Rattle.ffi.proofs.ring_book_take as take-c
 use Rattle.ffi.proofs.ring_leaf_run as run-c
-use Rattle.demands.specs.Promises.{Place, slice, HeadAnswers, PointAnswers, FilterAnswers, RingAnswers, PageAnswers, ShortAnswers, PackAnswers, MarkAnswers, BeginAnswers, NextAnswers, TakeAnswers, RunAnswers, PartnersAnswers, NearestAnswers, NearFilterAnswers}
-use Rattle.demands.specs.OverC.{OpenC, PackC, PointC, FilterC, WalkC, PageC, ShortC, BeginC, MarkC, NextC, PartnersC, NearestC, NearFilterC}
+use Rattle.demands.specs.Promises.{Place, slice, HeadAnswers, PointAnswers, FilterAnswers, RingAnswers, PageAnswers, ShortAnswers, PackAnswers, MarkAnswers, BeginAnswers, NextAnswers, TakeAnswers, RunAnswers, PartnersAnswers, NearestAnswers, NearFilterAnswers, OwnAnswers}
+use Rattle.demands.specs.OverC.{OpenC, PackC, PointC, FilterC, WalkC, PageC, ShortC, BeginC, MarkC, NextC, PartnersC, NearestC, NearFilterC, OwnC}
 use Rattle.demands.proofs.Once as once
 
 -- ---- every input is taken
@@ -94,6 +95,9 @@ page-c-takes κs a = tt
 
 pub shortest-c-takes : (κs : Lfts 2) (a : _) → shortest-c.Asked κs a
 shortest-c-takes κs a = tt
+
+pub own-c-takes : (κs : Lfts 1) (a : _) → own-c.Asked κs a
+own-c-takes κs a = tt
 
 pub partners-c-takes : (κs : Lfts 2) (a : _) → partners-c.Asked κs a
 partners-c-takes κs a = tt
@@ -146,6 +150,9 @@ pack-over n points order ed out r out′ a = record { κs = a .κs; p-at = a .p-
 
 pub filter-over : (P Q : List ℤ) (j : ℕ) (r : Filtered) → FilterC P Q j r → FilterAnswers P Q j r
 filter-over P Q j r a = record { κs = a .κs; p-at = a .p-at; q-at = a .q-at; promised = a .promised }
+
+pub own-over : (S : List ℤ) (key : Key) (size : ℕ) (r : Paged) → OwnC S key size r → OwnAnswers S key size r
+own-over S key size r a = record { κs = a .κs; w-at = a .w-at; promised = a .promised }
 
 pub partners-over : (P Q : List ℤ) (id t : ℕ) (r : Partnered) → PartnersC P Q id t r → PartnersAnswers P Q id t r
 partners-over P Q id t r a = record { κs = a .κs; p-at = a .p-at; q-at = a .q-at; promised = a .promised }
@@ -241,6 +248,9 @@ walk-c-once P Q j i r r′ a b = a .promised ∙ sym (b .promised)
 
 pub page-c-once : (P Q : List ℤ) (key : Key) (size t : ℕ) (r r′ : Paged) → PageC P Q key size t r → PageC P Q key size t r′ → r ≡ r′
 page-c-once P Q key size t r r′ a b = once.page-once P Q key size t r r′ (page-over P Q key size t r a) (page-over P Q key size t r′ b)
+
+pub own-c-once : (S : List ℤ) (key : Key) (size : ℕ) (r r′ : Paged) → OwnC S key size r → OwnC S key size r′ → r ≡ r′
+own-c-once S key size r r′ a b = once.own-once S key size r r′ (own-over S key size r a) (own-over S key size r′ b)
 
 pub partners-c-once : (P Q : List ℤ) (id t : ℕ) (r r′ : Partnered) → PartnersC P Q id t r → PartnersC P Q id t r′ → r ≡ r′
 partners-c-once P Q id t r r′ a b = once.partners-once P Q id t r r′ (partners-over P Q id t r a) (partners-over P Q id t r′ b)

@@ -36,8 +36,9 @@ use Rattle.view.proofs.point_at as view-point
 use Rattle.view.proofs.filter_walk_at as view-filter
 use Rattle.view.proofs.ring_walk_at as view-ring
 use Rattle.view.proofs.page_at as view-page
+use Rattle.view.proofs.own_page_at as view-own-page
 use Rattle.view.proofs.partners_at as view-partners
-use Rattle.demands.specs.Promises.{Place, slice, NextAnswers, TakeAnswers, RunAnswers, ViewOpens, ViewPoints, ViewFilters, ViewRings, ViewPages, ViewPartners}
+use Rattle.demands.specs.Promises.{Place, slice, NextAnswers, TakeAnswers, RunAnswers, ViewOpens, ViewPoints, ViewFilters, ViewRings, ViewPages, ViewPartners, ViewOwnPages}
 
 module _ {M : Type 1} (𝓤 : URA M) (H : Heap 𝓤) (A : Atoms 𝓤) (mem : Memory → SProp 𝓤) (run : Routine → Fun 𝓤) where
   pub next-key-says : (κs : Lfts 1) (l : Place) (b : Book) (s : List Pair) (r : Asked)
@@ -75,6 +76,10 @@ module _ {M : Type 1} (𝓤 : URA M) (H : Heap 𝓤) (A : Atoms 𝓤) (mem : Mem
       → view-page.ensures-1 𝓤 H κs A mem run p q key size t (record { entry = p; exit = p }) (record { entry = q; exit = q }) (record { entry = key; exit = key }) (record { entry = size; exit = size }) (record { entry = t; exit = t }) r
       ≡ fact 𝓤 (ViewPages p q key size t r)
   view-page-says κs p q key size t r = refl
+
+  pub view-own-page-says : (κs : Lfts 1) (d : Sheet) (key : Key) (size : ℕ) (r : Paged)
+      → view-own-page.ensures-1 𝓤 H κs A mem run d key size (record { entry = d; exit = d }) (record { entry = key; exit = key }) (record { entry = size; exit = size }) r ≡ fact 𝓤 (ViewOwnPages d key size r)
+  view-own-page-says κs d key size r = refl
 
   pub view-partners-says : (κs : Lfts 2) (p q : Sheet) (id t : ℕ) (r : Partnered)
       → view-partners.ensures-1 𝓤 H κs A mem run p q id t (record { entry = p; exit = p }) (record { entry = q; exit = q }) (record { entry = id; exit = id }) (record { entry = t; exit = t }) r

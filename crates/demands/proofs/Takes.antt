@@ -16,6 +16,7 @@ use Rattle.ring.proofs.point.point.Reads as point
 use Rattle.ring.proofs.filter.filter_walk.Reads as filter-walk
 use Rattle.ring.proofs.ringwalk.ring_walk.Reads as ring-walk
 use Rattle.ring.proofs.page.page.Reads as page
+use Rattle.ring.proofs.own.own_page.Reads as own-page
 use Rattle.shortest.proofs.shortest.Reads as shortest
 use Rattle.ring.proofs.partners.partners.Reads as partners
 use Rattle.nearest.proofs.nearest.Reads as nearest
@@ -32,6 +33,7 @@ use Rattle.view.proofs.point_through.Reads as point-through
 use Rattle.view.proofs.filter_walk_through.Reads as filter-walk-through
 use Rattle.view.proofs.ring_walk_through.Reads as ring-walk-through
 use Rattle.view.proofs.page_through.Reads as page-through
+use Rattle.view.proofs.own_page_through.Reads as own-page-through
 use Rattle.view.proofs.partners_through.Reads as partners-through
 use Rattle.book.proofs.Book.next_key as next-key
 use Rattle.book.proofs.Book.take as take
@@ -41,6 +43,7 @@ use Rattle.view.proofs.point_at as view-point
 use Rattle.view.proofs.filter_walk_at as view-filter
 use Rattle.view.proofs.ring_walk_at as view-ring
 use Rattle.view.proofs.page_at as view-page
+use Rattle.view.proofs.own_page_at as view-own-page
 use Rattle.view.proofs.partners_at as view-partners
 
 pub open-no-takes : (κs : Lfts 1) (a : _) → open-no.Asked κs a
@@ -63,6 +66,9 @@ page-takes κs a = tt
 
 pub shortest-takes : (κs : Lfts 2) (a : _) → shortest.Asked κs a
 shortest-takes κs a = tt
+
+pub own-page-takes : (κs : Lfts 1) (a : _) → own-page.Asked κs a
+own-page-takes κs a = tt
 
 pub partners-takes : (κs : Lfts 2) (a : _) → partners.Asked κs a
 partners-takes κs a = tt
@@ -109,6 +115,9 @@ ring-walk-through-takes κs a = tt
 pub page-through-takes : (κs : Lfts 2) (a : _) → page-through.Asked κs a
 page-through-takes κs a = tt
 
+pub own-page-through-takes : (κs : Lfts 1) (a : _) → own-page-through.Asked κs a
+own-page-through-takes κs a = tt
+
 pub partners-through-takes : (κs : Lfts 2) (a : _) → partners-through.Asked κs a
 partners-through-takes κs a = tt
 
@@ -136,6 +145,9 @@ module _ {M : Type 1} (𝓤 : URA M) (H : Heap 𝓤) (A : Atoms 𝓤) (mem : Mem
 
   pub view-page-takes : (κs : Lfts 2) (a : _) → view-page.clauses 𝓤 H A mem run κs a .requires tt ≡ emp 𝓤
   view-page-takes κs a = refl
+
+  pub view-own-page-takes : (κs : Lfts 1) (a : _) → view-own-page.clauses 𝓤 H A mem run κs a .requires tt ≡ emp 𝓤
+  view-own-page-takes κs a = refl
 
   pub view-partners-takes : (κs : Lfts 2) (a : _) → view-partners.clauses 𝓤 H A mem run κs a .requires tt ≡ emp 𝓤
   view-partners-takes κs a = refl

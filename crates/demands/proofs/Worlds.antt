@@ -24,4 +24,4 @@ unfolding form1 editionWord eqZ within num allB rootWord countsOk layoutOk trail
 empty-opens = refl
 
 pub emptyWorld : Editions
-emptyWorld = record { pumps = λ e. emptySheet; chambers = λ e. emptySheet; pumps-open = λ e. empty-opens; chambers-open = λ e. empty-opens }
+emptyWorld = record { pumps = λ e. emptySheet; chambers = λ e. emptySheet; assets = λ e. emptySheet; pumps-open = λ e. empty-opens; chambers-open = λ e. empty-opens; assets-open = λ e. empty-opens }

@@ -28,6 +28,7 @@ use Rattle.ffi.proofs.ring_point.Reads as point-c
 use Rattle.ffi.proofs.ring_filter_walk.Reads as filter-c
 use Rattle.ffi.proofs.ring_pair_walk.Reads as walk-c
 use Rattle.ffi.proofs.ring_page.Reads as page-c
+use Rattle.ffi.proofs.ring_own_page.Reads as own-c
 use Rattle.ffi.proofs.ring_shortest.Reads as shortest-c
 use Rattle.ffi.proofs.ring_partners.Reads as partners-c
 use Rattle.ffi.proofs.ring_nearest.Reads as nearest-c
@@ -79,6 +80,12 @@ pub record PageC (P Q : List ℤ) (key : Key) (size t : ℕ) (r : Paged) : Type 
   pub p-at : Place
   pub q-at : Place
   pub promised : page-c.Post κs (slice p-at P, (slice q-at Q, (key, (size, (t, tt))))) r (slice p-at P, (slice q-at Q, (key, (size, (t, tt)))))
+
+-- `ring_own_page(S, key, size)` answers r
+pub record OwnC (S : List ℤ) (key : Key) (size : ℕ) (r : Paged) : Type 0 where
+  pub κs : Lfts 1
+  pub w-at : Place
+  pub promised : own-c.Post κs (slice w-at S, (key, (size, tt))) r (slice w-at S, (key, (size, tt)))
 
 -- `ring_partners(P, Q, id, t)` answers r
 pub record PartnersC (P Q : List ℤ) (id t : ℕ) (r : Partnered) : Type 0 where

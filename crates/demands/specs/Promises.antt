@@ -3,7 +3,7 @@
 --
 -- `Post` of a call is its `ensures`, read as a plain claim: of the lifetimes κs of what is lent, the arguments, the answer, and the arguments at exit.
 -- Words and slots that are lent are lists that stand at some place of memory, and no promise depends on the place.
--- The calls over slices of records (`Book::next_key`, `Book::take`, `runs::leaf_run`) and over views (`view::open`, `point_at`, `filter_walk_at`, `ring_walk_at`, `page_at`, `partners_at`) have no such reading.
+-- The calls over slices of records (`Book::next_key`, `Book::take`, `runs::leaf_run`) and over views (`view::open`, `point_at`, `filter_walk_at`, `ring_walk_at`, `page_at`, `own_page_at`, `partners_at`) have no such reading.
 -- Theirs is stated here, and proofs/Says shows that it is their `ensures`, word for word.
 use mathlib.Core.Path.{_≡_}
 use mathlib.Core.List.{List}
@@ -19,6 +19,7 @@ use Rattle.list.specs.declared.Source.{Source}
 use Rattle.list.specs.declared.Page.{Page}
 use Rattle.ring.specs.Answers.{pointed, filtered, walked}
 use Rattle.ring.specs.Page.{pageAnswer}
+use Rattle.ring.specs.Own.{ownAnswer}
 use Rattle.ring.specs.Partners.{partnersAnswer}
 use Rattle.ring.specs.declared.Head.{Head}
 use Rattle.ring.specs.declared.Pointed.{Pointed}
@@ -47,6 +48,7 @@ use Rattle.ring.proofs.point.point.Reads as point
 use Rattle.ring.proofs.filter.filter_walk.Reads as filter-walk
 use Rattle.ring.proofs.ringwalk.ring_walk.Reads as ring-walk
 use Rattle.ring.proofs.page.page.Reads as page
+use Rattle.ring.proofs.own.own_page.Reads as own-page
 use Rattle.shortest.proofs.shortest.Reads as shortest
 use Rattle.ring.proofs.partners.partners.Reads as partners
 use Rattle.nearest.proofs.nearest.Reads as nearest
@@ -63,6 +65,7 @@ use Rattle.view.proofs.point_through.Reads as point-through
 use Rattle.view.proofs.filter_walk_through.Reads as filter-walk-through
 use Rattle.view.proofs.ring_walk_through.Reads as ring-walk-through
 use Rattle.view.proofs.page_through.Reads as page-through
+use Rattle.view.proofs.own_page_through.Reads as own-page-through
 use Rattle.view.proofs.partners_through.Reads as partners-through
 
 -- where something that is lent stands: its address, and the name by which its contents are followed
@@ -114,6 +117,12 @@ pub record PageAnswers (P Q : List ℤ) (key : Key) (size t : ℕ) (r : Paged) :
   pub p-at : Place
   pub q-at : Place
   pub promised : page.Post κs (slice p-at P, (slice q-at Q, (key, (size, (t, tt))))) r (slice p-at P, (slice q-at Q, (key, (size, (t, tt)))))
+
+-- `ring::own::own_page(S, key, size)` answers r
+pub record OwnAnswers (S : List ℤ) (key : Key) (size : ℕ) (r : Paged) : Type 0 where
+  pub κs : Lfts 1
+  pub w-at : Place
+  pub promised : own-page.Post κs (slice w-at S, (key, (size, tt))) r (slice w-at S, (key, (size, tt)))
 
 -- `ring::partners::partners(P, Q, id, t)` answers r
 pub record PartnersAnswers (P Q : List ℤ) (id t : ℕ) (r : Partnered) : Type 0 where
@@ -232,6 +241,10 @@ ViewRings p q j i r = r ≡ walked (now (p .words)) (now (q .words)) j i
 abbrev pub ViewPages : Sheet → Sheet → Key → ℕ → ℕ → Paged → Type 0
 ViewPages p q key size t r = r ≡ pageAnswer (now (p .words)) (now (q .words)) key size t
 
+-- `view::own_page_at(d, key, size)` answers r
+abbrev pub ViewOwnPages : Sheet → Key → ℕ → Paged → Type 0
+ViewOwnPages d key size r = r ≡ ownAnswer (now (d .words)) key size
+
 -- `view::partners_at(p, q, id, t)` answers r
 abbrev pub ViewPartners : Sheet → Sheet → ℕ → ℕ → Partnered → Type 0
 ViewPartners p q id t r = r ≡ partnersAnswer (now (p .words)) (now (q .words)) id t
@@ -282,6 +295,12 @@ pub record PageThrough (P : List ℤ) (np mp : ℕ) (Q : List ℤ) (nq mq : ℕ)
       (slice p-at P, (np, (mp, (slice q-at Q, (nq, (mq, (key, (size, (t, tt)))))))))
       r
       (slice p-at P, (np, (mp, (slice q-at Q, (nq, (mq, (key, (size, (t, tt)))))))))
+
+-- `view::own_page_through(S, n, m, key, size)` answers r
+pub record OwnThrough (S : List ℤ) (n m : ℕ) (key : Key) (size : ℕ) (r : Paged) : Type 0 where
+  pub κs : Lfts 1
+  pub w-at : Place
+  pub promised : own-page-through.Post κs (slice w-at S, (n, (m, (key, (size, tt))))) r (slice w-at S, (n, (m, (key, (size, tt)))))
 
 -- `view::partners_through(P, np, mp, Q, nq, mq, id, t)` answers r
 pub record PartnersThrough (P : List ℤ) (np mp : ℕ) (Q : List ℤ) (nq mq id t : ℕ) (r : Partnered) : Type 0 where

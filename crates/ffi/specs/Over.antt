@@ -49,7 +49,7 @@ walkOver (walked.Refused k) = record { number = k; kind = 0; set = 0; side = 0; 
 abbrev pub bookOver : Begun → BookAnswer
 bookOver (begun.Open b) = record { number = 0; book = b }
 bookOver (begun.Refused k) =
-    record { number = k; book = record { held = 0; closed = false; source = record { «p_edition» = 0; «q_edition» = 0; threshold = 0 } } }
+    record { number = k; book = record { held = 0; closed = false; source = record { «p_edition» = 0; «q_edition» = 0; threshold = 0; own = false } } }
 
 -- the next key: 0 and the key, or the number and (0, 0); with either the book, as it went in
 abbrev pub nextOver : Next → Book → KeyAnswer

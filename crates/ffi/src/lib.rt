@@ -19,6 +19,7 @@ ghost use Rattle.sheet.specs.Limits.{form1};
 ghost use Rattle.pack.specs.Pack.{packNo, packOut};
 ghost use Rattle.ring.specs.Answers.{headOf, pointed, filtered, walked};
 ghost use Rattle.ring.specs.Page.{pageAnswer};
+ghost use Rattle.ring.specs.Own.{ownAnswer};
 ghost use Rattle.shortest.specs.Answer.{shortAnswer};
 ghost use Rattle.ring.specs.Partners.{partnersAnswer};
 ghost use Rattle.book.specs.Rules.{begunFor, asked, taken, takenSlots};
@@ -153,6 +154,7 @@ fn of_begun(v: book::Begun) -> BookAnswer
                     p_edition: 0,
                     q_edition: 0,
                     threshold: 0,
+                    own: false,
                 },
             },
         },
@@ -264,6 +266,14 @@ pub extern "C" fn ring_shortest(p: &[i32], q: &[i32], k: usize) -> Shortlist
     shortest::shortest(p, q, k)
 }
 
+// The page of the first `size` pairs after a key of the self join of one sheet, lower id first: 0, or 1 to 8, 9, 10.
+#[no_mangle]
+pub extern "C" fn ring_own_page(words: &[i32], key: Key, size: usize) -> Paged
+    ensures { λ r. ⌜ r ≡ ownAnswer (now (words .entry)) key size ⌝ }
+{
+    ring::own::own_page(words, key, size)
+}
+
 // The smaller of t and the number of ring partners of the chamber with this id, and whether that is t: 0, or 1 to 8 of P, of Q, 20, 21.
 #[no_mangle]
 pub extern "C" fn ring_partners(p: &[i32], q: &[i32], id: u32, t: u32) -> Partnered
@@ -294,7 +304,7 @@ pub extern "C" fn ring_near_filter(p: &[i32], q: &[i32], id: u32, waiting: &mut 
     nearest::near_filter(p, q, id, waiting)
 }
 
-// A book of two editions and a threshold with nothing held: 0, or 3, 21.
+// A book of two editions, a threshold and a kind with nothing held: 0, or 3, 21.
 #[no_mangle]
 pub extern "C" fn ring_book_begin(source: Source) -> BookAnswer
     ensures { λ r. ⌜ r ≡ bookOver (begunFor source) ⌝ }
@@ -318,7 +328,7 @@ pub extern "C" fn ring_book_next_key(b: Book, slots: &[Pair]) -> KeyAnswer
     of_asked(b.next_key(slots))
 }
 
-// A page's pairs are appended in the lent slots and the book goes on: 0, or 11, 12, 13, 31, 14 to 16 with the slots and the book as they were.
+// A page's pairs are appended in the lent slots and the book goes on: 0, or 11, 12, 22, 13, 31, 14 to 16 with the slots and the book as they were.
 #[no_mangle]
 pub extern "C" fn ring_book_take(b: Book, slots: &mut [Pair], page: Page) -> Taken
     ensures { λ r. ⌜ (r ≡ taken b (now (slots .entry)) page) × (now (slots .exit) ≡ takenSlots b (now (slots .entry)) page) ⌝ }

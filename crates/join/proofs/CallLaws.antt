@@ -1,6 +1,6 @@
 -- What the page maker's functions find, from what their calls answered: laws over plain values.
 -- Assumes nothing.
-use mathlib.Core.Path.{_≡_, sym, ap, _∙_}
+use mathlib.Core.Path.{_≡_, refl, sym, ap, _∙_}
 use mathlib.Core.Bool.{Bool, true, false, cond, not, _&&_}
 use mathlib.Core.List.{List}
 use Prim.Native.Nat.{ℕ, _+_, _*_, _≤_, _<_}
@@ -29,11 +29,12 @@ use Rattle.list.specs.Pairs.{keyOf, follows}
 use Rattle.list.specs.RingList.{pairAt}
 use Rattle.join.specs.declared.Draft.{Draft}
 use Rattle.join.specs.declared.Tried.{Tried}
+use Rattle.join.specs.Walks.{Walks}
 use Rattle.join.specs.Work.{firstFrom}
 use Rattle.join.specs.Maker.{spent, found, withTried, tried, partners, chamber}
 use Rattle.join.specs.Sheets.{walksOf}
 use Rattle.join.specs.Threshold.{ringOpened, walksFor, onWords}
-use Rattle.join.proofs.TurnLaws.{Capped, Words}
+use Rattle.join.proofs.TurnLaws.{Capped, Words, all-words}
 use Rattle.join.proofs.ThresholdLaws.{ring-few}
 
 -- ---- the first chamber from the key on: none of the first j is one
@@ -60,22 +61,21 @@ module _ (qid : ℕ → ℕ) (key : Key) where
 pub late-is : (P Q : List ℤ) (key : Key) (j i a b : ℕ) → a ≡ idAt (pointsOf Q) j → b ≡ idAt (pointsOf P) i → (t : Bool) → t ≡ follows key (record { q = a; p = b }) → t ≡ follows key (keyOf (pairAt (pointsOf P) (pointsOf Q) j i))
 late-is P Q key j i a b ea eb t et = et ∙ ap (follows key) (λ s. record { q = ea s; p = eb s })
 
-module _ (P Q : List ℤ) (key : Key) (j i : ℕ) (t : Bool) (et : t ≡ follows key (keyOf (pairAt (pointsOf P) (pointsOf Q) j i))) where
-  pub tried-early : not t ≡ true → (words : ℕ) → record { finds = false; opened = 0 } ≡ tried (walksOf words P Q) key j i
+module _ (w : Walks) (key : Key) (j i : ℕ) (t : Bool) (et : t ≡ follows key (keyOf (w .pair j i))) where
+  pub tried-early : not t ≡ true → record { finds = false; opened = 0 } ≡ tried w key j i
   unfolding tried
-  tried-early n words =
-      let f : follows key (keyOf (pairAt (pointsOf P) (pointsOf Q) j i)) ≡ false = sym et ∙ not-true t n in
-      let x : false ≡ (follows key (keyOf (pairAt (pointsOf P) (pointsOf Q) j i)) && clear (pairWalk P Q j i .hit)) = sym (ap (λ (y : Bool). y && clear (pairWalk P Q j i .hit)) f) in
-      let z : 0 ≡ cond (follows key (keyOf (pairAt (pointsOf P) (pointsOf Q) j i))) (pairWalk P Q j i .opened) 0 = sym (ap (λ (y : Bool). cond y (pairWalk P Q j i .opened) 0) f) in
+  tried-early n =
+      let f : follows key (keyOf (w .pair j i)) ≡ false = sym et ∙ not-true t n in
+      let x : false ≡ (follows key (keyOf (w .pair j i)) && w .clear j i) = sym (ap (λ (y : Bool). y && w .clear j i) f) in
+      let z : 0 ≡ cond (follows key (keyOf (w .pair j i))) (w .clearOpened j i) 0 = sym (ap (λ (y : Bool). cond y (w .clearOpened j i) 0) f) in
       λ s. record { finds = x s; opened = z s }
 
-  pub tried-walked : not t ≡ false → (o : Answer) → o ≡ pairWalk P Q j i → (c : Bool) → c ≡ clear (o .hit) → (words : ℕ)
-      → record { finds = c; opened = o .opened } ≡ tried (walksOf words P Q) key j i
+  pub tried-walked : not t ≡ false → (c : Bool) (o : ℕ) → c ≡ w .clear j i → o ≡ w .clearOpened j i → record { finds = c; opened = o } ≡ tried w key j i
   unfolding tried
-  tried-walked n o eo c ec words =
-      let f : follows key (keyOf (pairAt (pointsOf P) (pointsOf Q) j i)) ≡ true = sym et ∙ not-false t n in
-      let x : c ≡ (follows key (keyOf (pairAt (pointsOf P) (pointsOf Q) j i)) && clear (pairWalk P Q j i .hit)) = ec ∙ ap (λ (y : Answer). clear (y .hit)) eo ∙ sym (ap (λ (y : Bool). y && clear (pairWalk P Q j i .hit)) f) in
-      let z : o .opened ≡ cond (follows key (keyOf (pairAt (pointsOf P) (pointsOf Q) j i))) (pairWalk P Q j i .opened) 0 = ap (λ (y : Answer). y .opened) eo ∙ sym (ap (λ (y : Bool). cond y (pairWalk P Q j i .opened) 0) f) in
+  tried-walked n c o ec eo =
+      let f : follows key (keyOf (w .pair j i)) ≡ true = sym et ∙ not-false t n in
+      let x : c ≡ (follows key (keyOf (w .pair j i)) && w .clear j i) = ec ∙ sym (ap (λ (y : Bool). y && w .clear j i) f) in
+      let z : o ≡ cond (follows key (keyOf (w .pair j i))) (w .clearOpened j i) 0 = eo ∙ sym (ap (λ (y : Bool). cond y (w .clearOpened j i) 0) f) in
       λ s. record { finds = x s; opened = z s }
 
 pub with-yes : (size : ℕ) (v w : Pair) (t u : Tried) (d r : Draft) → v ≡ w → t ≡ u → t .finds ≡ true → r ≡ found size v (spent (t .opened) d) → r ≡ withTried size w u d
@@ -104,8 +104,11 @@ on-words ws P Q = record { filter = λ j. omega arith; ring = λ j i. omega arit
 
 -- ---- the words of the filter walk, and room
 
-pub words-of : (P Q : List ℤ) (j : ℕ) (ws : List ℕ) → ws ≡ filterKept (length ws) P (spotOf Q j) .bits → Words (walksOf (length ws) P Q) j ws
-words-of P Q j ws e i = ap (λ (x : List ℕ). kept x i) (sym e)
+pub words-of : (P Q : List ℤ) (j : ℕ) (ws : List ℕ) → ws ≡ filterKept (length ws) P (spotOf Q j) .bits → Words (walksOf (length ws) P Q) j 0 ws
+words-of P Q j ws e = all-words (walksOf (length ws) P Q) j ws (λ i. ap (λ (x : List ℕ). kept x i) (sym e))
+
+pub words-on : (P Q : List ℤ) (j : ℕ) (ws : List ℕ) → Words (onWords ws P Q) j 0 ws
+words-on P Q j ws = all-words (onWords ws P Q) j ws (λ i. refl)
 
 module _ (P Q : List ℤ) (j : ℕ) (z : Spot) (ez : z ≡ spotOf Q j) (b : ℕ) where
   pub words-are : (ws : List ℕ) → length ws ≡ b → ws ≡ filterKept b P z .bits → ws ≡ filterKept (length ws) P (spotOf Q j) .bits

@@ -6,6 +6,7 @@
 --     ThresholdLaws the walks of a page of t, and a chamber of it
 --     CountLaws     a chamber's ring partners: those that stay kept, and how many they are
 --     Meaning      the theorems: `page-pairs`, `page-opened`, `list-by-points`
+--     OwnLaws      the page maker of a self join: `own-pairs`, `own-opened`
 pub mod MakerLaws
 pub mod WorkLaws
 pub mod TurnLaws
@@ -13,3 +14,4 @@ pub mod CallLaws
 pub mod ThresholdLaws
 pub mod CountLaws
 pub mod Meaning
+pub mod OwnLaws

@@ -47,7 +47,7 @@ module _ {w : List ℤ} {n m : ℕ} (o : Opens w n m) where
   pub points-rise : Rising (idAt (pointsOf w)) (length (pointsOf w))
   points-rise = record { rises = id-rises o; low = id-low o; high = id-high o }
 
-  ids-rise : Rising (idAt (pointsOf w)) n
+  pub ids-rise : Rising (idAt (pointsOf w)) n
   ids-rise = subst (Rising (idAt (pointsOf w))) (length-points w ∙ o .n-is) points-rise
 
 -- the points of a sheet of form 1 are sound: their ids ascend strictly, and they stand within 1,000,000

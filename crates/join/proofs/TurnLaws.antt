@@ -27,9 +27,13 @@ pub record Capped (w : Walks) (a b : ℕ) : Type 0 where
   pub filter : (j : ℕ) → w .keptOpened j ≤ a
   pub ring : (j i : ℕ) → w .clearOpened j i ≤ b
 
--- words that hold what is kept for the q at j
-abbrev pub Words : Walks → ℕ → List ℕ → Type 0
-Words w j ws = (i : ℕ) → w .kept j i ≡ kept ws i
+-- words that hold what is kept for the q at j, from position a on; before it nothing is
+pub record Words (w : Walks) (j a : ℕ) (ws : List ℕ) : Type 0 where
+  pub early : (i : ℕ) → i < a → w .kept j i ≡ false
+  pub held : (i : ℕ) → a ≤ i → w .kept j i ≡ kept ws i
+
+pub all-words : (w : Walks) (j : ℕ) (ws : List ℕ) → ((i : ℕ) → w .kept j i ≡ kept ws i) → Words w j 0 ws
+all-words w j ws e = record { early = λ i h. absurd (omega arith); held = λ i h. e i }
 
 -- one factor less
 step-mul : (i u b : ℕ) → i < u → i * b + b ≤ u * b
@@ -93,8 +97,18 @@ module _ (w : Walks) (key : Key) (size : ℕ) where
       (decide (ltb i n)))
       (decide (d .more))
 
-  partners-next : (j n : ℕ) (d : Draft) (ws : List ℕ) → Words w j ws → (i u : ℕ) → u ≡ nextFrom ws i → partners w key size j (n - i) i d ≡ partners w key size j (n - u) u d
-  partners-next j n d ws s i u e = from-skip ws (λ (t : ℕ). partners w key size j (n - t) t d) (λ t f. partners-pass j n d t (s t ∙ f)) i u e
+  partners-next : (j n a : ℕ) (d : Draft) (ws : List ℕ) → Words w j a ws → (i u : ℕ) → u ≡ nextFrom ws i → partners w key size j (n - i) i d ≡ partners w key size j (n - u) u d
+  partners-next j n a d ws s i u e = from-skip ws (λ (t : ℕ). partners w key size j (n - t) t d) (λ t f. partners-pass j n d t (not-kept t f)) i u e
+    where
+      not-kept : (t : ℕ) → kept ws t ≡ false → w .kept j t ≡ false
+      not-kept t f = ⊎-elim (λ (h : ltb t a ≡ true). s .early t (ltb-true t a h)) (λ (h : ltb t a ≡ false). s .held t (ltb-false t a h) ∙ f) (decide (ltb t a))
+
+  -- past all that come before a
+  partners-past : (j n : ℕ) (d : Draft) (a : ℕ) → ((i : ℕ) → i < a → w .kept j i ≡ false) → partners w key size j (n - 0) 0 d ≡ partners w key size j (n - a) a d
+  partners-past j n d zero f = refl
+  partners-past j n d (suc a) f =
+      let e : a + 1 ≡ suc a = omega arith in
+      partners-past j n d a (λ i h. f i (omega arith)) ∙ partners-pass j n d a (f a (omega arith)) ∙ ap (λ (k : ℕ). partners w key size j (n - k) k d) e
 
   partners-cap : (a b : ℕ) → Capped w a b → (j k i : ℕ) (d : Draft) → partners w key size j k i d .opened ≤ d .opened + k * b
   unfolding partners
@@ -117,45 +131,52 @@ module _ (w : Walks) (key : Key) (size : ℕ) where
   unfolding chamber
   chamber-cap a b c n j d = omega (arith, partners-cap a b c j n 0 (spent (w .keptOpened j) d), c .filter j)
 
-  -- ---- the loop over kept partners, at a kept position i or past the n positions
+  -- ---- the loop over kept partners from position a on, at a kept position i or past the n positions
 
-  pub record Tries (b j n : ℕ) (d r : Draft) (i : ℕ) : Type 0 where
+  pub record Tries (a b j n : ℕ) (d r : Draft) (i : ℕ) : Type 0 where
     pub left : partners w key size j (n - i) i r ≡ partners w key size j n 0 d
     pub room : r .opened ≤ d .opened + i * b
     pub here : i < n → w .kept j i ≡ true
+    pub past : a ≤ i
 
-  pub tries-start : (b j n : ℕ) (d : Draft) (ws : List ℕ) → Words w j ws → n ≤ 64 * length ws → (i : ℕ) → i ≡ nextFrom ws 0 → Tries b j n d d i
-  tries-start b j n d ws s h i e =
+  pub tries-start : (a b j n : ℕ) (d : Draft) (ws : List ℕ) → Words w j a ws → n ≤ 64 * length ws → (i : ℕ) → i ≡ nextFrom ws a → Tries a b j n d d i
+  tries-start a b j n d ws s h i e =
+      let up = from-le ws a i e in
       record {
-        left = let z : n - 0 ≡ n = omega arith in sym (partners-next j n d ws s 0 i e) ∙ ap (λ (k : ℕ). partners w key size j k 0 d) z;
+        left =
+            let z : n - 0 ≡ n = omega arith in
+            sym (partners-next j n a d ws s a i e) ∙ sym (partners-past j n d a (s .early)) ∙ ap (λ (k : ℕ). partners w key size j k 0 d) z;
         room = omega arith;
-        here = λ l. s i ∙ from-kept ws 0 i e (omega arith);
+        here = λ l. s .held i up ∙ from-kept ws a i e (omega arith);
+        past = up;
       }
 
   -- room for one ring walk more
-  pub tries-room : (b j n : ℕ) (d r : Draft) (i : ℕ) → i < n → Tries b j n d r i → r .opened + b ≤ d .opened + n * b
-  tries-room b j n d r i l t = omega (arith, t .room, step-mul i n b l)
+  pub tries-room : (a b j n : ℕ) (d r : Draft) (i : ℕ) → i < n → Tries a b j n d r i → r .opened + b ≤ d .opened + n * b
+  tries-room a b j n d r i l t = omega (arith, t .room, step-mul i n b l)
 
-  pub tries-on : (a b : ℕ) → Capped w a b → (j n : ℕ) (d r : Draft) (ws : List ℕ) → Words w j ws → n ≤ 64 * length ws → (i : ℕ) → i < n → r .more ≡ false → Tries b j n d r i
-      → (r′ : Draft) → r′ ≡ withTried size (w .pair j i) (tried w key j i) r → (u : ℕ) → u ≡ nextFrom ws (i + 1) → Tries b j n d r′ u
-  tries-on a b c j n d r ws s h i l m t r′ e u f =
+  pub tries-on : (a c b : ℕ) → Capped w c b → (j n : ℕ) (d r : Draft) (ws : List ℕ) → Words w j a ws → n ≤ 64 * length ws → (i : ℕ) → i < n → r .more ≡ false → Tries a b j n d r i
+      → (r′ : Draft) → r′ ≡ withTried size (w .pair j i) (tried w key j i) r → (u : ℕ) → u ≡ nextFrom ws (i + 1) → Tries a b j n d r′ u
+  tries-on a c b capped j n d r ws s h i l m t r′ e u f =
       let up = from-le ws (i + 1) u f in
-      let cap : r′ .opened ≤ r .opened + b = rw e (omega (arith, with-opened (w .pair j i) (tried w key j i) r, tried-cap a b c j i)) in
+      let cap : r′ .opened ≤ r .opened + b = rw e (omega (arith, with-opened (w .pair j i) (tried w key j i) r, tried-cap c b capped j i)) in
+      let far : a ≤ u = omega (arith, t .past) in
       record {
         left =
-            sym (partners-next j n r′ ws s (i + 1) u f)
+            sym (partners-next j n a r′ ws s (i + 1) u f)
             ∙ ap (partners w key size j (n - (i + 1)) (i + 1)) (e ∙ sym (partner-kept j i r (t .here l)))
             ∙ sym (partners-turn j n i r l m)
             ∙ t .left;
         room = omega (arith, t .room, step-mul i u b (omega arith));
-        here = λ x. s u ∙ from-kept ws (i + 1) u f (omega arith);
+        here = λ x. s .held u far ∙ from-kept ws (i + 1) u f (omega arith);
+        past = far;
       }
 
-  pub tries-stop : (b j n : ℕ) (d r : Draft) (i : ℕ) → r .more ≡ true → Tries b j n d r i → r ≡ partners w key size j n 0 d
-  tries-stop b j n d r i m t = sym (partners-stop j (n - i) i r m) ∙ t .left
+  pub tries-stop : (a b j n : ℕ) (d r : Draft) (i : ℕ) → r .more ≡ true → Tries a b j n d r i → r ≡ partners w key size j n 0 d
+  tries-stop a b j n d r i m t = sym (partners-stop j (n - i) i r m) ∙ t .left
 
-  pub tries-end : (b j n : ℕ) (d r : Draft) (i : ℕ) → n ≤ i → Tries b j n d r i → r ≡ partners w key size j n 0 d
-  tries-end b j n d r i h t = sym (partners-end j n i r h) ∙ t .left
+  pub tries-end : (a b j n : ℕ) (d r : Draft) (i : ℕ) → n ≤ i → Tries a b j n d r i → r ≡ partners w key size j n 0 d
+  tries-end a b j n d r i h t = sym (partners-end j n i r h) ∙ t .left
 
   -- ---- the loop over chambers, each of which opens at most c nodes
 

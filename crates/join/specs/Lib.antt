@@ -4,8 +4,10 @@
 --     Maker     the page in the making, step by step
 --     Sheets    what the walks of two sheets say
 --     Threshold the walks of a page of t
+--     Self      the walks of a self join
 pub mod Walks
 pub mod Work
 pub mod Maker
 pub mod Sheets
 pub mod Threshold
+pub mod Self

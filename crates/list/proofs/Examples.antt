@@ -35,7 +35,7 @@ abbrev chambers : List Point
 chambers = at 5 4 0 ∷ at 6 16 1 ∷ []
 
 abbrev source : Source
-source = record { «p_edition» = 7; «q_edition» = 9; threshold = 0 }
+source = record { «p_edition» = 7; «q_edition» = 9; threshold = 0; own = false }
 
 abbrev page : Key → ℕ → Page
 page k size = pageOf source (ringList pumps chambers) k size

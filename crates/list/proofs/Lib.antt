@@ -1,10 +1,11 @@
 -- What holds of every list of pairs, and of the ring pairs' list.
 --     Order         lists that ascend: what follows a key, the last pair, each pair once
 --     PageLaws      what a page shows, its end mark, following the pages
---     SourceLaws    what list a page is of, and the numbers 13 and 31
+--     SourceLaws    what list a page is of, and the numbers 22, 13 and 31
 --     RowLaws       the list that a rule makes: it ascends and holds what the rule does; the ring list, and the ids in it
 --     NearestLaws   couples at the least distance are pairs, so the list of two sets that are not empty is not empty
 --     ThresholdLaws the list of t: the chambers with at least t pairs, with all their pairs
+--     SelfLaws      the self join's list: two different records once, lower id first, exactly if no other blocks
 --     Examples      the document's listing and its pages, by computation
 pub mod Order
 pub mod PageLaws
@@ -12,4 +13,5 @@ pub mod SourceLaws
 pub mod RowLaws
 pub mod NearestLaws
 pub mod ThresholdLaws
+pub mod SelfLaws
 pub mod Examples

@@ -180,7 +180,7 @@ size-most a b h k =
     let y = in-- (h .y-near) (k .y-near) in
     size-make (sizeOf a b) (in-up (in-+ (in-* x x) (in-* y y)) tt .abs)
 
-id-in : (id : ℕ → ℕ) (n : ℕ) → Rising id n → (i : ℕ) → i < n → idOk (id i) ≡ true
+pub id-in : (id : ℕ → ℕ) (n : ℕ) → Rising id n → (i : ℕ) → i < n → idOk (id i) ≡ true
 id-in id n r i h = id-make (id i) (r .low i h) (r .high i h)
 
 module _ (P Q : List Point) (rp : Rising (idAt P) (length P)) (rq : Rising (idAt Q) (length Q)) where

@@ -1,7 +1,7 @@
--- What list a page or a book is of: two sources give the number 0 exactly if they are the same, and 13 or 31 otherwise.
+-- What list a page or a book is of: two sources give the number 0 exactly if they are the same, and 22, 13 or 31 otherwise.
 -- Assumes nothing.
-use mathlib.Core.Path.{_≡_, refl, ap}
-use mathlib.Core.Bool.{Bool, true, false, cond, not, _&&_}
+use mathlib.Core.Path.{_≡_, refl, sym, ap, _∙_}
+use mathlib.Core.Bool.{Bool, true, false, cond, not, _&&_, _||_}
 use mathlib.Core.Logic.{_⊎_, inl, inr, ⊎-elim}
 use Prim.Native.Nat.{ℕ, suc}
 use native.Mathlib.Omega.{arith}
@@ -9,21 +9,36 @@ use lib.Dec.{eqb}
 use borrow.Author.Tests.{eqb-true, eq-eqb}
 use Rattle.integers.specs.Bools.{and-left, and-right, and-both}
 use Rattle.list.specs.declared.Source.{Source}
-use Rattle.list.specs.Pages.{sourceNo}
+use Rattle.list.specs.Pages.{sameKind, sourceNo}
 
--- the number by its two tests
-abbrev by : Bool → Bool → ℕ
-by e t = cond (not e) 13 (cond (not t) 31 0)
+-- the number by its three tests
+abbrev by : Bool → Bool → Bool → ℕ
+by k e t = cond (not k) 22 (cond (not e) 13 (cond (not t) 31 0))
 
-tested : (e t : Bool) → by e t ≡ 0 → (e ≡ true) × (t ≡ true)
-tested true true z = (refl, refl)
-tested true false z = absurd (omega arith)
-tested false t z = absurd (omega arith)
+tested : (k e t : Bool) → by k e t ≡ 0 → (k ≡ true) × (e ≡ true) × (t ≡ true)
+tested true true true z = (refl, refl, refl)
+tested true true false z = absurd (omega arith)
+tested true false t z = absurd (omega arith)
+tested false e t z = absurd (omega arith)
 
-numbers : (e t : Bool) → (by e t ≡ 0) ⊎ ((by e t ≡ 13) ⊎ (by e t ≡ 31))
-numbers true true = inl refl
-numbers true false = inr (inr refl)
-numbers false t = inr (inl refl)
+numbers : (k e t : Bool) → (by k e t ≡ 0) ⊎ ((by k e t ≡ 22) ⊎ ((by k e t ≡ 13) ⊎ (by k e t ≡ 31)))
+numbers true true true = inl refl
+numbers true true false = inr (inr (inr refl))
+numbers true false t = inr (inr (inl refl))
+numbers false e t = inr (inl refl)
+
+-- one kind
+kind-is : (a b : Bool) → ((a && b) || (not a && not b)) ≡ true → a ≡ b
+kind-is true true e = refl
+kind-is true false e = sym e
+kind-is false true e = e
+kind-is false false e = refl
+
+is-kind : (a b : Bool) → a ≡ b → ((a && b) || (not a && not b)) ≡ true
+is-kind true true e = refl
+is-kind true false e = sym e
+is-kind false true e = e
+is-kind false false e = refl
 
 -- a page that is not refused by its source is of the book's list
 pub same-source : (a b : Source) → sourceNo a b ≡ 0 → a ≡ b
@@ -31,20 +46,25 @@ unfolding sourceNo
 same-source a b e =
     let p = eqb (a .«p_edition») (b .«p_edition») in
     let q = eqb (a .«q_edition») (b .«q_edition») in
-    let z = tested (p && q) (eqb (a .threshold) (b .threshold)) e in
-    let x = eqb-true (a .«p_edition») (b .«p_edition») (and-left p q (z .0)) in
-    let y = eqb-true (a .«q_edition») (b .«q_edition») (and-right p q (z .0)) in
-    let t = eqb-true (a .threshold) (b .threshold) (z .1) in
-    λ i. record { «p_edition» = x i; «q_edition» = y i; threshold = t i }
+    let z = tested (sameKind a b) (p && q) (eqb (a .threshold) (b .threshold)) e in
+    let k = kind-is (a .own) (b .own) (z .0) in
+    let x = eqb-true (a .«p_edition») (b .«p_edition») (and-left p q (z .1)) in
+    let y = eqb-true (a .«q_edition») (b .«q_edition») (and-right p q (z .1)) in
+    let t = eqb-true (a .threshold) (b .threshold) (z .2) in
+    λ i. record { «p_edition» = x i; «q_edition» = y i; threshold = t i; own = k i }
 
 pub source-same : (a b : Source) → a ≡ b → sourceNo a b ≡ 0
 unfolding sourceNo
 source-same a b e =
     let p = eqb (a .«p_edition») (b .«p_edition») in
     let q = eqb (a .«q_edition») (b .«q_edition») in
+    let kind : sameKind a b ≡ true = is-kind (a .own) (b .own) (ap (λ (v : Source). v .own) e) in
     let both : (p && q) ≡ true = and-both p q (eq-eqb (a .«p_edition») (b .«p_edition») (ap (λ (v : Source). v .«p_edition») e)) (eq-eqb (a .«q_edition») (b .«q_edition») (ap (λ (v : Source). v .«q_edition») e)) in
-    rw (both, eq-eqb (a .threshold) (b .threshold) (ap (λ (v : Source). v .threshold) e))
+    let same : eqb (a .threshold) (b .threshold) ≡ true = eq-eqb (a .threshold) (b .threshold) (ap (λ (v : Source). v .threshold) e) in
+    ap (λ (x : Bool). by x (p && q) (eqb (a .threshold) (b .threshold))) kind
+    ∙ ap (λ (x : Bool). by true x (eqb (a .threshold) (b .threshold))) both
+    ∙ ap (by true true) same
 
-pub source-numbers : (a b : Source) → (sourceNo a b ≡ 0) ⊎ ((sourceNo a b ≡ 13) ⊎ (sourceNo a b ≡ 31))
+pub source-numbers : (a b : Source) → (sourceNo a b ≡ 0) ⊎ ((sourceNo a b ≡ 22) ⊎ ((sourceNo a b ≡ 13) ⊎ (sourceNo a b ≡ 31)))
 unfolding sourceNo
-source-numbers a b = numbers (eqb (a .«p_edition») (b .«p_edition») && eqb (a .«q_edition») (b .«q_edition»)) (eqb (a .threshold) (b .threshold))
+source-numbers a b = numbers (sameKind a b) (eqb (a .«p_edition») (b .«p_edition») && eqb (a .«q_edition») (b .«q_edition»)) (eqb (a .threshold) (b .threshold))

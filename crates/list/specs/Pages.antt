@@ -1,5 +1,5 @@
 -- The pages of a list.
-use mathlib.Core.Bool.{Bool, true, false, cond, not, _&&_}
+use mathlib.Core.Bool.{Bool, true, false, cond, not, _&&_, _||_}
 use mathlib.Core.List.{List, [], _∷_, _++_}
 use Prim.Native.Nat.{ℕ, zero, suc, _-_}
 use lib.Dec.{eqb, leb}
@@ -17,10 +17,15 @@ lastThreshold = 1000
 unfoldable pub thresholdNo : ℕ → ℕ
 thresholdNo t = cond (leb t lastThreshold) 0 21
 
--- 13 "page of other editions", then 31 "page of another t": the number for a page of `b` and a book of `a`, 0 where they are of one list
+-- both are of self joins, or neither is
+abbrev pub sameKind : Source → Source → Bool
+sameKind a b = (a .own && b .own) || (not (a .own) && not (b .own))
+
+-- 22 "wrong kind", then 13 "page of other editions", then 31 "page of another t": the number for a page of `b` and a book of `a`, 0 where they are of one list
 unfoldable pub sourceNo : Source → Source → ℕ
 sourceNo a b =
-    cond (not (eqb (a .«p_edition») (b .«p_edition») && eqb (a .«q_edition») (b .«q_edition»))) 13 (cond (not (eqb (a .threshold) (b .threshold))) 31 0)
+    cond (not (sameKind a b)) 22
+    (cond (not (eqb (a .«p_edition») (b .«p_edition») && eqb (a .«q_edition») (b .«q_edition»))) 13 (cond (not (eqb (a .threshold) (b .threshold))) 31 0))
 
 -- sixteen pairs, the unused ones three zeros
 unfoldable pub padded : List Pair → List Pair

@@ -24,7 +24,7 @@ pub long : (w : List ℤ) → sheetNo w ≡ 0 → 6 ≤ length w
 long w e = open-trailer form1 w e .long
 
 -- and at most 1,000 points
-few : (w : List ℤ) → sheetNo w ≡ 0 → points w ≤ 1000
+pub few : (w : List ℤ) → sheetNo w ≡ 0 → points w ≤ 1000
 unfolding form1
 few w e = open-trailer form1 w e .n-le
 

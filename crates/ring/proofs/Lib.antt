@@ -7,6 +7,7 @@
 --     Once          one input, one answer, and its number
 --     PageLaws      the page request
 --     PartnersLaws  the question for a chamber's partners
+--     OwnLaws        the page request of a self join
 pub mod NumberLaws
 pub mod HeadLaws
 pub mod PointLaws
@@ -15,3 +16,4 @@ pub mod FilterLaws
 pub mod Once
 pub mod PageLaws
 pub mod PartnersLaws
+pub mod OwnLaws

@@ -49,7 +49,7 @@ use Rattle.ring.proofs.HeadLaws.{HeadedBoth, both-open, sheets-stop, sh
 -- ---- the numbers of the key, of the size and of the threshold
 
 -- a size that is not refused
-size-fits : (size : ℕ) → sizeNo size ≡ 0 → (1 ≤ size) × (size ≤ 16)
+pub size-fits : (size : ℕ) → sizeNo size ≡ 0 → (1 ≤ size) × (size ≤ 16)
 unfolding sizeNo
 size-fits size e = go (leb 1 size && leb size 16) refl e
   where
@@ -131,9 +131,9 @@ pub pumps-fit : (P Q : List ℤ) (h : Heads) → HeadedBoth P Q h → h .np ≤ 
 unfolding form1
 pumps-fit P Q h o = omega (arith, o .np-is, open-trailer form1 P (both-open P Q (o .opens) .0) .n-le)
 
-pub source-read : (P Q : List ℤ) (t a b : ℕ) → a ≡ num (edition P) → b ≡ num (edition Q) → record { «p_edition» = a; «q_edition» = b; threshold = t } ≡ sourceOf P Q t
+pub source-read : (P Q : List ℤ) (t a b : ℕ) → a ≡ num (edition P) → b ≡ num (edition Q) → record { «p_edition» = a; «q_edition» = b; threshold = t; own = false } ≡ sourceOf P Q t
 unfolding sourceOf
-source-read P Q t a b e f = λ i. record { «p_edition» = e i; «q_edition» = f i; threshold = t }
+source-read P Q t a b e f = λ i. record { «p_edition» = e i; «q_edition» = f i; threshold = t; own = false }
 
 -- the page maker's draft, as the answer has it
 module _ {P Q : List ℤ} {np mp nq mq : ℕ} (o : Opens P np mp) (o′ : Opens Q nq mq) (fit : np ≤ 1024) (key : Key) (size t : ℕ) (few : size ≤ 16) where

@@ -3,7 +3,9 @@
 --     Answers    the answers of the point reader, of both walks and of the check
 --     Page       the page request
 --     Partners   whether a chamber has at least t partners
+--     Own        the page request of a self join
 pub mod Numbers
 pub mod Answers
 pub mod Page
 pub mod Partners
+pub mod Own

@@ -36,9 +36,9 @@ askedNo key size t = first (keyNo key) (first (sizeNo size) (thresholdNo t))
 unfoldable pub pageNo : List ℤ → List ℤ → Key → ℕ → ℕ → ℕ
 pageNo P Q key size t = first (sheetsNo P Q) (askedNo key size t)
 
--- "The page holds both editions"; "Pages and books now carry t, 0 for the full list"
+-- "The page holds both editions"; "Pages and books now carry t, 0 for the full list" and "say their kind", here a list of two sheets
 unfoldable pub sourceOf : List ℤ → List ℤ → ℕ → Source
-sourceOf P Q t = record { «p_edition» = num (edition P); «q_edition» = num (edition Q); threshold = t }
+sourceOf P Q t = record { «p_edition» = num (edition P); «q_edition» = num (edition Q); threshold = t; own = false }
 
 -- the page of t's list, from the points alone, and beside it the count of the walks, the kept sets on sixteen words
 unfoldable pub pageGiven : List ℤ → List ℤ → Key → ℕ → ℕ → Paged
@@ -55,7 +55,7 @@ pageRefused k =
     record {
       number = k;
       opened = 0;
-      page = record { source = record { «p_edition» = 0; «q_edition» = 0; threshold = 0 }; key = start; count = 0; end = false; pairs = replicate 16 none };
+      page = record { source = record { «p_edition» = 0; «q_edition» = 0; threshold = 0; own = false }; key = start; count = 0; end = false; pairs = replicate 16 none };
     }
 
 -- the answer by its number: 0 is the page, any other is the refusal of that number

@@ -2,6 +2,7 @@
 // Each checks its sheets first, P then Q, by 1 to 8; then its positions by 9. A well-formed sheet is checked once a call.
 pub mod filter;
 pub mod open;
+pub mod own;
 pub mod page;
 pub mod partners;
 pub mod point;

@@ -10,7 +10,7 @@ ghost use Rattle.sheet.specs.Open.{Opens};
 ghost use Rattle.ring.specs.Page.{askedNo, sourceOf, pageGiven, pageRefused, pageAnswer};
 
 // A refused request: its number, and zeros.
-fn refused(number: u32) -> Paged
+pub(crate) fn refused(number: u32) -> Paged
     ensures { λ r. ⌜ r ≡ pageRefused number ⌝ }
 {
     Paged {
@@ -21,6 +21,7 @@ fn refused(number: u32) -> Paged
                 p_edition: 0,
                 q_edition: 0,
                 threshold: 0,
+                own: false,
             },
             key: Key { q: 0, p: 0 },
             count: 0,
@@ -35,7 +36,7 @@ fn refused(number: u32) -> Paged
 }
 
 // The number that a request is refused by, its sheets aside: 9 by its key, 10 by its size, 21 by its threshold, or 0.
-fn asked_no(key: Key, size: usize, threshold: u32) -> u32
+pub(crate) fn asked_no(key: Key, size: usize, threshold: u32) -> u32
     ensures { λ r. ⌜ r ≡ askedNo key size threshold ⌝ }
 {
     if !((key.q <= 2000000000) & (key.p <= 2000000000)) {
@@ -64,6 +65,7 @@ fn source_of(
         p_edition: words::num_at(p, p.len() - 2) as u32,
         q_edition: words::num_at(q, q.len() - 2) as u32,
         threshold: threshold,
+        own: false,
     }
 }
 

@@ -48,7 +48,7 @@ pub record Made (l : List Pair) (key : Key) (d : Draft) : Type 0 where
 pub made : {P Q : List ℤ} {np mp nq mq : ℕ} → Opens P np mp → Opens Q nq mq → np ≤ 1024 → (key : Key) (d : Draft) → d ≡ pageMade (walksFor (walksOf 16 P Q) np 0) key 16 np nq → Made (pairsOf P Q) key d
 unfolding pageFrom pageOf
 made {P} {Q} o o′ fit key d e =
-    let s : Source = record { «p_edition» = 0; «q_edition» = 0; threshold = 0 } in
+    let s : Source = record { «p_edition» = 0; «q_edition» = 0; threshold = 0; own = false } in
     let g : pageFrom s key d ≡ pageOf s (pairsOf P Q) key 16 = ap (pageFrom s key) e ∙ page-pairs o o′ 16 (omega arith) 0 s key 16 (omega arith) ∙ ap (λ (l : List Pair). pageOf s l key 16) (threshold-none (pointsOf P) (pointsOf Q)) in
     record { count = ap (λ (x : Page). x .count) g; pairs = ap (λ (x : Page). x .pairs) g; end = ap (λ (x : Page). x .end) g }
 

@@ -175,8 +175,12 @@ fn is_edition(a: Source, b: Source) -> bool {
     (a.p_edition == b.p_edition) & (a.q_edition == b.q_edition)
 }
 
+fn is_kind(a: Source, b: Source) -> bool {
+    !(a.own ^ b.own)
+}
+
 fn is_source(a: Source, b: Source) -> bool {
-    is_edition(a, b) & (a.threshold == b.threshold)
+    is_kind(a, b) & is_edition(a, b) & (a.threshold == b.threshold)
 }
 
 // The number of refusal, read from the rules a second time.
@@ -190,6 +194,9 @@ fn expected(b: Book, len: usize, last: Key, g: Page) -> u32 {
     }
     if b.closed {
         return 12;
+    }
+    if !is_kind(own, other) {
+        return 22;
     }
     if !is_edition(own, other) {
         return 13;
@@ -364,8 +371,23 @@ fn of_others(g: Page) -> Page {
         p_edition: 8,
         q_edition: 9,
         threshold: 1,
+        own: g.source.own,
     };
     h.source = others;
+    h
+}
+
+// A page of the other kind, and of other editions.
+fn of_kind(g: Page) -> Page {
+    let mut h = g;
+    let source = g.source;
+    let other = Source {
+        p_edition: 8,
+        q_edition: 8,
+        threshold: 0,
+        own: !source.own,
+    };
+    h.source = other;
     h
 }
 
@@ -376,13 +398,17 @@ fn of_another(g: Page) -> Page {
         p_edition: 7,
         q_edition: 9,
         threshold: 3,
+        own: g.source.own,
     };
     h.source = another;
     h
 }
 
-// A page of another list, in one of two ways.
+// A page of another list, in one of three ways.
 fn of_other_list(g: Page, way: usize) -> Page {
+    if way < 2 {
+        return of_kind(g);
+    }
     if way < 4 {
         return of_others(g);
     }
@@ -537,19 +563,38 @@ fn opened(seed: u64, tally: Tally) -> Game {
         p_edition: 7,
         q_edition: 9,
         threshold: some_threshold(mixed(seed)),
+        own: false,
     };
     let b = begun(source);
     let none = Source {
         p_edition: 1000000001,
         q_edition: 9,
         threshold: 1001,
+        own: false,
     };
     let over = Source {
         p_edition: 7,
         q_edition: 9,
         threshold: 1001,
+        own: false,
     };
-    let good = is_book(b, 0, false, source) & is_refused(none, 3) & is_refused(over, 21);
+    let two = Source {
+        p_edition: 7,
+        q_edition: 9,
+        threshold: 1,
+        own: true,
+    };
+    let least = Source {
+        p_edition: 7,
+        q_edition: 7,
+        threshold: 1,
+        own: true,
+    };
+    let good = is_book(b, 0, false, source)
+        & is_refused(none, 3)
+        & is_refused(over, 21)
+        & is_refused(two, 3)
+        & is_refused(least, 21);
     let mut t = tally;
     if !good {
         t.wrong = std::num::wrapping_add_u64(t.wrong, 1);
@@ -595,6 +640,7 @@ fn report(t: Tally) {
     line(b"taken", t.counts[0]);
     line(b"refused 11", t.counts[11]);
     line(b"refused 12", t.counts[12]);
+    line(b"refused 22", t.counts[22]);
     line(b"refused 13", t.counts[13]);
     line(b"refused 31", t.counts[31]);
     line(b"refused 14", t.counts[14]);

@@ -45,6 +45,7 @@ fn print_page(page: list::Page) {
     print(source.p_edition as u64);
     print(source.q_edition as u64);
     print(source.threshold as u64);
+    print_mark(source.own);
     let key = page.key;
     print_key(key);
     print(page.count as u64);
@@ -81,6 +82,32 @@ fn page_cases(p: &[i32], q: &[i32], count: usize) {
     }
 }
 
+// A key and a size, and the page of the self join that they ask for.
+fn own_case(s: &[i32]) {
+    let key_q = cases::next_id();
+    let key_p = cases::next_id();
+    let size = cases::next_or_largest();
+    let key = list::Key { q: key_q, p: key_p };
+    io::write_all(libc::STDOUT_FILENO, b"own");
+    print_key(key);
+    print(size as u64);
+    io::write_all(libc::STDOUT_FILENO, b":");
+    let r = ring::own::own_page(s, key, size);
+    print(r.number as u64);
+    print(r.opened);
+    let page = r.page;
+    print_page(page);
+    end_line();
+}
+
+fn own_cases(s: &[i32], count: usize) {
+    let mut k = 0;
+    while k < count {
+        own_case(s);
+        k += 1;
+    }
+}
+
 // The id of a chamber and a t, and whether it has so many partners.
 fn partners_case(p: &[i32], q: &[i32]) {
     let id = cases::next_id();
@@ -104,7 +131,7 @@ fn partners_cases(p: &[i32], q: &[i32], count: usize) {
     }
 }
 
-// The lengths of two sheets, how many pages or questions are asked, the sheets, and the requests.
+// The lengths of two sheets, the second 0 for a self join, how many pages or questions are asked, the sheets, and the requests.
 fn asked(kind: usize) {
     let np = cases::next_up_to(MOST);
     let nq = cases::next_up_to(MOST);
@@ -115,15 +142,17 @@ fn asked(kind: usize) {
     cases::fill(&mut q, nq);
     if kind == 1 {
         page_cases(&p[..np], &q[..nq], count);
-    } else {
+    } else if kind == 2 {
         partners_cases(&p[..np], &q[..nq], count);
+    } else {
+        own_cases(&p[..np], count);
     }
 }
 
 // The next case, and whether there was one.
 fn one() -> bool {
     let kind = cases::next_count();
-    if (kind == 1) | (kind == 2) {
+    if (kind == 1) | (kind == 2) | (kind == 3) {
         asked(kind);
         return true;
     }

@@ -16,6 +16,7 @@ use Rattle.ring.specs.Numbers.{sheetNo}
 use Rattle.ring.specs.Answers.{pointed, filtered, walked}
 use Rattle.list.specs.declared.Key.{Key}
 use Rattle.ring.specs.Page.{pageAnswer}
+use Rattle.ring.specs.Own.{ownAnswer}
 use Rattle.ring.specs.Partners.{partnersAnswer}
 use Rattle.ring.specs.declared.Paged.{Paged}
 use Rattle.ring.specs.declared.Partnered.{Partnered}
@@ -55,6 +56,9 @@ filter-once p p′ q q′ j r r′ v w e f = e ∙ ap (λ (x : List ℤ). filter
 pub ring-once : (p p′ q q′ : Sheet) (j i : ℕ) (r r′ : Walked) → now (p .words) ≡ now (p′ .words) → now (q .words) ≡ now (q′ .words)
     → r ≡ walked (now (p .words)) (now (q .words)) j i → r′ ≡ walked (now (p′ .words)) (now (q′ .words)) j i → r ≡ r′
 ring-once p p′ q q′ j i r r′ v w e f = e ∙ ap (λ (x : List ℤ). walked x (now (q .words)) j i) v ∙ ap (λ (y : List ℤ). walked (now (p′ .words)) y j i) w ∙ sym f
+
+pub own-once : (d d′ : Sheet) (key : Key) (size : ℕ) (r r′ : Paged) → now (d .words) ≡ now (d′ .words) → r ≡ ownAnswer (now (d .words)) key size → r′ ≡ ownAnswer (now (d′ .words)) key size → r ≡ r′
+own-once d d′ key size r r′ w e f = e ∙ ap (λ (x : List ℤ). ownAnswer x key size) w ∙ sym f
 
 pub page-once : (p p′ q q′ : Sheet) (key : Key) (size t : ℕ) (r r′ : Paged) → now (p .words) ≡ now (p′ .words) → now (q .words) ≡ now (q′ .words)
     → r ≡ pageAnswer (now (p .words)) (now (q .words)) key size t → r′ ≡ pageAnswer (now (p′ .words)) (now (q′ .words)) key size t → r ≡ r′

@@ -12,6 +12,7 @@ ghost use Prim.Native.Nat.{_≤_};
 ghost use lib.ListN.{length, take};
 ghost use Rattle.ring.specs.Answers.{headOf, pointed, filtered, walked};
 ghost use Rattle.ring.specs.Page.{pageAnswer};
+ghost use Rattle.ring.specs.Own.{ownAnswer};
 ghost use Rattle.ring.specs.Partners.{partnersAnswer};
 ghost use Rattle.view.specs.Shown.{shown, openOf};
 
@@ -82,6 +83,13 @@ pub fn page_at<'a, 'b>(p: Sheet<'a>, q: Sheet<'b>, key: Key, size: usize, thresh
     ring::page::page(p.words, q.words, key, size, threshold)
 }
 
+// The page of a self join that follows a key; refused by 1 to 8 of the words, then by 9 for the key, by 10 for the size.
+pub fn own_page_at<'a>(sheet: Sheet<'a>, key: Key, size: usize) -> Paged
+    ensures { λ r. ⌜ r ≡ ownAnswer (now (sheet .entry .words)) key size ⌝ }
+{
+    ring::own::own_page(sheet.words, key, size)
+}
+
 // Whether the chamber with an id has at least t partners; refused by 1 to 8 of P's words, then of Q's, then by 20, then by 21.
 pub fn partners_at<'a, 'b>(p: Sheet<'a>, q: Sheet<'b>, id: u32, t: u32) -> Partnered
     ensures { λ r. ⌜ r ≡ partnersAnswer (now (p .entry .words)) (now (q .entry .words)) id t ⌝ }
@@ -110,7 +118,7 @@ pub fn point_opened(words: &[i32], position: usize) -> Pointed
     point_at(o.sheet, position)
 }
 
-// For callers that hold no view, the five readers again: views are made of the words with any counts, and handed to the reader, which looks at the words alone.
+// For callers that hold no view, the readers again: views are made of the words with any counts, and handed to the reader, which looks at the words alone.
 pub fn point_through(words: &[i32], n: usize, m: usize, position: usize) -> Pointed
     ensures { λ r. ⌜ r ≡ pointed (now (words .entry)) position ⌝ }
 {
@@ -199,6 +207,12 @@ pub fn page_through(
         size,
         threshold,
     )
+}
+
+pub fn own_page_through(words: &[i32], n: usize, m: usize, key: Key, size: usize) -> Paged
+    ensures { λ r. ⌜ r ≡ ownAnswer (now (words .entry)) key size ⌝ }
+{
+    own_page_at(Sheet { words, n, m }, key, size)
 }
 
 pub fn partners_through(

@@ -1,17 +1,17 @@
 -- `join::with_kept` meets its contract. The loop's invariant is `Tries`, of walks that open no node. Assumes nothing.
-use mathlib.Core.Path.{refl, _∙_}
+use mathlib.Core.Path.{_∙_}
 use mathlib.Core.Logic.{⊎-elim}
 use Prim.Native.Nat.{_-_}
 use native.Mathlib.Omega.{arith}
 use Rattle.bits.proofs.NextLaws.{from-le}
 use Rattle.join.specs.Threshold.{onWords}
 use Rattle.join.proofs.TurnLaws.{Tries, tries-start, tries-on, tries-stop, tries-end}
-use Rattle.join.proofs.CallLaws.{show-late, show-early, on-words}
+use Rattle.join.proofs.CallLaws.{show-late, show-early, on-words, words-on}
 use Rattle.join.proofs.with_kept.Statement.{statement}
 use Rattle.join.proofs.with_kept.Tie as tie
 
 abbrev Inv-loop : tie.InvT-loop
-Inv-loop p np mp q nq mq key size j bits r₀ i₀ r i = Tries (onWords bits p q) key size 0 j np r₀ r i
+Inv-loop p np mp q nq mq key size j bits r₀ i₀ r i = Tries (onWords bits p q) key size 0 0 j np r₀ r i
 
 abbrev μ-loop : tie.MeasureT-loop
 μ-loop p np mp q nq mq key size j bits r₀ i₀ r i = np - i
@@ -20,10 +20,10 @@ next-from-requires : tie.Need-next-from-requires Inv-loop μ-loop
 next-from-requires c κs = c .before .pre .4 .numbered
 
 loop-holds : tie.Need-loop-holds Inv-loop μ-loop
-loop-holds c = tries-start _ _ _ _ _ _ _ _ (λ i. refl) (c .before .before .pre .4 .enough) _ (c .next-from .ensures)
+loop-holds c = tries-start _ _ _ _ _ _ _ _ _ (words-on _ _ _ _) (c .before .before .pre .4 .enough) _ (c .next-from .ensures)
 
 returns : tie.Need-returns Inv-loop μ-loop
-returns c = tries-stop _ _ _ _ _ _ _ _ _ (c .if1 .taken) (c .before .before .loop .inv)
+returns c = tries-stop _ _ _ _ _ _ _ _ _ _ (c .if1 .taken) (c .before .before .loop .inv)
 
 is-late-requires : tie.Need-is-late-requires Inv-loop μ-loop
 is-late-requires c κs =
@@ -54,7 +54,7 @@ loop-again c =
     let t = c .before .before in
     let l = t .before .before .before in
     let s = l .before .before .before in
-    tries-on _ _ _ _ _ (on-words _ _ _) _ _ _ _ _ (λ i. refl) (s .pre .4 .enough) (l .loop .i) (t .before .before .loop-test .taken) (t .before .if1 .left) (l .loop .inv) _
+    tries-on _ _ _ _ _ _ (on-words _ _ _) _ _ _ _ _ (words-on _ _ _ _) (s .pre .4 .enough) (l .loop .i) (t .before .before .loop-test .taken) (t .before .if1 .left) (l .loop .inv) _
     (⊎-elim
     (λ x. show-late _ _ _ _ _ _ _ _ (t .is-late .ensures) _ _ (x .0 .taken) _ (x .1 .ensures) (x .3 ∙ x .2 .ensures))
     (λ x. show-early _ _ _ _ _ _ _ _ (t .is-late .ensures) _ _ (x .0 .left) (x .1))
@@ -62,7 +62,7 @@ loop-again c =
     _ (c .next-from2 .ensures)
 
 returns-2 : tie.Need-returns-2 Inv-loop μ-loop
-returns-2 c = tries-end _ _ _ _ _ _ _ _ _ (c .loop-test .left) (c .before .loop .inv)
+returns-2 c = tries-end _ _ _ _ _ _ _ _ _ _ (c .loop-test .left) (c .before .loop .inv)
 
 pub with-kept-spec : {M : Type 1} → statement M
 with-kept-spec =

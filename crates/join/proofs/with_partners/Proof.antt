@@ -12,7 +12,7 @@ use Rattle.join.proofs.with_partners.Statement.{statement}
 use Rattle.join.proofs.with_partners.Tie as tie
 
 abbrev Inv-loop : tie.InvT-loop
-Inv-loop p np mp q nq mq key size j bits r₀ i₀ r i = Tries (walksOf (length bits) p q) key size (mp + mq) j np r₀ r i
+Inv-loop p np mp q nq mq key size j bits r₀ i₀ r i = Tries (walksOf (length bits) p q) key size 0 (mp + mq) j np r₀ r i
 
 abbrev μ-loop : tie.MeasureT-loop
 μ-loop p np mp q nq mq key size j bits r₀ i₀ r i = np - i
@@ -23,10 +23,10 @@ next-from-requires c κs = c .before .pre .4 .numbered
 loop-holds : tie.Need-loop-holds Inv-loop μ-loop
 loop-holds c =
     let s = c .before .before in
-    tries-start _ _ _ _ _ _ _ _ (words-of _ _ _ _ (s .pre .6)) (s .pre .4 .enough) _ (c .next-from .ensures)
+    tries-start _ _ _ _ _ _ _ _ _ (words-of _ _ _ _ (s .pre .6)) (s .pre .4 .enough) _ (c .next-from .ensures)
 
 returns : tie.Need-returns Inv-loop μ-loop
-returns c = tries-stop _ _ _ _ _ _ _ _ _ (c .if1 .taken) (c .before .before .loop .inv)
+returns c = tries-stop _ _ _ _ _ _ _ _ _ _ (c .if1 .taken) (c .before .before .loop .inv)
 
 try-partner-requires : tie.Need-try-partner-requires Inv-loop μ-loop
 try-partner-requires c κs =
@@ -38,7 +38,7 @@ add-r c =
     let t = c .before .before in
     let l = t .before .before .before in
     let s = l .before .before .before in
-    let few = tries-room _ _ _ _ _ _ _ _ (l .loop .i) (t .before .before .loop-test .taken) (l .loop .inv) in
+    let few = tries-room _ _ _ _ _ _ _ _ _ (l .loop .i) (t .before .before .loop-test .taken) (l .loop .inv) in
     let words = length (s .args .bits .now) in
     let cap = tried-few _ _ (s .args .size) _ _ (capped (s .pre .0) (s .pre .1) words) _ _ _ (t .try-partner .ensures words) in
     omega (arith, s .pre .5)
@@ -70,7 +70,7 @@ loop-again c =
     let l = t .before .before .before in
     let s = l .before .before .before in
     let words = length (s .args .bits .now) in
-    tries-on _ _ _ _ _ (capped (s .pre .0) (s .pre .1) words) _ _ _ _ _ (words-of _ _ _ _ (s .pre .6)) (s .pre .4 .enough) (l .loop .i) (t .before .before .loop-test .taken) (t .before .if1 .left) (l .loop .inv) _
+    tries-on _ _ _ _ _ _ (capped (s .pre .0) (s .pre .1) words) _ _ _ _ _ (words-of _ _ _ _ (s .pre .6)) (s .pre .4 .enough) (l .loop .i) (t .before .before .loop-test .taken) (t .before .if1 .left) (l .loop .inv) _
     (⊎-elim
     (λ x. with-yes _ _ _ _ _ _ _ (x .1 .ensures) (t .try-partner .ensures words) (x .0 .taken) (x .3 ∙ x .2 .ensures))
     (λ x. x .1 ∙ with-no _ _ _ _ _ (t .try-partner .ensures words) (x .0 .left))
@@ -78,7 +78,7 @@ loop-again c =
     _ (c .next-from2 .ensures)
 
 returns-2 : tie.Need-returns-2 Inv-loop μ-loop
-returns-2 c = tries-end _ _ _ _ _ _ _ _ _ (c .loop-test .left) (c .before .loop .inv)
+returns-2 c = tries-end _ _ _ _ _ _ _ _ _ _ (c .loop-test .left) (c .before .loop .inv)
 
 pub with-partners-spec : {M : Type 1} → statement M
 with-partners-spec =

@@ -10,11 +10,19 @@ returns c = rw (c .if1 .taken)
 
 returns-2 : tie.Need-returns-2
 unfolding sourceNo
-returns-2 c = rw (c .before .before .before .if1 .left, ne-eqb _ _ (c .if2 .taken))
+returns-2 c = rw (c .before .before .before .before .before .if1 .left, c .if2 .taken)
 
 returns-3 : tie.Need-returns-3
 unfolding sourceNo
-returns-3 c = rw (c .before .before .before .if1 .left, eq-eqb _ _ (c .if2 .left))
+returns-3 c =
+    let e = c .before .before .before in
+    rw (e .before .before .before .before .before .if1 .left, e .if2 .left, ne-eqb _ _ (c .if3 .taken))
+
+returns-4 : tie.Need-returns-4
+unfolding sourceNo
+returns-4 c =
+    let e = c .before .before .before in
+    rw (e .before .before .before .before .before .if1 .left, e .if2 .left, eq-eqb _ _ (c .if3 .left))
 
 pub source-no-spec : {M : Type 1} → statement M
-source-no-spec = tie.close (tie.spec returns returns-2 returns-3)
+source-no-spec = tie.close (tie.spec returns returns-2 returns-3 returns-4)

@@ -56,11 +56,23 @@ slice-aggregate-partners-cases-2 c = sym (length-take-le _ _ (search needs))
 partners-cases-requires : tie.Need-partners-cases-requires
 partners-cases-requires c κs = search needs
 
+array-share-prefix-p-3 : tie.Need-array-share-prefix-p-3
+array-share-prefix-p-3 c = search needs
+
+slice-aggregate-own-cases : tie.Need-slice-aggregate-own-cases
+slice-aggregate-own-cases c = sym (length-take-le _ _ (search needs))
+
+own-cases-requires : tie.Need-own-cases-requires
+own-cases-requires c κs = search needs
+
 returns : tie.Need-returns
 returns c = search needs
 
 returns-2 : tie.Need-returns-2
 returns-2 c = search needs
+
+returns-3 : tie.Need-returns-3
+returns-3 c = search needs
 
 pub asked-spec : {M : Type 1} → statement M
 asked-spec =
@@ -83,5 +95,9 @@ asked-spec =
     array-share-prefix-q-2
     slice-aggregate-partners-cases-2
     partners-cases-requires
+    array-share-prefix-p-3
+    slice-aggregate-own-cases
+    own-cases-requires
     returns
-    returns-2)
+    returns-2
+    returns-3)
