@@ -14,10 +14,9 @@ use Rattle.integers.specs.Bools.{decide}
 use Rattle.plane.specs.declared.Spot.{Spot}
 use Rattle.sheet.specs.Layout.{points, nodes}
 use Rattle.sheet.specs.Open.{Opens}
-use Rattle.bits.specs.Set.{none, some, Holds, Finds}
+use Rattle.bits.specs.Set.{none, some, Finds}
 use Rattle.bits.proofs.SomeLaws.{finds-some}
 use Rattle.walk.specs.FilterWalk.{Kept, soFar, shut, consider}
-use Rattle.walk.proofs.FilterCode.{still-holds}
 use Rattle.near.specs.Waiting.{withCovered}
 use Rattle.near.specs.NearWalk.{nearAll, rootWaits, nearKept}
 use Rattle.near.specs.Room.{wiped, listed, Past}

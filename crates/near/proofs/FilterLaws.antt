@@ -1,6 +1,6 @@
 -- What the filter that goes nearest first brings about: every position is kept or dropped by another that is kept, no position past the points is kept, and at most m nodes are opened.
 -- Assumes nothing.
-use mathlib.Core.Path.{_≡_, refl, sym, ap, subst, _∙_}
+use mathlib.Core.Path.{_≡_, refl, subst, _∙_}
 use mathlib.Core.Bool.{Bool, true, false, cond}
 use mathlib.Core.Logic.{_⊎_, inl, inr, ⊎-elim}
 use mathlib.Core.List.{List, [], _∷_}
@@ -19,7 +19,6 @@ use Rattle.plane.proofs.Plane.{In}
 use Rattle.sheet.specs.Layout.{points, nodes}
 use Rattle.sheet.specs.Order.{orderOf}
 use Rattle.sheet.specs.Nodes.{levelOf, firstOf, countOf}
-use Rattle.sheet.specs.Boxes.{Below, sumOver}
 use Rattle.sheet.specs.Places.{spotOf, boxOf}
 use Rattle.sheet.specs.Open.{Opens}
 use Rattle.sheet.proofs.PlaceLaws.{in-box}
@@ -30,9 +29,9 @@ use Rattle.walk.specs.FilterWalk.{Kept, soFar, dropped, shut, consider}
 use Rattle.walk.specs.Claims.{Dropper}
 use Rattle.walk.proofs.FilterLaws.{Right, Settled}
 use Rattle.near.specs.Waiting.{boxEntry, pointEntry, covered, withCovered}
-use Rattle.near.specs.NearWalk.{rootWaits, nearAll, nearKept}
+use Rattle.near.specs.NearWalk.{rootWaits, nearKept}
 use Rattle.near.proofs.MassLaws.{atPlace}
-use Rattle.near.proofs.ListLaws.{Some, here, later, some-cases, some-none, total, insert-some, run-keeps, run-here}
+use Rattle.near.proofs.ListLaws.{Some, here, some-cases, some-none, total, insert-some, run-keeps, run-here}
 use Rattle.near.proofs.EntryLaws.{weigh, Under, itself, below, under-node, under-root}
 use Rattle.near.proofs.NearLaws.{sum-ones, sum-zero, covers-total, root-total, all-keep}
 

@@ -1,7 +1,7 @@
 -- Lists of what waits: something said of each, of some, of the order, and a sum over all; and what is put in where it belongs.
 -- Assumes nothing.
-use mathlib.Core.Path.{_≡_, refl, sym, ap, _∙_}
-use mathlib.Core.Bool.{Bool, true, false, cond, _&&_, _||_}
+use mathlib.Core.Path.{_≡_, refl, sym, ap}
+use mathlib.Core.Bool.{Bool, true, false, cond, _&&_}
 use mathlib.Core.Logic.{_⊎_, inl, inr, ⊎-elim}
 use mathlib.Core.List.{List, [], _∷_}
 use Prim.Native.Nat.{ℕ, zero, suc, _+_, _<_, _≤_}
@@ -33,10 +33,6 @@ each-tail (more p r) = r
 pub each-map : {P Q : ℕ → Type 0} {l : List ℕ} → ((e : ℕ) → P e → Q e) → Each P l → Each Q l
 each-map f none = none
 each-map f (more p r) = more (f _ p) (each-map f r)
-
-pub each-both : {P Q R : ℕ → Type 0} {l : List ℕ} → ((e : ℕ) → P e → Q e → R e) → Each P l → Each Q l → Each R l
-each-both f none none = none
-each-both f (more p r) (more x y) = more (f _ p x) (each-both f r y)
 
 pub some-cases : {P : ℕ → Type 0} {e : ℕ} {l : List ℕ} → Some P (e ∷ l) → P e ⊎ Some P l
 some-cases (here p) = inl p

@@ -12,10 +12,10 @@ use lib.IntN.{ℤ}
 use lib.ListN.{length}
 use borrow.Author.Tests.{eqb-true, eqb-false}
 use Rattle.plane.specs.declared.Spot.{Spot}
-use Rattle.sheet.specs.Nodes.{levelOf, firstOf, countOf}
+use Rattle.sheet.specs.Nodes.{firstOf, countOf}
 use Rattle.sheet.specs.Boxes.{sumOver}
 use Rattle.sheet.specs.Open.{Opens}
-use Rattle.near.specs.Waiting.{boxEntry, pointEntry, isBox, nodeOf, positionOf, covered, withCovered}
+use Rattle.near.specs.Waiting.{boxEntry, pointEntry, nodeOf, positionOf, covered, withCovered}
 use Rattle.near.specs.NearWalk.{nearSteps, rootWaits, nearAll}
 use Rattle.near.specs.Room.{Each, none, more, Kind, box, point, InRun}
 use Rattle.near.proofs.MassLaws.{atPlace}

@@ -15,7 +15,7 @@ use Rattle.plane.specs.declared.Spot.{Spot}
 use Rattle.sheet.specs.Layout.{points, nodes}
 use Rattle.sheet.specs.Open.{Opens}
 use Rattle.near.specs.Waiting.{withCovered}
-use Rattle.near.specs.NearWalk.{nearSteps, nearAll, rootWaits, nearOrder}
+use Rattle.near.specs.NearWalk.{nearAll, rootWaits, nearOrder}
 use Rattle.near.specs.Room.{padded, listed, Past}
 use Rattle.near.proofs.NearLaws.{steps-keep}
 use Rattle.near.proofs.WaitingLaws.{past-same}

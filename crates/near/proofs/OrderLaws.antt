@@ -2,7 +2,7 @@
 -- Assumes nothing.
 use mathlib.Core.Path.{_≡_, refl, sym, ap, subst, _∙_}
 use mathlib.Core.Bool.{Bool, true, false, cond, true≢false}
-use mathlib.Core.Logic.{_⊎_, inl, inr, ⊎-elim}
+use mathlib.Core.Logic.{inl, inr, ⊎-elim}
 use mathlib.Core.List.{List, [], _∷_, _++_}
 use Prim.Native.Nat.{ℕ, zero, suc, _+_, _-_, _*_, _<_, _≤_}
 use native.Mathlib.Omega.{arith}
@@ -12,7 +12,7 @@ use lib.IntN.{ℤ, pos, negsuc, natAbs, _+ℤ_, _-ℤ_}
 use lib.ListN.{length, getD, length-append, List·getD-append}
 use lib.Seq.{getD-at}
 use lib.Signed.{ltZ, _≤ℤ_}
-use borrow.Author.Tests.{eqb-true, eqb-false, eq-eqb, ltb-true, ltb-false}
+use borrow.Author.Tests.{eqb-true, eq-eqb, ltb-true, ltb-false}
 use Rattle.integers.specs.Order.{zl, diff, absN, abs-of, abs-mul}
 use Rattle.integers.specs.Sign.{sq-≥0}
 use Rattle.integers.specs.Bools.{decide}
@@ -29,12 +29,12 @@ use Rattle.sheet.specs.Places.{spotOf, boxOf}
 use Rattle.sheet.specs.Open.{Opens}
 use Rattle.sheet.proofs.PlaceLaws.{in-box}
 use Rattle.sheet.proofs.OrderLaws.{order-below, rank-below, order-rank, rank-order}
-use Rattle.near.specs.Waiting.{boxEntry, pointEntry, isBox, nodeOf, positionOf, away, distance, covered, withCovered}
-use Rattle.near.specs.NearWalk.{rootWaits, nearAll, nearOrder}
+use Rattle.near.specs.Waiting.{boxEntry, pointEntry, nodeOf, positionOf, away, distance, covered, withCovered}
+use Rattle.near.specs.NearWalk.{rootWaits, nearOrder}
 use Rattle.near.specs.Claims.{distanceTo, NotAfter, times}
-use Rattle.near.specs.Room.{Each, none, InRun}
+use Rattle.near.specs.Room.{Each, none}
 use Rattle.near.proofs.MassLaws.{atPlace}
-use Rattle.near.proofs.ListLaws.{each-head, each-tail, each-map, each-both, total, Led, Leads, Sorted, sorted-none, sorted-more, sorted-head, sorted-tail, insert-sorted, run-keeps}
+use Rattle.near.proofs.ListLaws.{each-head, each-tail, each-map, total, Leads, Sorted, sorted-none, sorted-more, sorted-head, sorted-tail, insert-sorted, run-keeps}
 use Rattle.near.proofs.EntryLaws.{is-box, is-point, node-of, position-of, weigh, weigh-point, Under, itself, below, under-covered}
 use Rattle.near.proofs.NearLaws.{covers-total, covers-each, sum-ones, sum-zero, root-total, all-keep}
 

@@ -8,13 +8,11 @@ use native.Mathlib.Omega.{arith}
 use native.Mathlib.Nat.{mul-le-mul}
 use native.Mathlib.Numerals.{add-one}
 use lib.Dec.{eqb, ltb}
-use lib.IntN.{ℤ, pos, natAbs, _+ℤ_, _-ℤ_, _*ℤ_}
-use lib.ListN.{length, getD, set, drop, replicate, length-set, length-drop, length-append, length-replicate, replicate-append-replicate}
+use lib.IntN.{ℤ, pos, natAbs, _+ℤ_, _-ℤ_}
+use lib.ListN.{length, getD, set, drop, replicate, length-set, length-replicate, replicate-append-replicate}
 use lib.Seq.{getD-set-same, getD-set-other, drop-set-lt, drop-cons, drop-drop, set-at}
 use lib.Signed.{ltZ}
-use borrow.Author.Tests.{lt-ltb, le-ltb, eq-eqb, eqb-true, eqb-false}
-use mir.Syntax.{w64}
-use mir.Val.{Fits}
+use borrow.Author.Tests.{lt-ltb, le-ltb, eqb-true, eqb-false}
 use Rattle.integers.specs.Order.{Within, in--, in-up, in-lit, abs-mul}
 use Rattle.words.specs.Word.{num}
 use Rattle.plane.specs.declared.Spot.{Spot}
@@ -25,7 +23,7 @@ use Rattle.sheet.specs.Places.{spotOf, boxOf}
 use Rattle.sheet.specs.Open.{Opens}
 use Rattle.walk.specs.Walk.{inTurn}
 use Rattle.walk.proofs.TurnLaws.{Turn, turn-start, turn-step, turn-end}
-use Rattle.near.specs.Waiting.{boxEntry, pointEntry, isBox, nodeOf, positionOf, away, distance, before, insert, covered, withCovered}
+use Rattle.near.specs.Waiting.{boxEntry, away, distance, before, insert, covered, withCovered}
 use Rattle.near.specs.NearWalk.{rootWaits}
 use Rattle.near.specs.Room.{wiped, listed, Kind, box, point, InRun, Each, Past}
 use Rattle.near.proofs.ListLaws.{each-head, each-tail, insert-each}
@@ -292,10 +290,6 @@ wiped-step ws₀ ws i h e =
     ∙ sym (append-assoc (replicate i 0) (0 ∷ []) (drop (suc i) ws₀))
     ∙ ap (λ (l : List ℕ). l ++ drop (suc i) ws₀) (replicate-append-replicate i 1 0)
     ∙ ap (λ (k : ℕ). replicate (i + 1) 0 ++ drop k ws₀) (sym (add-one i))
-
-pub wiped-length : (k : ℕ) (ws : List ℕ) → k ≤ length ws → length (wiped k ws) ≡ length ws
-unfolding wiped
-wiped-length k ws h = omega (arith, length-append (replicate k 0) (drop k ws), length-replicate {A = ℕ} k 0, length-drop k ws)
 
 -- what leaves the rest as it was leaves the same behind, once wiped
 pub wiped-past : (k : ℕ) (ws ws′ : List ℕ) → Past k ws ws′ → wiped k ws′ ≡ wiped k ws

@@ -1,9 +1,9 @@
 -- Laws for the loop of the walk that goes nearest first, for any state: what is left to do with so much waiting in the lent numbers.
 -- Assumes nothing.
-use mathlib.Core.Path.{_≡_, refl, sym, ap, subst, _∙_}
+use mathlib.Core.Path.{_≡_, sym, ap, subst, _∙_}
 use mathlib.Core.Bool.{Bool, true, false, cond}
-use mathlib.Core.List.{List, [], _∷_}
-use Prim.Native.Nat.{ℕ, zero, suc, _+_, _-_, _<_, _≤_}
+use mathlib.Core.List.{List, _∷_}
+use Prim.Native.Nat.{ℕ, suc, _+_, _-_, _<_, _≤_}
 use native.Mathlib.Omega.{arith}
 use lib.IntN.{ℤ}
 use lib.ListN.{length, getD}
@@ -12,10 +12,10 @@ use Rattle.sheet.specs.Nodes.{firstOf, countOf}
 use Rattle.sheet.specs.Open.{Opens}
 use Rattle.near.specs.Waiting.{boxEntry, pointEntry, covered, withCovered}
 use Rattle.near.specs.NearWalk.{nearSteps, rootWaits, nearAll}
-use Rattle.near.specs.Room.{listed, Kind, box, point, Each, Past}
+use Rattle.near.specs.Room.{listed, Kind, Each, Past}
 use Rattle.near.proofs.ListLaws.{each-head, each-tail, total, run-length}
 use Rattle.near.proofs.NearLaws.{weight, weight-some, length-weight, covers-total, covers-kind, root-kinds, root-load, steps-none, step-box, step-point, steps-enough}
-use Rattle.near.proofs.WaitingLaws.{listed-more, listed-length, past-wider, past-past, past-same, kind-box, kind-point}
+use Rattle.near.proofs.WaitingLaws.{listed-more, listed-length, past-wider, past-past, kind-box}
 
 -- what waits weighs so much
 abbrev pub load : List ℤ → ℕ → ℕ → List ℕ → ℕ → ℕ

@@ -1,11 +1,10 @@
 -- The walk that goes nearest first, as source document 004 has it (3.1): what is nearest of all that waits is taken out and looked at, until nothing waits.
 -- A box is skipped or opened, and what an opened node covers waits from then on. The test is made when the box is taken out.
-use mathlib.Core.Bool.{Bool, true, false, cond}
+use mathlib.Core.Bool.{Bool, false, cond}
 use mathlib.Core.List.{List, [], _∷_, _++_}
 use Prim.Native.Nat.{ℕ, zero, suc, _+_, _-_}
 use lib.Dec.{eqb}
 use lib.IntN.{ℤ}
-use lib.ListN.{take}
 use Rattle.plane.specs.declared.Spot.{Spot}
 use Rattle.sheet.specs.Layout.{points, nodes}
 use Rattle.bits.specs.Set.{kept, none}

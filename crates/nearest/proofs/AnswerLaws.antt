@@ -1,14 +1,14 @@
 -- The answers of the calls, by their numbers; and the lent numbers after them.
 -- Assumes nothing.
-use mathlib.Core.Path.{_≡_, refl, sym, ap, subst, _∙_}
+use mathlib.Core.Path.{_≡_, refl, sym, ap, _∙_}
 use mathlib.Core.Bool.{Bool, true, false, cond, not, _&&_}
 use mathlib.Core.List.{List, [], _∷_, _++_, map, append-assoc}
-use Prim.Native.Nat.{ℕ, zero, suc, _+_, _-_, _≤_, _<_}
+use Prim.Native.Nat.{ℕ, suc, _+_, _-_, _≤_, _<_}
 use native.Mathlib.Omega.{arith}
 use native.Mathlib.Numerals.{add-one}
-use lib.Dec.{eqb, ltb, leb}
+use lib.Dec.{leb}
 use lib.IntN.{ℤ, pos}
-use lib.ListN.{length, getD, take, set, replicate, length-map, length-take, length-append, length-replicate, length-set, List·getD-append}
+use lib.ListN.{length, getD, take, set, replicate, length-map, length-take, List·getD-append}
 use lib.Seq.{take-suc, take-all, set-at, length-take-le, getD-take}
 use borrow.Author.Tests.{leb-true, eq-eqb, ne-eqb, lt-ltb, le-ltb, not-true, not-false}
 use Rattle.plane.specs.declared.Spot.{Spot}
@@ -26,7 +26,6 @@ use Rattle.near.specs.Room.{wiped, padded}
 use Rattle.near.specs.Claims.{distanceTo}
 use Rattle.near.proofs.OrderLaws.{order-small}
 use Rattle.ring.specs.declared.Filtered.{Filtered}
-use Rattle.ring.specs.Numbers.{first}
 use Rattle.ring.specs.Page.{sizeNo}
 use Rattle.ring.specs.Answers.{filteredTo, unfiltered}
 use Rattle.ring.proofs.NumberLaws.{first-stops, first-passes}

@@ -17,17 +17,17 @@ use Rattle.words.specs.All.{firstB}
 use Rattle.words.proofs.AllLaws.{first-none as none-yet, first-more, first-stop}
 use Rattle.plane.specs.declared.Spot.{Spot}
 use Rattle.plane.specs.Rule.{SpotIn}
-use Rattle.plane.specs.Point.{Point, idAt}
+use Rattle.plane.specs.Point.{idAt}
 use Rattle.sheet.specs.Layout.{points, nodes}
 use Rattle.sheet.specs.Places.{spotOf, pointsOf}
 use Rattle.sheet.specs.Open.{Opens}
 use Rattle.sheet.proofs.PointsLaws.{length-points}
 use Rattle.sheet.proofs.SheetLaws.{own}
 use Rattle.sheet.proofs.RangeLaws.{spot-in}
-use Rattle.ring.specs.Numbers.{first, sheetsNo}
+use Rattle.ring.specs.Numbers.{sheetsNo}
 use Rattle.ring.specs.Answers.{headOf, headsOf}
 use Rattle.ring.specs.declared.Head.{Head}
-use Rattle.ring.proofs.NumberLaws.{first-stops, first-passes}
+use Rattle.ring.proofs.NumberLaws.{first-passes}
 use Rattle.ring.proofs.HeadLaws.{headed, heads-p, heads-q, heads-open, heads-number, headed-both, sheets-stop}
 use Rattle.nearest.specs.declared.Chamber.{Chamber}
 use Rattle.nearest.specs.Nearest.{chamberNo, standsAt, unplacedAt, chamberFound}

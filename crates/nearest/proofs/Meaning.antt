@@ -8,12 +8,12 @@
 --     near-pairs      a ring partner of the chamber is a kept position whose ring walk is clear, and no other
 --     nearest-once, near-filter-once      one input, one answer, one final state
 -- Assumes nothing.
-use mathlib.Core.Path.{_≡_, refl, sym, ap, subst, _∙_}
+use mathlib.Core.Path.{_≡_, refl, sym, ap, _∙_}
 use mathlib.Core.Bool.{Bool, true, false, cond, _&&_}
 use mathlib.Core.List.{List, [], _∷_, map}
 use Prim.Native.Nat.{ℕ, zero, suc, min, _+_, _-_, _*_, _≤_, _<_}
 use native.Mathlib.Omega.{arith}
-use lib.Dec.{eqb, ltb, leb}
+use lib.Dec.{eqb}
 use lib.IntN.{ℤ}
 use lib.ListN.{length, getD, take, drop, replicate, length-map, length-take, List·getD-append}
 use lib.Seq.{drop-at, getD-take}
@@ -29,13 +29,13 @@ use Rattle.sheet.proofs.PointsLaws.{length-points}
 use Rattle.list.specs.RingList.{ringPair}
 use Rattle.list.proofs.RowLaws.{by-id}
 use Rattle.join.proofs.Meaning.{points-rise}
-use Rattle.bits.specs.Set.{kept, card}
+use Rattle.bits.specs.Set.{kept}
 use Rattle.walk.specs.RingWalk.{clear, pairWalk}
 use Rattle.near.specs.NearWalk.{nearOrder, nearKept}
 use Rattle.near.specs.Room.{wiped}
 use Rattle.near.proofs.Meaning.{near-all, near-exact}
 use Rattle.ring.specs.declared.Filtered.{Filtered}
-use Rattle.ring.specs.Numbers.{first, sheetsNo}
+use Rattle.ring.specs.Numbers.{sheetsNo}
 use Rattle.ring.specs.Page.{sizeNo}
 use Rattle.ring.specs.Answers.{filteredTo, unfiltered}
 use Rattle.ring.proofs.NumberLaws.{first-passes}

@@ -1,5 +1,5 @@
 -- `near::order::first_points` meets its contract. The loop's invariant is `Giving`: what is left to do of the walk, and the positions so far. Assumes nothing.
-use mathlib.Core.Path.{_≡_, sym, _∙_}
+use mathlib.Core.Path.{_≡_, _∙_}
 use Prim.Native.Nat.{_≤_, _<_}
 use native.Mathlib.Omega.{arith}
 use lib.Dec.{ltb}

@@ -1,5 +1,5 @@
 -- `near::waiting::put` meets its contract. The loop's invariant is `Moved`: e is to be put in at k or below. Assumes nothing.
-use mathlib.Core.Path.{_≡_, sym, _∙_}
+use mathlib.Core.Path.{sym, _∙_}
 use Prim.Native.Nat.{_<_}
 use native.Mathlib.Omega.{arith}
 use lib.ListN.{length, length-set}

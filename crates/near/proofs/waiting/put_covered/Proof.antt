@@ -1,5 +1,4 @@
 -- `near::waiting::put_covered` meets its contract. The loop's invariant is `Filled`: i of what the node covers are in. Assumes nothing.
-use mathlib.Core.Path.{_≡_}
 use Prim.Native.Nat.{_-_}
 use native.Mathlib.Omega.{arith}
 use borrow.Author.Needs.{needs}
