@@ -8,13 +8,12 @@ the q id, the size and how many of 2,048 numbers are lent; 0 ends it. A negative
 mark before the call. A line has what was asked, the number of refusal, then how many of the 2,048 numbers are 0 and how many still hold their mark after the
 call; then the pump houses with their squared distances, or the number of bits set, the nodes opened and the sixteen words of the kept set.
 """
-import collections
 
 import reading
 import towns
 import trees
 from chance import Chance
-from stored import Cases
+from stored import Asked
 
 LARGEST = 2 ** 64 - 1
 LARGEST_ID = 2 ** 32 - 1
@@ -48,15 +47,11 @@ def asked(p, q, request):
     return (nearest_line, p, q, q_id, size, lent) if kind == POINTS else (filter_line, p, q, q_id, lent)
 
 
-class Near:
-    def __init__(self):
-        self.cases = Cases("try_near")
-        self.pairs = 0
-        self.seen = collections.Counter()
+class Near(Asked):
+    program = "try_near"
 
     def add(self, label, p, q, requests):
-        words = [1, len(p), len(q), len(requests)] + p + q + [word for request in requests for word in request]
-        lines = self.cases.add(label, words, [asked(p, q, request) for request in requests])
+        lines = self.put(label, p, q, requests, [asked(p, q, request) for request in requests])
         for (kind, _, size, lent), line in zip(requests, lines):
             fields = list(map(int, line.split(": ")[1].split()))
             self.seen[kind, fields[0]] += 1
@@ -73,7 +68,6 @@ class Near:
                     in_table_order, _ = reading.filter_walk(reading.Sheet(p), reading.place_of(reading.Sheet(q), int(line.split()[1])))
                     self.seen["kept otherwise than in table order"] += reading.kept_words(in_table_order) != fields[5:]
                     self.seen["a node skipped"] += fields[4] < m
-        self.pairs += 1
 
 
 def ids_of(sheet):

@@ -16,7 +16,7 @@ import reading
 import towns
 import trees
 from chance import Chance
-from stored import Cases
+from stored import Asked
 
 LARGEST_ID = 2 ** 32 - 1
 LARGEST = 2 ** 64 - 1
@@ -44,20 +44,16 @@ def partners_line(rules, p, q, q_id, t, listed):
     return "partners %d %d: %d %d %d" % (q_id, t, number, count, enough)
 
 
-class Pages:
-    def __init__(self):
-        self.cases = Cases("try_pages")
-        self.pairs = 0
-        self.seen = collections.Counter()
+class Pages(Asked):
+    program = "try_pages"
 
     def add(self, label, p, q, requests, listed=None):
         requests = [request + (0,) * (4 - len(request)) for request in requests]
-        words = [1, len(p), len(q), len(requests)] + p + q + [word for request in requests for word in request]
         asked = []
         for key_q, key_p, size, t in requests:
             key_q, key_p, t = (LARGEST_ID if word < 0 else word for word in (key_q, key_p, t))
             asked.append((page_line, p, q, (key_q, key_p), LARGEST if size < 0 else size, t, listed))
-        for line in self.cases.add(label, words, asked):
+        for line in self.put(label, p, q, requests, asked):
             size, t = map(int, line.split(":")[0].split()[3:5])
             number, _, _, _, _, _, _, _, count, end = map(int, line.split(": ")[1].split()[:10])
             self.seen[number] += 1
@@ -66,15 +62,13 @@ class Pages:
                 self.seen["full last page"] += end and count == size
                 self.seen["empty page"] += end and count == 0
                 self.seen["page of a t"] += t > 0 and count > 0
-        self.pairs += 1
 
     def own(self, label, sheet, requests, listed=None):
-        words = [3, len(sheet), 0, len(requests)] + sheet + [word for request in requests for word in request]
         asked = []
         for key_q, key_p, size in requests:
             key = tuple(LARGEST_ID if word < 0 else word for word in (key_q, key_p))
             asked.append((own_line, sheet, key, LARGEST if size < 0 else size, listed))
-        for line in self.cases.add(label, words, asked):
+        for line in self.put(label, sheet, [], requests, asked, kind=3):
             size = int(line.split(":")[0].split()[3])
             number, _, _, _, _, _, _, _, count, end = map(int, line.split(": ")[1].split()[:10])
             self.seen["own", number] += 1
@@ -83,9 +77,8 @@ class Pages:
                 self.seen["own page amid"] += not end
 
     def ask(self, label, p, q, questions, listed=None):
-        words = [2, len(p), len(q), len(questions)] + p + q + [word for question in questions for word in question]
         asked = [(partners_line, p, q) + tuple(LARGEST_ID if word < 0 else word for word in question) + (listed,) for question in questions]
-        for line in self.cases.add(label, words, asked):
+        for line in self.put(label, p, q, questions, asked, kind=2):
             number, count, enough = map(int, line.split(": ")[1].split())
             self.seen["question", number] += 1
             if not number:

@@ -7,7 +7,6 @@ The input, in words: 1, the lengths of P's and Q's sheet, the number of runs, P'
 lent; 0 ends it. A negative word stands for the largest number that a call can be given. Each slot holds a mark before the call. A line has the node and the
 slots lent, the number of refusal, the number of pairs, the nodes opened, how many of the 256 slots still hold their mark, and the pairs with their sizes.
 """
-import collections
 import math
 
 import reading
@@ -15,7 +14,7 @@ import towns
 import trees
 from chance import Chance
 from check_reading import runs_are_the_list
-from stored import Cases
+from stored import Asked
 
 LARGEST = 2 ** 64 - 1
 SLOTS = 256
@@ -33,15 +32,11 @@ def run_line(rules, p, q, leaf, lent):
     return "run %d %d: %s" % (leaf, lent, " ".join(map(str, fields)))
 
 
-class Runs:
-    def __init__(self):
-        self.cases = Cases("try_runs")
-        self.pairs = 0
-        self.seen = collections.Counter()
+class Runs(Asked):
+    program = "try_runs"
 
     def add(self, label, p, q, requests):
-        words = [1, len(p), len(q), len(requests)] + p + q + [word for request in requests for word in request]
-        lines = self.cases.add(label, words, [(run_line, p, q, number(leaf), number(lent)) for leaf, lent in requests])
+        lines = self.put(label, p, q, requests, [(run_line, p, q, number(leaf), number(lent)) for leaf, lent in requests])
         for (leaf, lent), line in zip(requests, lines):
             refused, count, _, marked = map(int, line.split(": ")[1].split()[:4])
             assert marked == SLOTS - count
@@ -53,7 +48,6 @@ class Runs:
                 self.seen["one chamber"] += chambers == 1 and count > 0
                 self.seen["sixteen chambers"] += chambers == 16 and count > 0
                 self.seen["slots left"] += 0 < count < lent
-        self.pairs += 1
 
 
 def requests_of(rng, p, q, leaves=None):

@@ -6,13 +6,12 @@
 The input, in words: 1, the lengths of P's and Q's sheet, the number of requests, P's words, Q's words, and for each request k; 0 ends it. A negative word
 stands for the largest number that a call can be given. A line has k, the number of refusal, the number of pairs, and sixteen pairs with their sizes.
 """
-import collections
 
 import reading
 import towns
 import trees
 from chance import Chance
-from stored import Cases
+from stored import Asked
 
 LARGEST = 2 ** 64 - 1
 ALL = list(range(1, 17))
@@ -26,15 +25,11 @@ def shortest_line(rules, p, q, k):
     return "shortest %d: %s" % (k, " ".join(map(str, fields)))
 
 
-class Shortest:
-    def __init__(self):
-        self.cases = Cases("try_shortest")
-        self.pairs = 0
-        self.seen = collections.Counter()
+class Shortest(Asked):
+    program = "try_shortest"
 
     def add(self, label, p, q, requests, listed=None):
-        words = [1, len(p), len(q), len(requests)] + p + q + requests
-        lines = self.cases.add(label, words, [(shortest_line, p, q, LARGEST if k < 0 else k) for k in requests])
+        lines = self.put(label, p, q, [[k] for k in requests], [(shortest_line, p, q, LARGEST if k < 0 else k) for k in requests])
         for k, line in zip(requests, lines):
             number, count = map(int, line.split(": ")[1].split()[:2])
             self.seen[number] += 1
@@ -49,7 +44,6 @@ class Shortest:
                     self.seen["tie of one chamber at the end"] += order[count - 1][::2] == order[count][::2]
                     self.seen["other by p id"] += sorted(listed, key=lambda v: (v[2], v[1], v[0]))[:count] != order[:count]
                     self.seen["found late"] += any(pair not in listed[:16] for pair in order[:count])
-        self.pairs += 1
 
 
 def listing(p, q):

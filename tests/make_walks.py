@@ -6,14 +6,13 @@
 The input, in words: 1, the lengths of P's and Q's sheet, the numbers of filter walks and of ring walks asked, P's words, Q's words, a position j of Q for
 each filter walk, and positions j of Q and i of P for each ring walk; 0 ends it. A position of -1 stands for the largest that a call can be given.
 """
-import collections
 
 import reading
 import towns
 import trees
 from chance import Chance
 from check_reading import walks_mean_the_rule
-from stored import Cases
+from stored import Asked
 
 LARGEST = 2 ** 64 - 1
 
@@ -34,11 +33,8 @@ def ring_line(rules, p, q, j, i):
     return "ring %d %d: %s" % (j, i, said)
 
 
-class Walks:
-    def __init__(self):
-        self.cases = Cases("try_walks")
-        self.pairs = 0
-        self.seen = collections.Counter()
+class Walks(Asked):
+    program = "try_walks"
 
     def add(self, label, p, q, filters, rings):
         words = [1, len(p), len(q), len(filters), len(rings)] + p + q + list(filters) + [word for pair in rings for word in pair]

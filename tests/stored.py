@@ -1,4 +1,5 @@
 """How the cases of a program are stored: its input as little-endian words, and the lines that it must print."""
+import collections
 import os
 import struct
 
@@ -66,3 +67,19 @@ class Cases:
             with open(self.path(name), "rb") as file:
                 contents.append(file.read())
         return contents
+
+
+class Asked:
+    """The cases of one program that are asked of two sheets each; what was seen in them is counted."""
+
+    program = ""
+
+    def __init__(self):
+        self.cases = Cases(self.program)
+        self.pairs = 0
+        self.seen = collections.Counter()
+
+    def put(self, label, p, q, requests, asked, kind=1):
+        """A case of two sheets and the words of each request, of a kind that the program knows. Answers the lines that must be printed."""
+        self.pairs += kind == 1
+        return self.cases.add(label, [kind, len(p), len(q), len(requests)] + p + q + [word for request in requests for word in request], asked)

@@ -1,48 +1,28 @@
--- Laws of the lines: finding a record by its id, and lines one after the other. Assumes nothing.
+-- Laws of the lines: where a record found by its id stands, and lines one after the other. Assumes nothing.
 use mathlib.Core.Path.{_≡_, refl, sym, ap, subst, _∙_}
-use mathlib.Core.Bool.{Bool}
 use mathlib.Core.List.{List, [], _∷_, _++_, append-assoc, append-nil}
 use Prim.Native.Nat.{ℕ, _+_, _≤_, _<_}
-use native.Mathlib.Nat.{le-antisymm}
 use native.Mathlib.Nat.{add-zero}
 use native.Mathlib.Numerals.{add-one}
-use borrow.Author.Tests.{eq-eqb, ne-eqb}
-use lib.Dec.{eqb}
 use lib.IntN.{ℤ}
 use lib.ListN.{length, take, getD}
 use lib.Seq.{take-suc}
-use Rattle.words.specs.All.{firstB}
-use Rattle.words.proofs.AllLaws.{first-more, first-stop}
 use Rattle.plane.specs.Rule.{SpotIn}
-use Rattle.plane.specs.Point.{Point, idAt}
+use Rattle.plane.specs.Point.{Point}
 use Rattle.sheet.specs.Places.{spotOf, pointsOf}
 use Rattle.sheet.specs.Open.{Opens}
 use Rattle.sheet.proofs.PointsLaws.{length-points, spot-of}
 use Rattle.sheet.proofs.RangeLaws.{spot-in}
 use Rattle.list.specs.declared.Pair.{Pair}
 use Rattle.list.specs.Pairs.{none}
+use Rattle.join.specs.Find.{positionOf}
 use Rattle.text.specs.Text.{Grown}
 use Rattle.text.proofs.Grow.{then}
-use Rattle.lister.specs.Listing.{positionOf, Has, standsAt, lineOf, linesOf}
-
--- the test for an id at a position
-abbrev pub isId : List Point → ℕ → ℕ → Bool
-isId s id i = eqb (idAt s i) id
+use Rattle.lister.specs.Listing.{Has, standsAt, lineOf, linesOf}
 
 module _ {w : List ℤ} {n m : ℕ} (o : Opens w n m) (id : ℕ) where
   count : length (pointsOf w) ≡ n
   count = length-points w ∙ o .n-is
-
-  pub passed : (i : ℕ) → firstB i (isId (pointsOf w) id) ≡ i → (idAt (pointsOf w) i ≡ id → ⊥) → firstB (i + 1) (isId (pointsOf w) id) ≡ i + 1
-  passed i e f = first-more (isId (pointsOf w) id) i e (ne-eqb (idAt (pointsOf w) i) id f)
-
-  pub found : (i : ℕ) → firstB i (isId (pointsOf w) id) ≡ i → idAt (pointsOf w) i ≡ id → i < n → i ≡ positionOf (pointsOf w) id
-  unfolding positionOf
-  found i e f h = first-stop (isId (pointsOf w) id) i (length (pointsOf w)) e (eq-eqb (idAt (pointsOf w) i) id f) (rw count h)
-
-  pub not-found : (i : ℕ) → firstB i (isId (pointsOf w) id) ≡ i → i ≤ n → n ≤ i → i ≡ positionOf (pointsOf w) id
-  unfolding positionOf
-  not-found i e h k = sym e ∙ ap (λ (j : ℕ). firstB j (isId (pointsOf w) id)) (le-antisymm h k ∙ sym count)
 
   -- a record that is there stands at its place
   pub position-in : Has (pointsOf w) id → positionOf (pointsOf w) id < n

@@ -8,6 +8,7 @@ use borrow.Author.Tests.{eq-eqb, eqb-true}
 use lib.IntN.{ℤ}
 use lib.ListN.{length, take, getD}
 use lib.Seq.{getD-take}
+use lib.Dec.{eqb}
 use Rattle.words.proofs.AllLaws.{first-in, first-hit}
 use Rattle.plane.specs.Point.{Point, idAt}
 use Rattle.sheet.specs.Places.{pointsOf}
@@ -28,18 +29,18 @@ use Rattle.ring.specs.declared.Paged.{Paged}
 use Rattle.ring.specs.Numbers.{sheetsNo}
 use Rattle.ring.specs.Page.{sourceOf, pageGiven, pageAnswer}
 use Rattle.ring.proofs.PageLaws.{page-served}
-use Rattle.lister.specs.Listing.{positionOf, Has, standsAt, HasBoth}
+use Rattle.lister.specs.Listing.{Has, standsAt, HasBoth}
 use Rattle.lister.specs.Outcome.{Both, InRange, pairsOf}
-use Rattle.lister.proofs.LineLaws.{isId}
+use Rattle.join.specs.Find.{positionOf}
 
 has : (s : List Point) (j : ℕ) → j < length s → Has s (idAt s j)
 unfolding positionOf
-has s j h = first-in (isId s (idAt s j)) (length s) j h (eq-eqb (idAt s j) (idAt s j) refl)
+has s j h = first-in (λ i. eqb (idAt s i) (idAt s j)) (length s) j h (eq-eqb (idAt s j) (idAt s j) refl)
 
 -- the record at the position of an id has it
 named : (s : List Point) (id : ℕ) → Has s id → idAt s (positionOf s id) ≡ id
 unfolding positionOf
-named s id h = eqb-true (idAt s (positionOf s id)) id (first-hit (isId s id) (length s) h)
+named s id h = eqb-true (idAt s (positionOf s id)) id (first-hit (λ i. eqb (idAt s i) id) (length s) h)
 
 -- ---- the last pair of a page
 

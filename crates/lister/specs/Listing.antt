@@ -2,22 +2,17 @@
 use mathlib.Core.Bool.{cond}
 use mathlib.Core.List.{List, [], _∷_, _++_}
 use Prim.Native.Nat.{ℕ, zero, suc, _<_}
-use lib.Dec.{eqb}
 use lib.IntN.{_+ℤ_}
 use lib.ListN.{length}
-use Rattle.words.specs.All.{firstB}
 use Rattle.plane.specs.declared.Spot.{Spot}
-use Rattle.plane.specs.Point.{Point, idAt, spotAt}
+use Rattle.plane.specs.Point.{Point, spotAt}
 use Rattle.list.specs.declared.Key.{Key}
 use Rattle.list.specs.declared.Pair.{Pair}
 use Rattle.list.specs.Pairs.{after, lastOr, isNone}
 use Rattle.list.specs.Pages.{shown}
 use Rattle.list.specs.RingList.{ringList}
+use Rattle.join.specs.Find.{positionOf}
 use Rattle.text.specs.Text.{lineText, endText}
-
--- the position of an id in a set
-unfoldable pub positionOf : List Point → ℕ → ℕ
-positionOf s id = firstB (length s) (λ i. eqb (idAt s i) id)
 
 -- the set has the id
 abbrev pub Has : List Point → ℕ → Type 0

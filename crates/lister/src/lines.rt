@@ -12,31 +12,14 @@ ghost use Rattle.sheet.specs.Open.{Opens};
 ghost use Rattle.list.specs.Pairs.{none};
 ghost use Rattle.list.specs.Pages.{pagePairs};
 ghost use Rattle.text.specs.Text.{Grown};
-ghost use Rattle.lister.specs.Listing.{positionOf, Has, standsAt, HasBoth, lineAt, lineOf, linesOf};
-
-// The position of an id in a sheet.
-fn position_of(s: &[i32], h: Head, id: u32) -> usize
-    requires { ⌜ Opens (now s) (h .n) (h .m) ⌝ }
-    ensures { λ r. ⌜ r ≡ positionOf (pointsOf (now (s .entry))) id ⌝ }
-{
-    let n = h.n;
-    let m = h.m;
-    let mut i = 0;
-    while i < n {
-        if sheet::reads::id_at(s, n, m, i) == id {
-            return i;
-        }
-        i += 1;
-    }
-    i
-}
+ghost use Rattle.lister.specs.Listing.{Has, standsAt, HasBoth, lineAt, lineOf, linesOf};
 
 // Where the record of an id stands.
 fn stands_at(s: &[i32], h: Head, id: u32) -> Spot
     requires { ⌜ Opens (now s) (h .n) (h .m) × Has (pointsOf (now s)) id ⌝ }
     ensures { λ r. ⌜ (r ≡ standsAt (pointsOf (now (s .entry))) id) × SpotIn r ⌝ }
 {
-    let i = position_of(s, h, id);
+    let i = join::find::position_of(s, h.n, h.m, id);
     sheet::reads::spot_at(s, h.n, h.m, i)
 }
 

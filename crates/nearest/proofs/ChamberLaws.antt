@@ -6,18 +6,14 @@
 use mathlib.Core.Path.{_≡_, refl, sym, ap, subst, _∙_}
 use mathlib.Core.Bool.{Bool, true, false, cond}
 use mathlib.Core.List.{List}
-use Prim.Native.Nat.{ℕ, _+_, _≤_, _<_}
+use Prim.Native.Nat.{ℕ, _≤_, _<_}
 use native.Mathlib.Omega.{arith}
-use native.Mathlib.Nat.{le-antisymm}
 use lib.Dec.{eqb, ltb}
 use lib.IntN.{ℤ}
 use lib.ListN.{length}
 use borrow.Author.Tests.{eq-eqb, ne-eqb, eqb-true, lt-ltb, le-ltb, ltb-true}
-use Rattle.words.specs.All.{firstB}
-use Rattle.words.proofs.AllLaws.{first-none as none-yet, first-more, first-stop}
 use Rattle.plane.specs.declared.Spot.{Spot}
 use Rattle.plane.specs.Rule.{SpotIn}
-use Rattle.plane.specs.Point.{idAt}
 use Rattle.sheet.specs.Layout.{points, nodes}
 use Rattle.sheet.specs.Places.{spotOf, pointsOf}
 use Rattle.sheet.specs.Open.{Opens}
@@ -31,30 +27,8 @@ use Rattle.ring.proofs.NumberLaws.{first-passes}
 use Rattle.ring.proofs.HeadLaws.{headed, heads-p, heads-q, heads-open, heads-number, headed-both, sheets-stop}
 use Rattle.nearest.specs.declared.Chamber.{Chamber}
 use Rattle.nearest.specs.Nearest.{chamberNo, standsAt, unplacedAt, chamberFound}
-use Rattle.ring.specs.Partners.{chamberOf, idNo}
-
--- ---- the chamber with an id: none of the first j has it
-
-abbrev pub has : List ℤ → ℕ → ℕ → Bool
-has Q id j = eqb (idAt (pointsOf Q) j) id
-
-module _ {Q : List ℤ} {nq mq : ℕ} (o : Opens Q nq mq) (id : ℕ) where
-  pub seek-start : firstB 0 (has Q id) ≡ 0
-  seek-start = none-yet (has Q id)
-
-  pub seek-on : (j a : ℕ) → firstB j (has Q id) ≡ j → a ≡ idAt (pointsOf Q) j → (a ≡ id → ⊥) → firstB (j + 1) (has Q id) ≡ j + 1
-  seek-on j a e i ne = first-more (has Q id) j e (ne-eqb (idAt (pointsOf Q) j) id (λ x. ne (i ∙ x)))
-
-  chambers : length (pointsOf Q) ≡ nq
-  chambers = length-points Q ∙ o .n-is
-
-  pub seek-stop : (j a : ℕ) → firstB j (has Q id) ≡ j → a ≡ idAt (pointsOf Q) j → a ≡ id → j < nq → j ≡ chamberOf (pointsOf Q) id
-  unfolding chamberOf
-  seek-stop j a e i y l = first-stop (has Q id) j (length (pointsOf Q)) e (eq-eqb (idAt (pointsOf Q) j) id (sym i ∙ y)) (omega (arith, chambers))
-
-  pub seek-end : (j : ℕ) → firstB j (has Q id) ≡ j → j ≤ nq → nq ≤ j → j ≡ chamberOf (pointsOf Q) id
-  unfolding chamberOf
-  seek-end j e l g = sym e ∙ ap (λ (k : ℕ). firstB k (has Q id)) (le-antisymm l g ∙ sym chambers)
+use Rattle.join.specs.Find.{positionOf}
+use Rattle.ring.specs.Partners.{idNo}
 
 -- ---- what is found
 
@@ -79,12 +53,12 @@ module _ (P Q : List ℤ) (id : ℕ) where
       number false t = refl
 
   -- a known id is that of a chamber
-  known : idNo (pointsOf Q) id ≡ 0 → chamberOf (pointsOf Q) id < length (pointsOf Q)
+  known : idNo (pointsOf Q) id ≡ 0 → positionOf (pointsOf Q) id < length (pointsOf Q)
   unfolding idNo
-  known e = go (ltb (chamberOf (pointsOf Q) id) (length (pointsOf Q))) refl e
+  known e = go (ltb (positionOf (pointsOf Q) id) (length (pointsOf Q))) refl e
     where
-      go : (t : Bool) → ltb (chamberOf (pointsOf Q) id) (length (pointsOf Q)) ≡ t → _≡_ {A = ℕ} (cond t 0 20) 0 → chamberOf (pointsOf Q) id < length (pointsOf Q)
-      go true t f = ltb-true (chamberOf (pointsOf Q) id) (length (pointsOf Q)) t
+      go : (t : Bool) → ltb (positionOf (pointsOf Q) id) (length (pointsOf Q)) ≡ t → _≡_ {A = ℕ} (cond t 0 20) 0 → positionOf (pointsOf Q) id < length (pointsOf Q)
+      go true t f = ltb-true (positionOf (pointsOf Q) id) (length (pointsOf Q)) t
       go false t f = absurd (omega (arith, f))
 
   pub record Placed (c : Chamber) : Type 0 where
@@ -104,7 +78,7 @@ module _ (P Q : List ℤ) (id : ℕ) where
       let s : sheetsNo P Q ≡ 0 = both (eqb (sheetsNo P Q) 0) refl no in
       let o = headed-both P Q (headsOf P Q) refl (heads-number P Q (headsOf P Q) refl ∙ s) in
       let k : idNo (pointsOf Q) id ≡ 0 = sym (first-passes (sheetsNo P Q) (idNo (pointsOf Q) id) s) ∙ no in
-      let j : chamberOf (pointsOf Q) id < headsOf P Q .nq = omega (arith, known k, length-points Q, o .nq-is) in
+      let j : positionOf (pointsOf Q) id < headsOf P Q .nq = omega (arith, known k, length-points Q, o .nq-is) in
       record {
         no = no;
         n-is = ap (λ (g : Chamber). g .n) f;
@@ -112,7 +86,7 @@ module _ (P Q : List ℤ) (id : ℕ) where
         at-is = ap (λ (g : Chamber). g .at) f;
         n-le = omega (arith, ap (λ (g : Chamber). g .n) f, o .np-is, o .np-le);
         opens = subst (λ (g : Chamber). Opens P (g .n) (g .m)) (sym f) (own (o .p-facts));
-        within = subst (λ (g : Chamber). SpotIn (g .at)) (sym f) (spot-in (o .q-facts) (chamberOf (pointsOf Q) id) j);
+        within = subst (λ (g : Chamber). SpotIn (g .at)) (sym f) (spot-in (o .q-facts) (positionOf (pointsOf Q) id) j);
       }
     where
       both : (t : Bool) → eqb (sheetsNo P Q) 0 ≡ t → cond t (idNo (pointsOf Q) id) (sheetsNo P Q) ≡ 0 → sheetsNo P Q ≡ 0
@@ -129,7 +103,7 @@ module _ (P Q : List ℤ) (id : ℕ) where
       unfolding chamberNo
       placed-q ne c r = r ∙ chamber-refused (b .number) (sheets-stop P Q _ _ (heads-q P Q a e z b f ne) ne) ne
 
-      module _ (y : b .number ≡ 0) (j : ℕ) (g : j ≡ chamberOf (pointsOf Q) id) where
+      module _ (y : b .number ≡ 0) (j : ℕ) (g : j ≡ positionOf (pointsOf Q) id) where
         open-both : sheetsNo P Q ≡ 0
         open-both = sym (heads-number P Q _ (heads-open P Q a e z b f y))
 
@@ -139,7 +113,7 @@ module _ (P Q : List ℤ) (id : ℕ) where
         pub placed-unknown : b .n ≤ j → (c : Chamber) → c ≡ unplacedAt 20 → c ≡ chamberFound P Q id
         unfolding chamberNo idNo
         placed-unknown h c r =
-            r ∙ chamber-refused 20 (first-passes (sheetsNo P Q) _ open-both ∙ (rw (le-ltb (chamberOf (pointsOf Q) id) (length (pointsOf Q)) (omega (arith, many))))) (λ x. omega arith)
+            r ∙ chamber-refused 20 (first-passes (sheetsNo P Q) _ open-both ∙ (rw (le-ltb (positionOf (pointsOf Q) id) (length (pointsOf Q)) (omega (arith, many))))) (λ x. omega arith)
 
         pub placed-here : j < b .n → (s : Spot) → s ≡ spotOf Q j → record { number = 0; n = a .n; m = a .m; at = s } ≡ chamberFound P Q id
         unfolding chamberNo idNo standsAt
@@ -147,4 +121,4 @@ module _ (P Q : List ℤ) (id : ℕ) where
             let p = headed P a e z in
             let v : s ≡ standsAt Q id = at-j ∙ ap (spotOf Q) g in
             (λ t. record { number = 0; n = p .n-is t; m = p .m-is t; at = v t })
-            ∙ chamber-here (first-passes (sheetsNo P Q) _ open-both ∙ (rw (lt-ltb (chamberOf (pointsOf Q) id) (length (pointsOf Q)) (omega (arith, many)))))
+            ∙ chamber-here (first-passes (sheetsNo P Q) _ open-both ∙ (rw (lt-ltb (positionOf (pointsOf Q) id) (length (pointsOf Q)) (omega (arith, many)))))

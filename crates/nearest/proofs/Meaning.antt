@@ -42,8 +42,9 @@ use Rattle.ring.proofs.NumberLaws.{first-passes}
 use Rattle.nearest.specs.declared.Near.{Near}
 use Rattle.nearest.specs.declared.Found.{Found}
 use Rattle.nearest.specs.Nearest.{waitNo, chamberNo, nearestNo, nearFilterNo, standsAt, noPoint, nearAt, sixteen, nearestAt, nearestRefused, nearestAnswer, nearFiltered, waitedBy}
-use Rattle.ring.specs.Partners.{chamberOf, idNo}
-use Rattle.nearest.proofs.ChamberLaws.{has}
+use Rattle.join.specs.Find.{positionOf}
+use Rattle.ring.specs.Partners.{idNo}
+use Rattle.join.proofs.FindLaws.{has}
 
 -- ---- by number
 
@@ -98,7 +99,7 @@ size-in k some most = rw (le-leb 1 k some, le-leb k 16 most)
 
 module _ (P Q : List ℤ) (id len : ℕ) (opens : sheetsNo P Q ≡ 0) (j : ℕ) (j-in : j < points Q) (named : idAt (pointsOf Q) j ≡ id) (room : points P + nodes P ≤ len) where
   known : idNo (pointsOf Q) id ≡ 0
-  unfolding idNo chamberOf
+  unfolding idNo positionOf
   known = rw (lt-ltb (firstB (length (pointsOf Q)) (has Q id)) (length (pointsOf Q)) (first-in (has Q id) (length (pointsOf Q)) j (omega (arith, length-points Q)) (eq-eqb (idAt (pointsOf Q) j) id named)))
 
   enough : waitNo P len ≡ 0
@@ -120,8 +121,8 @@ module _ (P Q : List ℤ) (id len : ℕ) (opens : sheetsNo P Q ≡ 0) (j : ℕ) 
 -- ---- the chamber
 
 -- ids ascend, so one chamber has the id
-pub chamber-is : (Q : List ℤ) → Opens Q (points Q) (nodes Q) → (id j : ℕ) → j < points Q → idAt (pointsOf Q) j ≡ id → chamberOf (pointsOf Q) id ≡ j
-unfolding chamberOf
+pub chamber-is : (Q : List ℤ) → Opens Q (points Q) (nodes Q) → (id j : ℕ) → j < points Q → idAt (pointsOf Q) j ≡ id → positionOf (pointsOf Q) id ≡ j
+unfolding positionOf
 chamber-is Q o id j h e =
     let n = length (pointsOf Q) in
     let j-in : j < n = omega (arith, length-points Q) in

@@ -18,7 +18,8 @@ use Rattle.near.specs.Claims.{distanceTo}
 use Rattle.ring.specs.declared.Filtered.{Filtered}
 use Rattle.ring.specs.Numbers.{first, sheetsNo}
 use Rattle.ring.specs.Page.{sizeNo}
-use Rattle.ring.specs.Partners.{chamberOf, idNo}
+use Rattle.join.specs.Find.{positionOf}
+use Rattle.ring.specs.Partners.{idNo}
 use Rattle.ring.specs.Answers.{filteredTo, unfiltered}
 use Rattle.nearest.specs.declared.Near.{Near}
 use Rattle.nearest.specs.declared.Found.{Found}
@@ -46,7 +47,7 @@ nearFilterNo P Q id len = first (chamberNo P Q id) (waitNo P len)
 
 -- where the chamber with this id stands
 unfoldable pub standsAt : List ℤ → ℕ → Spot
-standsAt Q id = spotOf Q (chamberOf (pointsOf Q) id)
+standsAt Q id = spotOf Q (positionOf (pointsOf Q) id)
 
 unfoldable pub unplacedAt : ℕ → Chamber
 unplacedAt k = record { number = k; n = 0; m = 0; at = spot (pos 0) (pos 0) }

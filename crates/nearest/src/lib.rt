@@ -13,7 +13,6 @@ ghost use Rattle.near.specs.NearWalk.{nearKept};
 ghost use Rattle.ring.specs.Answers.{unfiltered, filteredTo};
 ghost use Rattle.ring.specs.Page.{sizeNo};
 ghost use Rattle.nearest.specs.Nearest.{waitNo, nearestNo, nearFilterNo, unplacedAt, chamberFound, nearAt, nearestAt, nearestRefused, nearestAnswer, nearFiltered, waitedBy};
-ghost use Rattle.ring.specs.Partners.{chamberOf};
 
 // A pump house: its id and its squared distance to the chamber.
 #[repr(C)]
@@ -73,21 +72,6 @@ fn unplaced(number: u32) -> Chamber
     }
 }
 
-// The position of the chamber with this id, or nq where none has it.
-fn chamber_of(q: &[i32], nq: usize, mq: usize, id: u32) -> usize
-    requires { ⌜ Opens (now q) nq mq ⌝ }
-    ensures { λ r. ⌜ r ≡ chamberOf (pointsOf (now (q .entry))) id ⌝ }
-{
-    let mut j = 0;
-    while j < nq {
-        if sheet::reads::id_at(q, nq, mq, j) == id {
-            return j;
-        }
-        j += 1;
-    }
-    j
-}
-
 // Both sheets and the id: refused by 1 to 8 of P, then of Q, then by 20 where no chamber has the id.
 fn placed(p: &[i32], q: &[i32], id: u32) -> Chamber
     ensures { λ r. ⌜ r ≡ chamberFound (now (p .entry)) (now (q .entry)) id ⌝ }
@@ -100,7 +84,7 @@ fn placed(p: &[i32], q: &[i32], id: u32) -> Chamber
     if b.number != 0 {
         return unplaced(b.number);
     }
-    let j = chamber_of(q, b.n, b.m, id);
+    let j = join::find::position_of(q, b.n, b.m, id);
     if b.n <= j {
         return unplaced(20);
     }

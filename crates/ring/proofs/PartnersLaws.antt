@@ -7,55 +7,32 @@
 use mathlib.Core.Path.{_≡_, refl, sym, ap, _∙_}
 use mathlib.Core.Bool.{Bool, true, false, cond, not, _&&_}
 use mathlib.Core.List.{List}
-use Prim.Native.Nat.{ℕ, _+_, _≤_, _<_}
+use Prim.Native.Nat.{ℕ, _≤_, _<_}
 use native.Mathlib.Omega.{arith}
-use native.Mathlib.Nat.{le-antisymm}
 use lib.Dec.{eqb, leb}
 use lib.IntN.{ℤ}
 use lib.ListN.{length}
 use borrow.Author.Tests.{eq-eqb, ne-eqb, eqb-true, lt-ltb, le-ltb, le-leb, not-true, not-false}
 use Rattle.words.specs.All.{firstB}
-use Rattle.words.proofs.AllLaws.{first-none as none-yet, first-more, first-stop, first-hit, first-in}
+use Rattle.words.proofs.AllLaws.{first-hit, first-in}
 use Rattle.plane.specs.Point.{idAt}
 use Rattle.sheet.specs.Places.{pointsOf}
-use Rattle.sheet.specs.Open.{Opens}
 use Rattle.sheet.proofs.PointsLaws.{length-points}
 use Rattle.list.specs.Pairs.{chamberPairs}
 use Rattle.list.specs.Pages.{lastThreshold}
 use Rattle.list.specs.RingList.{ringList, partnersOf}
 use Rattle.list.proofs.ThresholdLaws.{partners-listed}
+use Rattle.join.specs.Find.{positionOf}
 use Rattle.join.specs.Threshold.{smaller}
+use Rattle.join.proofs.FindLaws.{has}
 use Rattle.join.proofs.Meaning.{points-rise}
 use Rattle.ring.specs.declared.Heads.{Heads}
 use Rattle.ring.specs.declared.Partnered.{Partnered}
 use Rattle.ring.specs.Numbers.{first, sheetsNo}
 use Rattle.ring.specs.Answers.{headsOf}
-use Rattle.ring.specs.Partners.{chamberOf, idNo, leastNo, partnersNo, partnersCount, partnersGiven, partnersRefused, partnersAnswer}
+use Rattle.ring.specs.Partners.{idNo, leastNo, partnersNo, partnersCount, partnersGiven, partnersRefused, partnersAnswer}
 use Rattle.ring.proofs.NumberLaws.{first-passes}
 use Rattle.ring.proofs.HeadLaws.{headed-both, sheets-stop, sheets-pass}
-
--- ---- the chamber with an id: none of the first j has it
-
-abbrev pub has : List ℤ → ℕ → ℕ → Bool
-has Q id j = eqb (idAt (pointsOf Q) j) id
-
-module _ {Q : List ℤ} {nq mq : ℕ} (o : Opens Q nq mq) (id : ℕ) where
-  pub seek-start : firstB 0 (has Q id) ≡ 0
-  seek-start = none-yet (has Q id)
-
-  pub seek-on : (j a : ℕ) → firstB j (has Q id) ≡ j → a ≡ idAt (pointsOf Q) j → (a ≡ id → ⊥) → firstB (j + 1) (has Q id) ≡ j + 1
-  seek-on j a e i ne = first-more (has Q id) j e (ne-eqb (idAt (pointsOf Q) j) id (λ x. ne (i ∙ x)))
-
-  chambers : length (pointsOf Q) ≡ nq
-  chambers = length-points Q ∙ o .n-is
-
-  pub seek-stop : (j a : ℕ) → firstB j (has Q id) ≡ j → a ≡ idAt (pointsOf Q) j → a ≡ id → j < nq → j ≡ chamberOf (pointsOf Q) id
-  unfolding chamberOf
-  seek-stop j a e i y l = first-stop (has Q id) j (length (pointsOf Q)) e (eq-eqb (idAt (pointsOf Q) j) id (sym i ∙ y)) (omega (arith, chambers))
-
-  pub seek-end : (j : ℕ) → firstB j (has Q id) ≡ j → j ≤ nq → nq ≤ j → j ≡ chamberOf (pointsOf Q) id
-  unfolding chamberOf
-  seek-end j e l g = sym e ∙ ap (λ (k : ℕ). firstB k (has Q id)) (le-antisymm l g ∙ sym chambers)
 
 -- ---- the number of t
 
@@ -85,7 +62,7 @@ module _ (P Q : List ℤ) (id t : ℕ) where
 
   -- No other question is refused: sheets that open, the id of a chamber and a t from 1 to 1,000 are served.
   pub partners-served : sheetsNo P Q ≡ 0 → (j : ℕ) → j < length (pointsOf Q) → idAt (pointsOf Q) j ≡ id → 1 ≤ t → t ≤ lastThreshold → partnersAnswer P Q id t ≡ partnersGiven P Q id t
-  unfolding partnersNo idNo leastNo chamberOf
+  unfolding partnersNo idNo leastNo positionOf
   partners-served opens j h e a b =
       partners-answered
       (first-passes (sheetsNo P Q) (first (idNo (pointsOf Q) id) (leastNo t)) opens
@@ -105,7 +82,7 @@ module _ (P Q : List ℤ) (id t : ℕ) where
     unfolding partnersNo
     partners-sheets ne f = f ∙ sym (partners-refused (h .number) (sheets-stop P Q h (first (idNo (pointsOf Q) id) (leastNo t)) e ne) ne)
 
-    module _ (z : h .number ≡ 0) (j : ℕ) (at-j : j ≡ chamberOf (pointsOf Q) id) where
+    module _ (z : h .number ≡ 0) (j : ℕ) (at-j : j ≡ positionOf (pointsOf Q) id) where
       as-many : length (pointsOf Q) ≡ h .nq
       as-many = length-points Q ∙ sym (headed-both P Q h e z .nq-is)
 
@@ -115,19 +92,19 @@ module _ (P Q : List ℤ) (id t : ℕ) where
       partners-unknown past f =
           f
           ∙ sym (partners-refused 20
-          (sheets-pass P Q h (first (idNo (pointsOf Q) id) (leastNo t)) e z ∙ (rw (le-ltb (chamberOf (pointsOf Q) id) (length (pointsOf Q)) (omega (arith, as-many)))))
+          (sheets-pass P Q h (first (idNo (pointsOf Q) id) (leastNo t)) e z ∙ (rw (le-ltb (positionOf (pointsOf Q) id) (length (pointsOf Q)) (omega (arith, as-many)))))
           (λ x. omega arith))
 
       module _ (here : j < h .nq) (k : ℕ) (d : k ≡ leastNo t) where
         after : partnersNo P Q id t ≡ k
         unfolding partnersNo idNo
-        after = sheets-pass P Q h (first (idNo (pointsOf Q) id) (leastNo t)) e z ∙ (rw (lt-ltb (chamberOf (pointsOf Q) id) (length (pointsOf Q)) (omega (arith, as-many))) (sym d))
+        after = sheets-pass P Q h (first (idNo (pointsOf Q) id) (leastNo t)) e z ∙ (rw (lt-ltb (positionOf (pointsOf Q) id) (length (pointsOf Q)) (omega (arith, as-many))) (sym d))
 
         pub partners-least : (k ≡ 0 → ⊥) → r ≡ partnersRefused k → r ≡ partnersAnswer P Q id t
         partners-least ne f = f ∙ sym (partners-refused k after ne)
 
         pub partners-counted : k ≡ 0 → (c : ℕ) → c ≡ smaller t (partnersOf (pointsOf P) (pointsOf Q) j) → r ≡ record { number = 0; count = c; enough = eqb c t } → r ≡ partnersAnswer P Q id t
-        unfolding partnersGiven partnersCount chamberOf
+        unfolding partnersGiven partnersCount positionOf
         partners-counted y c ec f =
             let o = headed-both P Q h e z in
             let hit : has Q id (firstB (length (pointsOf Q)) (has Q id)) ≡ true = first-hit (has Q id) (length (pointsOf Q)) (omega (arith, as-many)) in

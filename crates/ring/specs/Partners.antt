@@ -5,23 +5,19 @@ use Prim.Native.Nat.{ℕ}
 use lib.Dec.{eqb, leb, ltb}
 use lib.IntN.{ℤ}
 use lib.ListN.{length}
-use Rattle.words.specs.All.{firstB}
-use Rattle.plane.specs.Point.{Point, idAt}
+use Rattle.plane.specs.Point.{Point}
 use Rattle.sheet.specs.Places.{pointsOf}
 use Rattle.list.specs.Pairs.{chamberPairs}
 use Rattle.list.specs.Pages.{lastThreshold}
 use Rattle.list.specs.RingList.{ringList}
+use Rattle.join.specs.Find.{positionOf}
 use Rattle.join.specs.Threshold.{smaller}
 use Rattle.ring.specs.declared.Partnered.{Partnered}
 use Rattle.ring.specs.Numbers.{first, sheetsNo}
 
--- the position of the chamber with this id, or the number of chambers where none has it
-unfoldable pub chamberOf : List Point → ℕ → ℕ
-chamberOf Q id = firstB (length Q) (λ j. eqb (idAt Q j) id)
-
 -- 20: "unknown q id"
 unfoldable pub idNo : List Point → ℕ → ℕ
-idNo Q id = cond (ltb (chamberOf Q id) (length Q)) 0 20
+idNo Q id = cond (ltb (positionOf Q id) (length Q)) 0 20
 
 -- 21: "t outside 0 to 1,000, or 0 in the single question"
 unfoldable pub leastNo : ℕ → ℕ

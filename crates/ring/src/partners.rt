@@ -1,9 +1,7 @@
 // Whether a chamber has at least t partners.
 use crate::Partnered;
 ghost use mathlib.Core.Path.{_≡_};
-ghost use Rattle.sheet.specs.Open.{Opens};
-ghost use Rattle.sheet.specs.Places.{pointsOf};
-ghost use Rattle.ring.specs.Partners.{chamberOf, leastNo, partnersRefused, partnersAnswer};
+ghost use Rattle.ring.specs.Partners.{leastNo, partnersRefused, partnersAnswer};
 
 // A refused question: its number, and zeros.
 fn refused(number: u32) -> Partnered
@@ -14,21 +12,6 @@ fn refused(number: u32) -> Partnered
         count: 0,
         enough: false,
     }
-}
-
-// The position of the chamber with this id, or nq where none has it.
-fn chamber_of(q: &[i32], nq: usize, mq: usize, id: u32) -> usize
-    requires { ⌜ Opens (now q) nq mq ⌝ }
-    ensures { λ r. ⌜ r ≡ chamberOf (pointsOf (now (q .entry))) id ⌝ }
-{
-    let mut j = 0;
-    while j < nq {
-        if sheet::reads::id_at(q, nq, mq, j) == id {
-            return j;
-        }
-        j += 1;
-    }
-    j
 }
 
 // The number of refusal for the t of a question, 0 where it is in range.
@@ -50,7 +33,7 @@ pub fn partners(p: &[i32], q: &[i32], id: u32, t: u32) -> Partnered
     if h.number != 0 {
         return refused(h.number);
     }
-    let j = chamber_of(q, h.nq, h.mq, id);
+    let j = join::find::position_of(q, h.nq, h.mq, id);
     if h.nq <= j {
         return refused(20);
     }

@@ -26,8 +26,8 @@ returns-2 c =
     let p = q .before in
     placed-q _ _ _ _ (p .before .before .head-of .ensures) (p .if1 .left) _ (q .head-of2 .ensures) (c .before .if2 .taken) _ (c .unplaced2 .ensures)
 
-chamber-of-requires : tie.Need-chamber-of-requires
-chamber-of-requires c κs = headed _ _ (c .before .before .head-of2 .ensures) (c .if2 .left) .facts
+position-of-requires : tie.Need-position-of-requires
+position-of-requires c κs = headed _ _ (c .before .before .head-of2 .ensures) (c .if2 .left) .facts
 
 unplaced-requires-3 : tie.Need-unplaced-requires-3
 unplaced-requires-3 c κs = search needs
@@ -37,7 +37,7 @@ returns-3 c =
     let k = c .before .before .before in
     let q = k .before in
     let p = q .before .before .before in
-    placed-unknown _ _ _ _ (p .before .before .head-of .ensures) (p .if1 .left) _ (q .before .before .head-of2 .ensures) (q .if2 .left) _ (k .chamber-of .ensures) (c .before .if3 .taken) _ (c .unplaced3 .ensures)
+    placed-unknown _ _ _ _ (p .before .before .head-of .ensures) (p .if1 .left) _ (q .before .before .head-of2 .ensures) (q .if2 .left) _ (k .position-of .ensures) (c .before .if3 .taken) _ (c .unplaced3 .ensures)
 
 spot-at-requires : tie.Need-spot-at-requires
 spot-at-requires c κs =
@@ -49,7 +49,7 @@ returns-4 c =
     let k = c .before .before .before in
     let q = k .before in
     let p = q .before .before .before in
-    placed-here _ _ _ _ (p .before .before .head-of .ensures) (p .if1 .left) _ (q .before .before .head-of2 .ensures) (q .if2 .left) _ (k .chamber-of .ensures) (c .before .if3 .left) _ (c .spot-at .ensures)
+    placed-here _ _ _ _ (p .before .before .head-of .ensures) (p .if1 .left) _ (q .before .before .head-of2 .ensures) (q .if2 .left) _ (k .position-of .ensures) (c .before .if3 .left) _ (c .spot-at .ensures)
 
 pub placed-spec : {M : Type 1} → statement M
 placed-spec =
@@ -61,7 +61,7 @@ placed-spec =
     head-of-requires-2
     unplaced-requires-2
     returns-2
-    chamber-of-requires
+    position-of-requires
     unplaced-requires-3
     returns-3
     spot-at-requires

@@ -17,8 +17,8 @@ refused-requires c κs = search needs
 returns : tie.Need-returns
 returns c = partners-sheets _ _ _ _ _ (c .before .before .before .heads-of .ensures) _ (c .before .if1 .taken) (c .refused .ensures)
 
-chamber-of-requires : tie.Need-chamber-of-requires
-chamber-of-requires c κs = headed-both _ _ _ (c .before .before .heads-of .ensures) (c .if1 .left) .q-facts
+position-of-requires : tie.Need-position-of-requires
+position-of-requires c κs = headed-both _ _ _ (c .before .before .heads-of .ensures) (c .if1 .left) .q-facts
 
 refused-requires-2 : tie.Need-refused-requires-2
 refused-requires-2 c κs = search needs
@@ -26,7 +26,7 @@ refused-requires-2 c κs = search needs
 returns-2 : tie.Need-returns-2
 returns-2 c =
     let e = c .before .before .before .before in
-    partners-unknown _ _ _ _ _ (e .before .before .heads-of .ensures) _ (e .if1 .left) _ (c .before .before .before .chamber-of .ensures) (c .before .if2 .taken) (c .refused2 .ensures)
+    partners-unknown _ _ _ _ _ (e .before .before .heads-of .ensures) _ (e .if1 .left) _ (c .before .before .before .position-of .ensures) (c .before .if2 .taken) (c .refused2 .ensures)
 
 least-no-requires : tie.Need-least-no-requires
 least-no-requires c κs = search needs
@@ -38,7 +38,7 @@ returns-3 : tie.Need-returns-3
 returns-3 c =
     let d = c .before .before .before in
     let e = d .before .before .before in
-    partners-least _ _ _ _ _ (e .before .before .heads-of .ensures) _ (e .if1 .left) _ (d .before .before .chamber-of .ensures) (d .if2 .left) _ (c .before .before .least-no .ensures) (c .before .if3 .taken) (c .refused3 .ensures)
+    partners-least _ _ _ _ _ (e .before .before .heads-of .ensures) _ (e .if1 .left) _ (d .before .before .position-of .ensures) (d .if2 .left) _ (c .before .before .least-no .ensures) (c .before .if3 .taken) (c .refused3 .ensures)
 
 slice-aggregate-partners-to : tie.Need-slice-aggregate-partners-to
 slice-aggregate-partners-to c = search needs
@@ -54,7 +54,7 @@ returns-4 : tie.Need-returns-4
 returns-4 c =
     let d = c .before .before .before .before .before in
     let e = d .before .before .before in
-    partners-counted _ _ _ _ _ (e .before .before .heads-of .ensures) _ (e .if1 .left) _ (d .before .before .chamber-of .ensures) (d .if2 .left) _ (c .before .before .before .before .least-no .ensures) (c .before .before .before .if3 .left) _ (c .before .partners-to .ensures) refl
+    partners-counted _ _ _ _ _ (e .before .before .heads-of .ensures) _ (e .if1 .left) _ (d .before .before .position-of .ensures) (d .if2 .left) _ (c .before .before .before .before .least-no .ensures) (c .before .before .before .if3 .left) _ (c .before .partners-to .ensures) refl
 
 pub partners-spec : {M : Type 1} → statement M
 partners-spec =
@@ -63,7 +63,7 @@ partners-spec =
     heads-of-requires
     refused-requires
     returns
-    chamber-of-requires
+    position-of-requires
     refused-requires-2
     returns-2
     least-no-requires

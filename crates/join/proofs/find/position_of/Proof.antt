@@ -1,17 +1,17 @@
--- `nearest::chamber_of` meets its contract. The loop's invariant: none of the first j chambers has the id. Assumes nothing.
+-- `join::find::position_of` meets its contract. The loop's invariant: none of the first j records has the id. Assumes nothing.
 use mathlib.Core.Path.{_≡_}
 use Prim.Native.Nat.{_-_, _≤_}
 use native.Mathlib.Omega.{arith}
 use Rattle.words.specs.All.{firstB}
-use Rattle.nearest.proofs.ChamberLaws.{has, seek-start, seek-on, seek-stop, seek-end}
-use Rattle.nearest.proofs.chamber_of.Statement.{statement}
-use Rattle.nearest.proofs.chamber_of.Tie as tie
+use Rattle.join.proofs.FindLaws.{has, seek-start, seek-on, seek-stop, seek-end}
+use Rattle.join.proofs.find.position_of.Statement.{statement}
+use Rattle.join.proofs.find.position_of.Tie as tie
 
 abbrev Inv-loop : tie.InvT-loop
-Inv-loop q nq mq id j₀ j = (j ≤ nq) × (firstB j (has q id) ≡ j)
+Inv-loop s n m id j₀ j = (j ≤ n) × (firstB j (has s id) ≡ j)
 
 abbrev μ-loop : tie.MeasureT-loop
-μ-loop q nq mq id j₀ j = nq - j
+μ-loop s n m id j₀ j = n - j
 
 loop-holds : tie.Need-loop-holds Inv-loop μ-loop
 loop-holds c = (omega arith, seek-start (c .pre) _)
@@ -40,8 +40,8 @@ loop-again c =
 returns-2 : tie.Need-returns-2 Inv-loop μ-loop
 returns-2 c = seek-end (c .before .before .pre) _ _ (c .before .loop .inv .1) (c .before .loop .inv .0) (c .loop-test .left)
 
-pub chamber-of-spec : {M : Type 1} → statement M
-chamber-of-spec =
+pub position-of-spec : {M : Type 1} → statement M
+position-of-spec =
     tie.close
     (tie.spec
     Inv-loop
