@@ -2,7 +2,7 @@
 -- Assumes nothing.
 use mathlib.Core.Path.{_≡_, refl, sym, ap, ap₂, _∙_}
 use mathlib.Core.Bool.{Bool, true, false, not, cond, _&&_, _||_, and-false, true≢false}
-use mathlib.Core.Logic.{_⊎_, ⊎-elim}
+use mathlib.Core.Logic.{⊎-elim}
 use mathlib.Core.List.{List, [], _∷_, _++_}
 use Prim.Native.Nat.{ℕ, zero, suc, _+_, _*_, _-_, _^_, _≤_, _<_}
 use native.Mathlib.Omega.{arith}
@@ -17,7 +17,7 @@ use Rattle.list.specs.declared.Key.{Key}
 use Rattle.list.specs.declared.Pair.{Pair}
 use Rattle.list.specs.declared.Source.{Source}
 use Rattle.list.specs.declared.Page.{Page}
-use Rattle.list.specs.Pairs.{none, keyOf, follows, ascends, lastOr}
+use Rattle.list.specs.Pairs.{none, keyOf, follows, ascends}
 use Rattle.list.specs.Pages.{thresholdNo, sourceNo, pagePairs}
 use Rattle.book.specs.declared.Book.{Book}
 use Rattle.book.specs.declared.Decided.{Decided}

@@ -2,9 +2,8 @@
 // the points' words of two sets, asks nothing of them, and stops at the first blocker of a pair.
 ghost use mathlib.Core.Path.{_≡_};
 ghost use mathlib.Core.Bool.{false};
-ghost use Prim.Native.Nat.{ℕ, _≤_, _<_};
+ghost use Prim.Native.Nat.{_≤_, _<_};
 ghost use lib.IntN.{natAbs, _-ℤ_};
-ghost use lib.ListN.{length, getD};
 ghost use Rattle.integers.specs.Order.{Within};
 ghost use Rattle.brute.specs.Brute.{clip, placeAt, covers, together, clear, empty, pairs, sizeOf, FirstOf, Next};
 

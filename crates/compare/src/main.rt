@@ -2,7 +2,6 @@
 // (`brute`) finds on the points alone, pair by pair, with its order, its number and its end mark.
 use brute::Found;
 use list::Key;
-use list::Page;
 use list::Pair;
 use list::Source;
 ghost use Prim.Native.Nat.{_≤_, _<_};

@@ -9,7 +9,7 @@ use Prim.Native.Nat.{ℕ, zero, suc, _+_, _-_, _≤_, _<_}
 use native.Mathlib.Omega.{arith}
 use lib.ListN.{length, getD, length-map}
 use Rattle.list.specs.declared.Pair.{Pair}
-use Rattle.list.specs.Pairs.{none, start, keyOf, ascends}
+use Rattle.list.specs.Pairs.{none, start, keyOf}
 use Rattle.list.specs.Rows.{row, rows, listBy, Rising}
 use Rattle.list.proofs.Order.{later, at-member, asc-places}
 use Rattle.list.proofs.RowLaws.{Placed, list-ascends, listed-holds}

@@ -1,6 +1,6 @@
 -- What is decoded from the bytes of words is the words again. Assumes nothing.
 use mathlib.Core.Path.{_≡_, refl, sym, ap, ap₂, _∙_}
-use mathlib.Core.List.{List, [], _∷_, _++_}
+use mathlib.Core.List.{List}
 use Prim.Native.Nat.{ℕ, zero, suc, _+_, _*_, _/_, _%_, _<_, _≤_}
 use native.Mathlib.Nat.{div-div-eq-div-mul, div-add-mod, mod-eq-of-lt}
 use native.Mathlib.Omega.{arith}

@@ -19,9 +19,8 @@ use Rattle.sheet.specs.Open.{Opens}
 use Rattle.sheet.proofs.SheetLaws.{own}
 use Rattle.sheet.proofs.RangeLaws.{spot-in}
 use Rattle.bits.specs.Set.{kept}
-use Rattle.walk.specs.declared.Answer.{Answer}
 use Rattle.walk.specs.FilterWalk.{filterKept}
-use Rattle.walk.specs.RingWalk.{clear, pairWalk}
+use Rattle.walk.specs.RingWalk.{clear}
 use Rattle.walk.proofs.Meaning.{filter-opened-at-most-m, pair-opened}
 use Rattle.list.specs.declared.Key.{Key}
 use Rattle.list.specs.declared.Pair.{Pair}

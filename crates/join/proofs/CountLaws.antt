@@ -14,7 +14,6 @@ use borrow.Author.Tests.{ltb-true, ltb-false, leb-true, le-leb}
 use Rattle.integers.specs.Bools.{decide}
 use Rattle.bits.specs.Set.{kept, without, nextFrom}
 use Rattle.bits.proofs.NextLaws.{from-kept, from-skip}
-use Rattle.sheet.specs.Layout.{points, nodes}
 use Rattle.sheet.specs.Boxes.{sumOver}
 use Rattle.sheet.specs.Places.{spotOf, pointsOf}
 use Rattle.sheet.specs.Open.{Opens}

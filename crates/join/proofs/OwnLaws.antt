@@ -3,8 +3,8 @@
 --     own-pairs     the pairs, their number and the end mark are those of the page of `selfList (pointsOf S)`
 --     own-opened    the count is that of the walks, `pageOpened` of `selfWalks`
 -- Assumes nothing.
-use mathlib.Core.Path.{_≡_, refl, sym, ap, ap₂, subst, _∙_}
-use mathlib.Core.Bool.{Bool, true, false, cond, not, _&&_}
+use mathlib.Core.Path.{_≡_, refl, sym, ap, ap₂, _∙_}
+use mathlib.Core.Bool.{Bool, true, false, not, _&&_}
 use mathlib.Core.Logic.{⊎-elim}
 use mathlib.Core.List.{List}
 use Prim.Native.Nat.{ℕ, _+_, _*_, _≤_, _<_}
@@ -17,7 +17,7 @@ use borrow.Author.Tests.{ltb-true, ltb-false, lt-ltb, le-ltb, ne-eqb}
 use Rattle.integers.specs.Bools.{decide}
 use Rattle.plane.specs.declared.Spot.{Spot}
 use Rattle.plane.specs.Point.{idAt}
-use Rattle.sheet.specs.Layout.{points, nodes}
+use Rattle.sheet.specs.Layout.{points}
 use Rattle.sheet.specs.Places.{spotOf, pointsOf}
 use Rattle.sheet.specs.Open.{Opens}
 use Rattle.sheet.proofs.SheetLaws.{own}
@@ -34,7 +34,7 @@ use Rattle.list.specs.declared.Key.{Key}
 use Rattle.list.specs.declared.Pair.{Pair}
 use Rattle.list.specs.declared.Source.{Source}
 use Rattle.list.specs.Pages.{pageOf}
-use Rattle.list.specs.Rows.{listBy, Rising}
+use Rattle.list.specs.Rows.{listBy}
 use Rattle.list.specs.RingList.{pairAt}
 use Rattle.list.specs.SelfList.{selfPair, selfList}
 use Rattle.list.proofs.RowLaws.{rises-far, named}

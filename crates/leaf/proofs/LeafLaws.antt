@@ -12,7 +12,7 @@ use lib.IntN.{ℤ}
 use lib.ListN.{length}
 use Rattle.integers.specs.Bools.{and-left, and-right, and-both, decide, clash, test-iff}
 use Rattle.words.specs.All.{allB}
-use Rattle.words.proofs.AllLaws.{all-at, all-make}
+use Rattle.words.proofs.AllLaws.{all-at}
 use Rattle.plane.specs.declared.Spot.{Spot}
 use Rattle.plane.specs.Rule.{drops, dropsBox}
 use Rattle.plane.proofs.RuleLaws.{box-drops}

@@ -7,12 +7,10 @@ use lib.Dec.{ltb}
 use lib.ListN.{length}
 use Rattle.bits.specs.Set.{kept}
 use lib.IntN.{ℤ}
-use Rattle.plane.specs.declared.Spot.{Spot}
 use Rattle.sheet.specs.Layout.{points}
-use Rattle.sheet.specs.Order.{orderOf}
-use Rattle.sheet.specs.Nodes.{firstOf, countOf}
+use Rattle.sheet.specs.Nodes.{countOf}
 use Rattle.sheet.specs.Boxes.{sumOver}
-use Rattle.sheet.specs.Places.{spotOf, pointsOf}
+use Rattle.sheet.specs.Places.{pointsOf}
 use Rattle.list.specs.declared.Pair.{Pair}
 use Rattle.list.specs.Rows.{listBy}
 use Rattle.list.specs.RingList.{ringPair, pairAt}

@@ -8,7 +8,6 @@ use lib.Dec.{eqb}
 use lib.IntN.{ℤ}
 use Rattle.words.specs.All.{allB}
 use Rattle.plane.specs.declared.Spot.{Spot}
-use Rattle.plane.specs.declared.Boxed.{Boxed}
 use Rattle.plane.specs.Rule.{drops, dropsBox}
 use Rattle.sheet.specs.Layout.{points, nodes}
 use Rattle.sheet.specs.Order.{orderOf}

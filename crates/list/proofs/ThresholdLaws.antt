@@ -6,7 +6,7 @@
 --     partners-listed     `partnersOf`, by which the list is made, is the number of the chamber's pairs in the full list
 --     threshold-pages     it ascends, and its pages, followed from (0, 0), give it
 -- Assumes nothing.
-use mathlib.Core.Path.{_≡_, refl, sym, ap, subst, _∙_}
+use mathlib.Core.Path.{_≡_, refl, sym, ap, _∙_}
 use mathlib.Core.Bool.{Bool, true, false, cond, _&&_}
 use mathlib.Core.Logic.{_↔_, ⊎-elim}
 use mathlib.Core.List.{List, [], _∷_, _++_, append-nil, List·Memᴰ}

@@ -8,7 +8,7 @@ ghost use mathlib.Core.Path.{_≡_};
 ghost use Prim.Native.Nat.{_+_, _≤_};
 ghost use lib.ListN.{length};
 ghost use Rattle.sheet.specs.Places.{pointsOf};
-ghost use Rattle.list.specs.Pairs.{lastOr, after, isNone};
+ghost use Rattle.list.specs.Pairs.{lastOr};
 ghost use Rattle.list.specs.Pages.{pagePairs, shown};
 ghost use Rattle.text.specs.Text.{Grown};
 ghost use Rattle.lister.specs.Listing.{linesOf};

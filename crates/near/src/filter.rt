@@ -1,7 +1,7 @@
 // The filter walk that goes nearest first, with lent words for the kept set and lent numbers for what waits.
 use plane::Spot;
 ghost use mathlib.Core.Path.{_≡_};
-ghost use Prim.Native.Nat.{ℕ, _+_, _≤_, _<_};
+ghost use Prim.Native.Nat.{_+_, _≤_, _<_};
 ghost use lib.ListN.{length};
 ghost use Rattle.plane.specs.Rule.{SpotIn};
 ghost use Rattle.sheet.specs.Open.{Opens};

@@ -2,7 +2,7 @@
 use plane::Boxed;
 use plane::Spot;
 ghost use mathlib.Core.Path.{_≡_};
-ghost use Prim.Native.Nat.{ℕ, _+_, _≤_, _<_};
+ghost use Prim.Native.Nat.{_+_, _≤_, _<_};
 ghost use lib.ListN.{length};
 ghost use Rattle.words.specs.Word.{num};
 ghost use Rattle.plane.specs.Rule.{SpotIn, BoxIn};

@@ -3,16 +3,14 @@
 use plane::Spot;
 use ring::Filtered;
 ghost use mathlib.Core.Path.{_≡_};
-ghost use Prim.Native.Nat.{ℕ, _+_, _≤_, _<_};
+ghost use Prim.Native.Nat.{_+_, _≤_, _<_};
 ghost use lib.ListN.{length};
 ghost use Rattle.plane.specs.Rule.{SpotIn};
 ghost use Rattle.sheet.specs.Open.{Opens};
-ghost use Rattle.sheet.specs.Places.{pointsOf};
 ghost use Rattle.near.specs.Room.{wiped};
-ghost use Rattle.near.specs.NearWalk.{nearKept};
-ghost use Rattle.ring.specs.Answers.{unfiltered, filteredTo};
+ghost use Rattle.ring.specs.Answers.{unfiltered};
 ghost use Rattle.ring.specs.Page.{sizeNo};
-ghost use Rattle.nearest.specs.Nearest.{waitNo, nearestNo, nearFilterNo, unplacedAt, chamberFound, nearAt, nearestAt, nearestRefused, nearestAnswer, nearFiltered, waitedBy};
+ghost use Rattle.nearest.specs.Nearest.{nearestNo, nearFilterNo, unplacedAt, chamberFound, nearAt, nearestAt, nearestRefused, nearestAnswer, nearFiltered, waitedBy};
 
 // A pump house: its id and its squared distance to the chamber.
 #[repr(C)]

@@ -1,14 +1,11 @@
 -- How many nodes the packer makes, the document's own sheet packed from its points, and each number of refusal: by computation.
 -- Assumes nothing.
 use mathlib.Core.Path.{_≡_, refl}
-use mathlib.Core.Bool.{cond}
 use mathlib.Core.List.{List, [], _∷_}
-use Prim.Native.Nat.{ℕ}
 use lib.IntN.{ℤ, pos, negsuc}
 use Rattle.words.specs.Word.{eqZ, within, before, num, isBelow, minZ, maxZ}
 use Rattle.words.specs.All.{allB, firstB, tab}
 use Rattle.words.specs.Range.{idWord, coordWord, editionOk}
-use Rattle.sheet.specs.declared.Due.{Due}
 use Rattle.sheet.specs.Limits.{form1}
 use Rattle.sheet.specs.Layout.{rootWord}
 use Rattle.sheet.specs.Points.{fieldsOk, risesOk, pointOk, pointsOk}

@@ -2,21 +2,21 @@
 -- Assumes nothing.
 use mathlib.Core.Path.{_≡_, refl, sym, ap, subst, _∙_}
 use mathlib.Core.Bool.{Bool, true, false, cond}
-use Prim.Native.Nat.{ℕ, _+_, _-_, _*_, _^_, _<_, _≤_}
+use Prim.Native.Nat.{ℕ, _+_, _-_, _*_, _<_, _≤_}
 use native.Mathlib.Omega.{arith}
 use native.Mathlib.Nat.{mul-le-mul}
 use lib.Dec.{ltb}
 use lib.IntN.{ℤ, pos, natAbs, _+ℤ_, _-ℤ_, _*ℤ_}
-use lib.Signed.{ltZ, _≤ℤ_, _<ℤ_}
-use borrow.Author.Tests.{ltb-true, ltb-false, lt-ltb, le-ltb}
+use lib.Signed.{ltZ, _≤ℤ_}
+use borrow.Author.Tests.{ltb-true, lt-ltb}
 use mir.Syntax.{w64}
 use mir.Val.{Fits}
-use Rattle.integers.specs.Order.{zl, Within, in--, in-up, in-lit, diff, sum, +-mono}
+use Rattle.integers.specs.Order.{zl, Within, in--, in-up, in-lit, diff, +-mono}
 use Rattle.integers.specs.Sign.{sq-≥0}
 use Rattle.integers.specs.Bools.{test-iff}
 use Rattle.plane.specs.declared.Spot.{Spot}
 use Rattle.plane.specs.declared.Boxed.{Boxed}
-use Rattle.plane.specs.Rule.{sq, out, size, gap, far}
+use Rattle.plane.specs.Rule.{sq, out, size, far}
 
 -- how far c is outside is not negative, and within 4,000,000,000
 pub out-from : (lo hi c : ℤ) → pos 0 ≤ℤ out lo hi c

@@ -1,6 +1,6 @@
 -- The filter walk's answers.
 -- Assumes nothing.
-use mathlib.Core.Path.{_≡_, sym, ap, _∙_}
+use mathlib.Core.Path.{_≡_, ap, _∙_}
 use mathlib.Core.List.{List}
 use Prim.Native.Nat.{ℕ, _<_, _≤_}
 use native.Mathlib.Omega.{arith}
@@ -13,7 +13,6 @@ use Rattle.walk.specs.FilterWalk.{Kept, filterKept}
 use Rattle.ring.specs.Numbers.{positionNo, filterNo}
 use Rattle.ring.specs.Answers.{headsOf, filteredTo, unfiltered, filtered}
 use Rattle.ring.specs.declared.Heads.{Heads}
-use Rattle.ring.specs.declared.Filtered.{Filtered}
 use Rattle.ring.proofs.NumberLaws.{position-past, position-in}
 use Rattle.ring.proofs.HeadLaws.{headed-both, sheets-stop, sheets-pass}
 

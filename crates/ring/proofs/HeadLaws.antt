@@ -11,7 +11,6 @@ use borrow.Author.Tests.{eq-eqb, ne-eqb, eqb-true}
 use Rattle.sheet.specs.Layout.{points, nodes}
 use Rattle.sheet.specs.Limits.{form1}
 use Rattle.sheet.specs.Open.{Opens}
-use Rattle.sheet.proofs.OpenLaws.{Trailer}
 use Rattle.sheet.proofs.SheetLaws.{open-facts, open-trailer, form1-fair}
 use Rattle.ring.specs.Numbers.{first, sheetNo, sheetsNo}
 use Rattle.ring.specs.Answers.{headOf, headsOf}

@@ -17,7 +17,7 @@ use lib.ListN.{length}
 use borrow.Author.Tests.{eq-eqb, ne-eqb, eqb-true, le-leb}
 use Rattle.words.specs.Range.{lastId}
 use Rattle.words.specs.Word.{num}
-use Rattle.sheet.specs.Layout.{edition, points, nodes}
+use Rattle.sheet.specs.Layout.{edition, points}
 use Rattle.sheet.specs.Limits.{form1}
 use Rattle.sheet.specs.Places.{pointsOf}
 use Rattle.sheet.specs.Open.{Opens}

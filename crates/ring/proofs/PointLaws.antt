@@ -17,7 +17,6 @@ use Rattle.ring.specs.Numbers.{sheetNo, positionNo, pointNo}
 use Rattle.ring.specs.Answers.{headOf, assetOf, pointedBy, pointed}
 use Rattle.ring.specs.declared.Head.{Head}
 use Rattle.ring.specs.declared.Asset.{Asset}
-use Rattle.ring.specs.declared.Pointed.{Pointed}
 use Rattle.ring.specs.declared.Pointed.the-variants.{At, Refused}
 use Rattle.ring.proofs.NumberLaws.{first-stops, first-passes, position-past, position-in}
 use Rattle.ring.proofs.HeadLaws.{head-number, headed}

@@ -1,6 +1,6 @@
 -- The ring walk's answers.
 -- Assumes nothing.
-use mathlib.Core.Path.{_≡_, sym, _∙_}
+use mathlib.Core.Path.{_≡_, _∙_}
 use mathlib.Core.List.{List}
 use Prim.Native.Nat.{ℕ, _<_, _≤_}
 use native.Mathlib.Omega.{arith}
@@ -11,7 +11,6 @@ use Rattle.walk.specs.RingWalk.{pairWalk}
 use Rattle.ring.specs.Numbers.{first, positionNo, ringNo}
 use Rattle.ring.specs.Answers.{headsOf, walkedBy, walked}
 use Rattle.ring.specs.declared.Heads.{Heads}
-use Rattle.ring.specs.declared.Walked.{Walked}
 use Rattle.ring.specs.declared.Walked.the-variants.{Done, Refused}
 use Rattle.ring.proofs.NumberLaws.{first-stops, first-passes, position-past, position-in}
 use Rattle.ring.proofs.HeadLaws.{headed-both, sheets-stop, sheets-pass}

@@ -1,6 +1,6 @@
 -- Laws of boxes: the test from the table, a node's box against those of the nodes that it covers, is the document's, against the points below it.
 -- Assumes nothing.
-use mathlib.Core.Path.{_≡_, refl, sym, ap, subst, _∙_}
+use mathlib.Core.Path.{_≡_, refl, sym, ap, _∙_}
 use mathlib.Core.Bool.{Bool, true, false, cond}
 use mathlib.Core.List.{List}
 use Prim.Native.Nat.{ℕ, zero, suc, _+_, _*_, _-_, _%_, _<_, _≤_}
@@ -16,7 +16,7 @@ use Rattle.integers.specs.Bools.{test-iff}
 use Rattle.words.proofs.Signs.{eqZ-eq, eq-eqZ}
 use Rattle.words.proofs.AllLaws.{all-at, all-make}
 use Rattle.sheet.specs.Order.{orderOf}
-use Rattle.sheet.specs.Nodes.{levelWord, levelOf, firstOf, countOf, dueOf, tableOk}
+use Rattle.sheet.specs.Nodes.{levelWord, levelOf, firstOf, countOf, tableOk}
 use Rattle.sheet.specs.Boxes.{sideOf, coordOf, better, best, partOf, tightSide, tightOk, sideOk, sidesAre, boxIs, boxOk, boxesOk}
 use Rattle.sheet.proofs.TreeLaws.{run-at, child, leaf}
 

@@ -8,14 +8,14 @@ use Prim.Native.Nat.{ℕ, zero, suc, _+_, _-_, _<_, _≤_}
 use native.Mathlib.Omega.{arith}
 use native.Mathlib.Nat.{eq-or-lt-of-le}
 use lib.Dec.{ltb, eqb}
-use lib.IntN.{ℤ, pos}
-use borrow.Author.Tests.{ltb-true, ltb-false, eqb-true, eqb-false, eq-eqb, ne-eqb}
-use Rattle.integers.specs.Bools.{and-left, and-right, decide}
+use lib.IntN.{ℤ}
+use borrow.Author.Tests.{ltb-true, ltb-false, eqb-true, eq-eqb, ne-eqb}
+use Rattle.integers.specs.Bools.{and-right, decide}
 use Rattle.words.proofs.AllLaws.{all-at, below-suc}
 use Rattle.sheet.specs.declared.Due.{Due}
-use Rattle.sheet.specs.Nodes.{levelOf, firstOf, countOf, sameLevel, dueNext, dueOf, runOk, isLast, endOk, nodeRule, nodeOk, tableOk}
+use Rattle.sheet.specs.Nodes.{levelOf, firstOf, countOf, sameLevel, dueOf, runOk, isLast, endOk, nodeRule, nodeOk, tableOk}
 use Rattle.sheet.specs.Boxes.{Below}
-use Rattle.sheet.proofs.TreeLaws.{Run, run-at, end-at, stands, due-same, due-up, last-end, not-last, child}
+use Rattle.sheet.proofs.TreeLaws.{run-at, end-at, stands, due-same, due-up, last-end, not-last, child}
 
 -- the one-node rule at a level's last node
 end-beq : (w : List ℤ) (n m : ℕ) (d : Due) (j : ℕ) → endOk w n m d j ≡ true → isLast w n m j ≡ true → Bool·beq (eqb (d .head) j) (eqb (j + 1) m) ≡ true

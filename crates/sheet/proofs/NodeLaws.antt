@@ -1,15 +1,15 @@
 -- Laws of the nodes table: one node more, and what a right node says.
 -- Assumes nothing.
-use mathlib.Core.Path.{_≡_, refl, sym, ap, _∙_}
-use mathlib.Core.Bool.{Bool, true, false, _&&_, Bool·beq, not}
+use mathlib.Core.Path.{_≡_, sym, ap, _∙_}
+use mathlib.Core.Bool.{Bool, true, _&&_}
 use mathlib.Core.List.{List}
-use Prim.Native.Nat.{ℕ, suc, _+_, _<_, _≤_}
+use Prim.Native.Nat.{ℕ, _+_, _<_}
 use native.Mathlib.Numerals.{add-one}
-use lib.Dec.{ltb, eqb}
+use lib.Dec.{ltb}
 use lib.IntN.{ℤ, pos}
 use borrow.Author.Tests.{ltb-true}
 use Rattle.words.specs.Word.{within, eqZ}
-use Rattle.integers.specs.Bools.{and-left, and-right}
+use Rattle.integers.specs.Bools.{and-left}
 use Rattle.sheet.specs.declared.Due.{Due}
 use Rattle.sheet.specs.Nodes.{levelWord, firstWord, countWord, dueNext, dueOf, runOk, endOk, nodeRule, nodeOk}
 

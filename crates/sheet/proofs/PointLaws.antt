@@ -1,17 +1,13 @@
 -- The test of a point with the id of the one before in hand is the document's.
 -- Assumes nothing.
-use mathlib.Core.Path.{_≡_, refl, sym, ap, subst, _∙_}
-use mathlib.Core.Bool.{Bool, true, false, cond, _&&_, true≢false}
+use mathlib.Core.Path.{_≡_, refl, ap, _∙_}
+use mathlib.Core.Bool.{Bool, true, _&&_}
 use mathlib.Core.List.{List}
 use Prim.Native.Nat.{ℕ, zero, suc, _+_, _-_}
 use native.Mathlib.Numerals.{add-one}
 use native.Mathlib.Omega.{arith}
-use lib.IntN.{ℤ, pos, negsuc, negℤ, _-ℤ_}
-use lib.Signed.{ltZ}
-use mir.Syntax.{w32}
-use mir.Val.{SFits}
+use lib.IntN.{ℤ, pos, negsuc}
 use borrow.Author.Tests.{lt-ltb, ne-eqb}
-use Rattle.integers.specs.Order.{diff, Neq, pp-neg, nn-neg}
 use Rattle.words.specs.Word.{within, before}
 use Rattle.words.specs.Range.{idWord, coordWord}
 use Rattle.sheet.specs.declared.Limits.{Limits}

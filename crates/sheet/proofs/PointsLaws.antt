@@ -1,19 +1,17 @@
 -- Laws of the list of a sheet's points.
 -- Assumes nothing.
-use mathlib.Core.Path.{_≡_, refl, sym, ap, subst, _∙_}
-use mathlib.Core.Bool.{Bool, true, false, cond, _&&_}
+use mathlib.Core.Path.{_≡_, ap, subst}
+use mathlib.Core.Bool.{true, _&&_}
 use mathlib.Core.List.{List}
-use Prim.Native.Nat.{ℕ, suc, _+_, _-_, _<_, _≤_}
+use Prim.Native.Nat.{ℕ, _+_, _-_, _<_, _≤_}
 use native.Mathlib.Omega.{arith}
-use lib.Dec.{eqb}
 use lib.IntN.{ℤ, pos, negsuc}
 use lib.ListN.{length}
-use lib.Signed.{ltZ}
 use borrow.Author.Tests.{ltb-true, ne-eqb}
 use Rattle.integers.specs.Bools.{and-left, and-right}
 use Rattle.plane.specs.Point.{Point, pointAt, spotAt}
 use Rattle.words.specs.Word.{num, before}
-use Rattle.words.specs.Range.{idWord, coordWord, idOk}
+use Rattle.words.specs.Range.{idWord, coordWord}
 use Rattle.words.proofs.AllLaws.{all-at}
 use Rattle.words.proofs.TabLaws.{length-tab, at-tab}
 use Rattle.words.proofs.RangeLaws.{id-num, id-is, id-bounds}

@@ -1,9 +1,9 @@
 -- The places of the points of a sheet that opens, and the boxes of its nodes, are within the range that the arithmetic of the plane asks.
 -- Assumes nothing.
-use mathlib.Core.Path.{_≡_, refl, sym, ap, subst, _∙_}
-use mathlib.Core.Bool.{Bool, true, false, _&&_}
+use mathlib.Core.Path.{_≡_, refl, subst}
+use mathlib.Core.Bool.{true, _&&_}
 use mathlib.Core.List.{List}
-use Prim.Native.Nat.{ℕ, _+_, _*_, _%_, _<_, _≤_}
+use Prim.Native.Nat.{ℕ, _<_}
 use native.Mathlib.Omega.{arith}
 use lib.IntN.{ℤ, pos}
 use lib.Signed.{_≤ℤ_}
@@ -13,12 +13,9 @@ use Rattle.words.proofs.RangeLaws.{coord-in}
 use Rattle.integers.specs.Bools.{and-left, and-right}
 use Rattle.words.proofs.AllLaws.{all-at}
 use Rattle.plane.specs.Rule.{SpotIn, BoxIn}
-use Rattle.plane.proofs.Plane.{In}
-use Rattle.plane.proofs.RuleLaws.{OnSides}
 use Rattle.sheet.specs.Points.{idAt, xAt, yAt, fieldsOk, risesOk, pointOk, pointsOk}
-use Rattle.sheet.specs.Order.{orderOf, orderOk}
-use Rattle.sheet.specs.Nodes.{levelOf, tableOk}
-use Rattle.sheet.specs.Boxes.{Below, tightOk}
+use Rattle.sheet.specs.Order.{orderOf}
+use Rattle.sheet.specs.Nodes.{levelOf}
 use Rattle.sheet.specs.Places.{spotOf, boxOf}
 use Rattle.sheet.specs.Open.{Opens}
 use Rattle.sheet.proofs.OrderLaws.{order-below}

@@ -1,15 +1,14 @@
 -- The words that a reader takes for a count, where the test that they passed is in hand: none of them is negative.
 -- Assumes nothing.
-use mathlib.Core.Path.{_≡_, refl, sym, ap, subst, _∙_}
-use mathlib.Core.Bool.{Bool, true, false, _&&_, true≢false}
+use mathlib.Core.Path.{_≡_, refl, sym, subst}
+use mathlib.Core.Bool.{true, _&&_, true≢false}
 use mathlib.Core.List.{List}
-use Prim.Native.Nat.{ℕ, suc, _+_, _*_, _<_, _≤_}
+use Prim.Native.Nat.{ℕ, _<_}
 use native.Mathlib.Omega.{arith}
 use lib.Dec.{ltb, le→leb}
 use lib.IntN.{ℤ, pos, negsuc, natAbs}
-use lib.Signed.{leZ, mag, _≤ℤ_}
+use lib.Signed.{_≤ℤ_}
 use Rattle.integers.specs.Bools.{and-left, and-right}
-use Rattle.integers.specs.Order.{zl}
 use Rattle.words.specs.Word.{within, eqZ, isBelow, num}
 use Rattle.words.proofs.AllLaws.{all-at}
 use Rattle.words.proofs.Signs.{is-word}

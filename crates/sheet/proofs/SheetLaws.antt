@@ -1,19 +1,17 @@
 -- What it means that a sheet opens: all that the tests of `openNo` say, in one record.
 -- Assumes nothing.
-use mathlib.Core.Path.{_≡_, refl, sym, ap, subst, _∙_}
+use mathlib.Core.Path.{_≡_, refl, sym, subst, _∙_}
 use mathlib.Core.Bool.{Bool, true, false, cond, Bool·beq}
-use mathlib.Core.Logic.{_⊎_, inl, inr, ⊎-elim}
 use mathlib.Core.List.{List}
-use Prim.Native.Nat.{ℕ, _<_, _≤_}
+use Prim.Native.Nat.{ℕ}
 use native.Mathlib.Omega.{arith}
 use lib.Dec.{eqb}
 use lib.IntN.{ℤ}
 use borrow.Author.Tests.{eqb-true, eq-eqb}
-use Rattle.integers.specs.Bools.{and-left, decide}
-use Rattle.words.specs.Range.{editionWord}
+use Rattle.integers.specs.Bools.{and-left}
 use Rattle.sheet.specs.declared.Limits.{Limits}
 use Rattle.sheet.specs.Limits.{Fair, form1}
-use Rattle.sheet.specs.Layout.{edition, points, nodes, trailerNo}
+use Rattle.sheet.specs.Layout.{points, nodes, trailerNo}
 use Rattle.sheet.specs.Points.{pointsOk}
 use Rattle.sheet.specs.Order.{orderOk}
 use Rattle.sheet.specs.Nodes.{tableOk, nodesOk}

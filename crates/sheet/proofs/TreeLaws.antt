@@ -2,14 +2,14 @@
 -- Assumes nothing.
 use mathlib.Core.Path.{_≡_, refl, sym, ap, subst, subst⁻¹, _∙_}
 use mathlib.Core.Bool.{Bool, true, false, not, cond, _&&_, _||_, Bool·beq}
-use mathlib.Core.Logic.{_⊎_, inl, inr, ⊎-elim}
+use mathlib.Core.Logic.{⊎-elim}
 use mathlib.Core.List.{List}
 use Prim.Native.Nat.{ℕ, zero, suc, _+_, _-_, _<_, _≤_}
 use native.Mathlib.Omega.{arith}
 use native.Mathlib.Nat.{eq-or-lt-of-le}
 use lib.Dec.{ltb, eqb}
 use lib.IntN.{ℤ, pos}
-use borrow.Author.Tests.{ltb-true, eqb-true, eqb-false, eq-eqb}
+use borrow.Author.Tests.{ltb-true, eqb-true, eq-eqb}
 use Rattle.words.specs.Word.{within, eqZ}
 use Rattle.integers.specs.Bools.{and-left, and-right, decide}
 use Rattle.words.proofs.Signs.{is-num, is-word, within-num}

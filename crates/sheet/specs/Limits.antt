@@ -1,6 +1,6 @@
 -- The limits of a form of sheet. What holds of any form is said over these, and a form's numbers stand here and nowhere else.
-use Prim.Native.Nat.{ℕ, _≤_}
-use lib.IntN.{ℤ, pos}
+use Prim.Native.Nat.{_≤_}
+use lib.IntN.{pos}
 use lib.Signed.{_≤ℤ_}
 use Rattle.sheet.specs.declared.Limits.{Limits}
 

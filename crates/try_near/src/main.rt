@@ -1,8 +1,6 @@
 // Asks what stands in its input, of two sheets each: pump houses nearest first, or the filter that goes nearest first. Prints what each answers and what the lent
 // numbers hold after it.
-use nearest::Found;
 use nearest::Near;
-use ring::Filtered;
 ghost use Prim.Native.Nat.{_≤_};
 ghost use lib.ListN.{length};
 

@@ -1,8 +1,7 @@
 -- One input, one answer: from each promise alone. What two answers of `open` share is all that a view shows: the number, the words covered and where they
 -- stand, the counts. And what the readers make of a view is settled by the words that it covers: its own counts say nothing.
 -- Assumes nothing.
-use mathlib.Core.Path.{_≡_, refl, sym, ap, _∙_}
-use mathlib.Core.Bool.{true, false}
+use mathlib.Core.Path.{_≡_, sym, ap, _∙_}
 use mathlib.Core.Logic.{⊎-elim}
 use mathlib.Core.List.{List, []}
 use Prim.Native.Nat.{ℕ}

@@ -1,7 +1,7 @@
 -- What the filter walk brings about, on so many lent words: every position is kept or dropped by another that is kept, no position past the points is kept,
 -- and at most m nodes are opened. `Meaning` has the statements for a reader.
 -- Assumes nothing.
-use mathlib.Core.Path.{_≡_, refl, sym, ap, subst, _∙_}
+use mathlib.Core.Path.{_≡_, refl, sym, subst, _∙_}
 use mathlib.Core.Bool.{Bool, true, false, cond}
 use mathlib.Core.Logic.{_⊎_, inl, inr, ⊎-elim}
 use mathlib.Core.List.{List}
@@ -9,7 +9,7 @@ use Prim.Native.Nat.{ℕ, suc, _+_, _*_, _<_, _≤_}
 use native.Mathlib.Omega.{arith}
 use lib.IntN.{ℤ}
 use lib.ListN.{length}
-use Rattle.integers.specs.Bools.{decide, clash}
+use Rattle.integers.specs.Bools.{clash}
 use Rattle.plane.specs.declared.Spot.{Spot}
 use Rattle.plane.specs.Rule.{drops}
 use Rattle.plane.proofs.RuleLaws.{box-drops}

@@ -12,7 +12,6 @@ use Rattle.integers.specs.Bools.{test-iff}
 use Rattle.words.proofs.AllLaws.{all-at, all-make}
 use Rattle.plane.specs.declared.Spot.{Spot}
 use Rattle.plane.specs.Rule.{blocks}
-use Rattle.plane.specs.Point.{Point, spotAt}
 use Rattle.list.specs.RingList.{unblocked, ringPair}
 use Rattle.sheet.specs.Layout.{points, nodes}
 use Rattle.sheet.specs.Places.{spotOf, pointsOf}

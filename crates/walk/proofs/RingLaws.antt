@@ -7,12 +7,11 @@ use mathlib.Core.List.{List}
 use Prim.Native.Nat.{ℕ, zero, suc, _+_, _-_, _<_, _≤_}
 use native.Mathlib.Omega.{arith}
 use lib.Dec.{eqb, ltb}
-use lib.IntN.{ℤ, pos}
-use lib.Signed.{_<ℤ_}
+use lib.IntN.{ℤ}
 use borrow.Author.Tests.{ltb-true}
 use Rattle.integers.specs.Bools.{clash}
 use Rattle.plane.specs.declared.Spot.{Spot}
-use Rattle.plane.specs.Rule.{dot, blocks, far, sideIn}
+use Rattle.plane.specs.Rule.{blocks, far, sideIn}
 use Rattle.plane.proofs.RuleLaws.{far-clear, side-first, on-side, side-strict, strict-blocks}
 use Rattle.sheet.specs.Layout.{points, nodes}
 use Rattle.sheet.specs.Order.{orderOf, rankOf, orderOk}

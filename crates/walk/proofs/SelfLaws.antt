@@ -7,7 +7,6 @@
 -- Assumes nothing.
 use mathlib.Core.Path.{_≡_, refl, sym, ap, ap₂, _∙_}
 use mathlib.Core.Bool.{Bool, true, false, cond, not, _&&_, _||_}
-use mathlib.Core.Logic.{⊎-elim}
 use mathlib.Core.List.{List}
 use Prim.Native.Nat.{ℕ, zero, suc, _+_, _-_, _*_, _<_, _≤_}
 use native.Mathlib.Omega.{arith}
@@ -17,9 +16,9 @@ use lib.Dec.{eqb, ltb}
 use lib.IntN.{ℤ}
 use lib.ListN.{length}
 use lib.Signed.{leZ}
-use borrow.Author.Tests.{eqb-true, eqb-false, eq-eqb, ne-eqb, lt-ltb, ltb-true}
+use borrow.Author.Tests.{eqb-false, eq-eqb, ne-eqb, ltb-true}
 use Rattle.integers.specs.Order.{zl}
-use Rattle.integers.specs.Bools.{and-left, and-right, and-both, decide, test-iff}
+use Rattle.integers.specs.Bools.{and-left, and-right, and-both, test-iff}
 use Rattle.plane.specs.declared.Spot.{Spot}
 use Rattle.plane.specs.declared.Boxed.{Boxed}
 use Rattle.plane.specs.Rule.{behind, spot, sameSpot, inBox, drops, dropsBox}

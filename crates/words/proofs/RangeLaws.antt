@@ -1,17 +1,17 @@
 -- Laws of the ranges: what a test of a word says of the number, and what the functions that test need.
 -- Assumes nothing.
-use mathlib.Core.Path.{_≡_, refl, sym, ap, subst, _∙_}
-use mathlib.Core.Bool.{Bool, true, false, not, _&&_, true≢false}
-use Prim.Native.Nat.{ℕ, zero, suc, _+_, _≤_, _<_}
+use mathlib.Core.Path.{_≡_, refl, sym, subst}
+use mathlib.Core.Bool.{true, false, true≢false}
+use Prim.Native.Nat.{ℕ, zero, suc, _≤_}
 use native.Mathlib.Omega.{arith}
 use lib.Dec.{T, leb, ltb}
 use lib.IntN.{ℤ, pos, negsuc, negℤ, natAbs, _-ℤ_}
-use lib.Signed.{leZ, ltZ, nonNeg, mag, _≤ℤ_}
+use lib.Signed.{leZ, ltZ, nonNeg, _≤ℤ_}
 use mir.Syntax.{w32}
 use mir.Val.{Fits, SFits}
 use borrow.Author.Tests.{leb-true, le-leb, ltb-true}
 use Rattle.integers.specs.Bools.{and-left, and-right, and-both, test-iff}
-use Rattle.integers.specs.Order.{zl, pp, nn, diff, Neq, pp-neg, nn-neg, Within, in-between}
+use Rattle.integers.specs.Order.{zl, diff, Neq, pp-neg, nn-neg, Within, in-between}
 use Rattle.words.specs.Word.{within, num}
 use Rattle.words.specs.Range.{lastId, lastEdition, lastSize, idWord, editionWord, coordWord, idOk, editionOk, sizeOk}
 

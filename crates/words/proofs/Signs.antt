@@ -1,8 +1,8 @@
 -- Laws of signed words: what a test on one says, and what a range gives of the count.
 -- Assumes nothing.
-use mathlib.Core.Path.{_≡_, refl, sym, ap, subst, _∙_}
-use mathlib.Core.Bool.{Bool, true, false, not, _&&_, true≢false}
-use Prim.Native.Nat.{ℕ, zero, suc, _+_, _-_, _*_, _≤_, _<_, _^_}
+use mathlib.Core.Path.{_≡_, refl, sym, ap, _∙_}
+use mathlib.Core.Bool.{Bool, true, false, not, true≢false}
+use Prim.Native.Nat.{ℕ, _≤_, _<_}
 use native.Mathlib.Omega.{arith}
 use lib.Dec.{T, eqb, leb, ltb}
 use lib.IntN.{ℤ, pos, negsuc, natAbs}
@@ -10,7 +10,7 @@ use lib.Signed.{leZ, ltZ, nonNeg, mag}
 use mir.Syntax.{w32, w64}
 use mir.ValLaws.{toZ-ofZ}
 use mir.Val.{Fits, SFits, toZ, ofZ}
-use borrow.Author.Tests.{ltb-true, ltb-false, leb-true, leb-false, eqb-true, eqb-false, lt-ltb, le-ltb, le-leb, lt-leb, eq-eqb, ne-eqb}
+use borrow.Author.Tests.{ltb-true, leb-true, eqb-true, eqb-false, eq-eqb, ne-eqb}
 use Rattle.integers.specs.Bools.{and-left, and-right}
 use Rattle.integers.specs.Order.{zl, leZ-not}
 use Rattle.words.specs.Word.{eqZ, within, num, isBelow}

@@ -1,5 +1,4 @@
 use mathlib.Core.Path.{ap₂}
-use mathlib.Core.Bool.{_&&_}
 use borrow.Author.Needs.{needs}
 use Rattle.book.specs.Rules.{pairOk}
 use Rattle.book.proofs.is_pair.Statement.{statement}

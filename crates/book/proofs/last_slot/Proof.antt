@@ -1,4 +1,3 @@
-use Prim.Native.Nat.{_-_}
 use borrow.Author.Needs.{needs}
 use Rattle.book.proofs.CoreLaws.{no-slot, a-slot}
 use Rattle.book.proofs.last_slot.Statement.{statement}

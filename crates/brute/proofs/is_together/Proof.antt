@@ -1,5 +1,5 @@
 -- `brute::is_together` meets its contract. Assumes nothing.
-use mathlib.Core.Path.{_≡_, _∙_}
+use mathlib.Core.Path.{_∙_}
 use Prim.Native.Nat.{_+_}
 use lib.Dec.{eqb}
 use borrow.Author.Needs.{needs}

@@ -1,6 +1,6 @@
 -- `ffi::ring_marker` meets its contract. Assumes nothing.
 use borrow.Author.Needs.{needs}
-use mathlib.Core.Path.{_≡_, ap, _∙_}
+use mathlib.Core.Path.{ap, _∙_}
 use mir.Facts.{toZ-ofZ}
 use Rattle.marker.specs.Mark.{Marks}
 use Rattle.ffi.specs.Over.{markOver}

@@ -8,7 +8,7 @@ use lib.Dec.{T, ltb}
 use lib.IntN.{ℤ, pos, negsuc, natAbs, _-ℤ_}
 use lib.Signed.{ltZ, nonNeg}
 use mir.Syntax.{w32}
-use mir.Val.{Fits, SFits, toZ, ofZ}
+use mir.Val.{Fits, SFits, ofZ}
 use mir.ValLaws.{toZ-ofZ}
 use Rattle.files.proofs.bits_of.Statement.{statement}
 use Rattle.files.proofs.bits_of.Tie as tie

@@ -8,7 +8,6 @@ use Rattle.join.specs.Work.{firstFrom}
 use Rattle.join.proofs.CallLaws.{scan-start, scan-on, scan-stop, scan-end}
 use Rattle.join.proofs.first_from.Statement.{statement}
 use Rattle.join.proofs.first_from.Tie as tie
-use Rattle.join.proofs.first_from.Reads as reads
 
 abbrev Inv-loop : tie.InvT-loop
 Inv-loop q nq mq key j₀ j = (j ≤ nq) × (firstFrom (idAt (pointsOf q)) key j ≡ j)

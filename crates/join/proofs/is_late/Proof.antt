@@ -3,7 +3,6 @@ use Rattle.join.proofs.CallLaws.{late-is}
 use borrow.Author.Needs.{needs}
 use Rattle.join.proofs.is_late.Statement.{statement}
 use Rattle.join.proofs.is_late.Tie as tie
-use Rattle.join.proofs.is_late.Reads as reads
 
 id-at-requires : tie.Need-id-at-requires
 id-at-requires c κs = search needs

@@ -4,7 +4,6 @@ use Rattle.join.proofs.CallLaws.{words-are, spot-fits}
 use borrow.Author.Needs.{needs}
 use Rattle.join.proofs.partners_to.Statement.{statement}
 use Rattle.join.proofs.partners_to.Tie as tie
-use Rattle.join.proofs.partners_to.Reads as reads
 
 spot-at-requires : tie.Need-spot-at-requires
 spot-at-requires c κs = search needs

@@ -6,7 +6,6 @@ use Rattle.join.proofs.CallLaws.{tried-early, tried-walked}
 use borrow.Author.Needs.{needs}
 use Rattle.join.proofs.try_partner.Statement.{statement}
 use Rattle.join.proofs.try_partner.Tie as tie
-use Rattle.join.proofs.try_partner.Reads as reads
 
 is-late-requires : tie.Need-is-late-requires
 is-late-requires c κs = search needs

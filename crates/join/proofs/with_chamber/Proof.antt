@@ -7,7 +7,6 @@ use Rattle.join.proofs.ThresholdLaws.{chamber-full, chamber-shut, chamb
 use borrow.Author.Needs.{needs}
 use Rattle.join.proofs.with_chamber.Statement.{statement}
 use Rattle.join.proofs.with_chamber.Tie as tie
-use Rattle.join.proofs.with_chamber.Reads as reads
 
 spot-at-requires : tie.Need-spot-at-requires
 spot-at-requires c κs = search needs

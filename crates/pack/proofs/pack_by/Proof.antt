@@ -1,4 +1,4 @@
-use mathlib.Core.Path.{_≡_, sym, _∙_}
+use mathlib.Core.Path.{sym, _∙_}
 use native.Mathlib.Omega.{arith}
 use Rattle.words.proofs.RangeLaws.{edition-bounds}
 use Rattle.pack.proofs.PackLaws.{pack-facts, shape-points, shape-order, range-few, range-edition, out-refused, out-packed}

@@ -6,12 +6,6 @@ use Rattle.sheet.proofs.OpenLaws.{nodes-table}
 use borrow.Author.Needs.{needs}
 use Rattle.sheet.proofs.body_no.Statement.{statement}
 use Rattle.sheet.proofs.body_no.Tie as tie
-use Rattle.sheet.proofs.body_no.Reads as reads
-use Rattle.sheet.proofs.body_no.Lts as lts
-use Rattle.sheet.proofs.boxes.boxes_ok.Reads as boxes-ok-reads
-use Rattle.sheet.proofs.nodes.nodes_ok.Reads as nodes-ok-reads
-use Rattle.sheet.proofs.order.order_ok.Reads as order-ok-reads
-use Rattle.sheet.proofs.points.points_ok.Reads as points-ok-reads
 
 points-ok-requires : tie.Need-points-ok-requires
 points-ok-requires c κs = search needs

@@ -2,8 +2,6 @@ use mathlib.Core.Path.{refl}
 use Rattle.sheet.specs.Limits.{form1}
 use Rattle.sheet.proofs.form1.Statement.{statement}
 use Rattle.sheet.proofs.form1.Tie as tie
-use Rattle.sheet.proofs.form1.Reads as reads
-use Rattle.sheet.proofs.form1.Lts as lts
 
 -- src/lib.rt:65:1
 returns : tie.Need-returns

@@ -6,11 +6,6 @@ use Rattle.sheet.proofs.OpenLaws.{trailer-facts}
 use borrow.Author.Needs.{needs}
 use Rattle.sheet.proofs.open_by.Statement.{statement}
 use Rattle.sheet.proofs.open_by.Tie as tie
-use Rattle.sheet.proofs.open_by.Reads as reads
-use Rattle.sheet.proofs.open_by.Lts as lts
-use Rattle.sheet.proofs.body_no.Reads as body-no-reads
-use Rattle.sheet.proofs.trailer.trailer_no.Reads as trailer-no-reads
-use Rattle.words.proofs.num_at.Reads as num-at-reads
 
 -- src/lib.rt:44:9
 trailer-no-requires : tie.Need-trailer-no-requires

@@ -1,14 +1,8 @@
-use mathlib.Core.Path.{_∙_, ap}
-use lib.IntN.{ℤ, pos}
-use Rattle.words.specs.Word.{within, eqZ}
+use mathlib.Core.Path.{_∙_}
 use Rattle.words.proofs.Signs.{handed}
 use borrow.Author.Needs.{needs}
 use Rattle.words.proofs.edition_at.Statement.{statement}
 use Rattle.words.proofs.edition_at.Tie as tie
-use Rattle.words.proofs.edition_at.Reads as reads
-use Rattle.words.proofs.edition_at.Lts as lts
-use Rattle.words.proofs.at.Reads as at-reads
-use Rattle.words.proofs.edition_word.Reads as edition-word-reads
 
 at-requires : tie.Need-at-requires
 at-requires c κs = search needs

@@ -5,9 +5,6 @@ use Rattle.words.proofs.RangeLaws.{edition-neg, edition-abs, cast-short
 use borrow.Author.Needs.{needs}
 use Rattle.words.proofs.edition_word.Statement.{statement}
 use Rattle.words.proofs.edition_word.Tie as tie
-use Rattle.words.proofs.edition_word.Reads as reads
-use Rattle.words.proofs.edition_word.Lts as lts
-use Rattle.words.proofs.is_edition.Reads as is-edition-reads
 
 -- src/lib.rt:188:9
 returns : tie.Need-returns

@@ -5,9 +5,6 @@ use Rattle.words.proofs.RangeLaws.{id-neg, id-abs, cast-short}
 use borrow.Author.Needs.{needs}
 use Rattle.words.proofs.id_word.Statement.{statement}
 use Rattle.words.proofs.id_word.Tie as tie
-use Rattle.words.proofs.id_word.Reads as reads
-use Rattle.words.proofs.id_word.Lts as lts
-use Rattle.words.proofs.is_id.Reads as is-id-reads
 
 -- src/lib.rt:178:9
 returns : tie.Need-returns

@@ -1,4 +1,4 @@
-use mathlib.Core.Path.{_≡_, _∙_}
+use mathlib.Core.Path.{_∙_}
 use mir.Syntax.{w32}
 use mir.ValLaws.{toZ-ofZ}
 use Rattle.words.specs.Range.{coordWord}
@@ -6,9 +6,6 @@ use Rattle.words.proofs.RangeLaws.{range-none, low-end, low-fits}
 use borrow.Author.Needs.{needs}
 use Rattle.words.proofs.in_range.Statement.{statement}
 use Rattle.words.proofs.in_range.Tie as tie
-use Rattle.words.proofs.in_range.Reads as reads
-use Rattle.words.proofs.in_range.Lts as lts
-use Rattle.words.proofs.within.Reads as within-reads
 
 returns : tie.Need-returns
 returns c = range-none _ _ (rw (toZ-ofZ w32 _ (c .before .fits .c)) at (c .if1 .taken))

@@ -2,8 +2,6 @@ use mathlib.Core.Path.{refl}
 use Rattle.words.specs.Range.{editionOk}
 use Rattle.words.proofs.is_edition.Statement.{statement}
 use Rattle.words.proofs.is_edition.Tie as tie
-use Rattle.words.proofs.is_edition.Reads as reads
-use Rattle.words.proofs.is_edition.Lts as lts
 
 -- src/lib.rt:154:1
 returns : tie.Need-returns

@@ -2,8 +2,6 @@ use mathlib.Core.Path.{refl}
 use Rattle.words.specs.Range.{idOk}
 use Rattle.words.proofs.is_id.Statement.{statement}
 use Rattle.words.proofs.is_id.Tie as tie
-use Rattle.words.proofs.is_id.Reads as reads
-use Rattle.words.proofs.is_id.Lts as lts
 
 -- src/lib.rt:147:1
 returns : tie.Need-returns

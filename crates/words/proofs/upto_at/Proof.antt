@@ -1,14 +1,8 @@
-use mathlib.Core.Path.{_∙_, ap}
-use lib.IntN.{ℤ, pos}
-use Rattle.words.specs.Word.{within, eqZ}
+use mathlib.Core.Path.{_∙_}
 use Rattle.words.proofs.Signs.{handed}
 use borrow.Author.Needs.{needs}
 use Rattle.words.proofs.upto_at.Statement.{statement}
 use Rattle.words.proofs.upto_at.Tie as tie
-use Rattle.words.proofs.upto_at.Reads as reads
-use Rattle.words.proofs.upto_at.Lts as lts
-use Rattle.words.proofs.at.Reads as at-reads
-use Rattle.words.proofs.upto.Reads as upto-reads
 
 at-requires : tie.Need-at-requires
 at-requires c κs = search needs

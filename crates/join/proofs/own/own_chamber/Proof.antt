@@ -6,7 +6,6 @@ use Rattle.join.proofs.OwnLaws.{own-chamber}
 use borrow.Author.Needs.{needs}
 use Rattle.join.proofs.own.own_chamber.Statement.{statement}
 use Rattle.join.proofs.own.own_chamber.Tie as tie
-use Rattle.join.proofs.own.own_chamber.Reads as reads
 
 spot-at-requires : tie.Need-spot-at-requires
 spot-at-requires c κs = search needs

@@ -5,7 +5,6 @@ use Rattle.join.proofs.OwnLaws.{own-clear, own-cost}
 use borrow.Author.Needs.{needs}
 use Rattle.join.proofs.own.try_own.Statement.{statement}
 use Rattle.join.proofs.own.try_own.Tie as tie
-use Rattle.join.proofs.own.try_own.Reads as reads
 
 is-late-requires : tie.Need-is-late-requires
 is-late-requires c κs = (c .pre .0, c .pre .0, c .pre .1, c .pre .2)

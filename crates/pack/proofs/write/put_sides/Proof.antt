@@ -6,8 +6,6 @@ use Rattle.pack.specs.Work.{sidesPut}
 use borrow.Author.Needs.{needs}
 use Rattle.pack.proofs.write.put_sides.Statement.{statement}
 use Rattle.pack.proofs.write.put_sides.Tie as tie
-use Rattle.pack.proofs.write.put_sides.Reads as reads
-use Rattle.pack.proofs.write.put_sides.Lts as lts
 
 -- src/write.rt:101:5
 mul-xmin : tie.Need-mul-xmin

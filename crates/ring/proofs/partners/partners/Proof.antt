@@ -6,7 +6,6 @@ use Rattle.ring.proofs.PartnersLaws.{partners-sheets, partners-unknown,
 use borrow.Author.Needs.{needs}
 use Rattle.ring.proofs.partners.partners.Statement.{statement}
 use Rattle.ring.proofs.partners.partners.Tie as tie
-use Rattle.ring.proofs.partners.partners.Reads as reads
 
 heads-of-requires : tie.Need-heads-of-requires
 heads-of-requires c κs = search needs

@@ -1,5 +1,5 @@
 use mathlib.Core.Path.{_≡_, refl, _∙_}
-use mathlib.Core.Bool.{true, false}
+use mathlib.Core.Bool.{false}
 use Prim.Native.Nat.{_≤_, _-_}
 use native.Mathlib.Omega.{arith}
 use borrow.Author.Needs.{needs}
@@ -10,12 +10,6 @@ use Rattle.sheet.specs.Boxes.{best, partOf}
 use Rattle.sheet.proofs.BoxLaws.{least-more, greatest-more, inner-part, inner-first, box-found}
 use Rattle.sheet.proofs.boxes.inner_ok.Statement.{statement}
 use Rattle.sheet.proofs.boxes.inner_ok.Tie as tie
-use Rattle.sheet.proofs.boxes.inner_ok.Reads as reads
-use Rattle.sheet.proofs.boxes.inner_ok.Lts as lts
-use Rattle.sheet.proofs.boxes.sides_are.Reads as sides-are-reads
-use Rattle.sheet.proofs.points.word.Reads as word-reads
-use Rattle.words.proofs.greatest.Reads as greatest-reads
-use Rattle.words.proofs.least.Reads as least-reads
 
 abbrev Inv-loop : tie.InvT-loop
 Inv-loop s n j a c f xmin₀ ymin₀ xmax₀ ymax₀ i₀ xmin ymin xmax ymax i = (i ≤ c) × (toZ w32 xmin ≡ best 0 (partOf s n false 0) a i) × (toZ w32 ymin ≡ best 1 (partOf s n false 1) a i) × (toZ w32 xmax ≡ best 2 (partOf s n false 2) a i) × (toZ w32 ymax ≡ best 3 (partOf s n false 3) a i)

@@ -5,10 +5,6 @@ use Rattle.sheet.specs.Boxes.{sidesAre, sideOf}
 use borrow.Author.Needs.{needs}
 use Rattle.sheet.proofs.boxes.sides_are.Statement.{statement}
 use Rattle.sheet.proofs.boxes.sides_are.Tie as tie
-use Rattle.sheet.proofs.boxes.sides_are.Reads as reads
-use Rattle.sheet.proofs.boxes.sides_are.Lts as lts
-use Rattle.sheet.proofs.points.word.Reads as word-reads
-use Rattle.words.proofs.same.Reads as same-reads
 
 mul-a : tie.Need-mul-a
 mul-a c = search needs

@@ -5,9 +5,6 @@ use Rattle.sheet.proofs.ReadLaws.{order-nat}
 use borrow.Author.Needs.{needs}
 use Rattle.sheet.proofs.boxes.spot_of.Statement.{statement}
 use Rattle.sheet.proofs.boxes.spot_of.Tie as tie
-use Rattle.sheet.proofs.boxes.spot_of.Reads as reads
-use Rattle.sheet.proofs.boxes.spot_of.Lts as lts
-use Rattle.sheet.proofs.reads.count.Reads as count-reads
 
 mul-count : tie.Need-mul-count
 mul-count c = search needs

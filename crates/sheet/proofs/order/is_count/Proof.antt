@@ -1,12 +1,8 @@
-use mathlib.Core.Path.{_∙_, ap}
 use mir.Syntax.{w32}
 use mir.ValLaws.{toZ-ofZ, toZ-pos}
 use borrow.Author.Needs.{needs}
 use Rattle.sheet.proofs.order.is_count.Statement.{statement}
 use Rattle.sheet.proofs.order.is_count.Tie as tie
-use Rattle.sheet.proofs.order.is_count.Reads as reads
-use Rattle.sheet.proofs.order.is_count.Lts as lts
-use Rattle.words.proofs.same.Reads as same-reads
 
 cast-same : tie.Need-cast-same
 cast-same c = search needs

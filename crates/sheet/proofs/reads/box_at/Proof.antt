@@ -4,9 +4,6 @@ use Rattle.sheet.specs.Places.{boxOf}
 use borrow.Author.Needs.{needs}
 use Rattle.sheet.proofs.reads.box_at.Statement.{statement}
 use Rattle.sheet.proofs.reads.box_at.Tie as tie
-use Rattle.sheet.proofs.reads.box_at.Reads as reads
-use Rattle.sheet.proofs.reads.box_at.Lts as lts
-use Rattle.sheet.proofs.reads.word.Reads as word-reads
 
 -- src/reads.rt:95:13
 mul-a : tie.Need-mul-a

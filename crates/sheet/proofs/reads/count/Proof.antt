@@ -1,18 +1,16 @@
-use mathlib.Core.Path.{_≡_, ap, subst, sym, _∙_}
+use mathlib.Core.Path.{ap, subst, sym, _∙_}
 use Prim.Native.Nat.{ℕ, _<_}
 use lib.IntN.{ℤ, natAbs}
 use mir.Syntax.{w32}
 use mir.Val.{SFits}
 use mir.Facts.{toZ-ofZ}
 use Rattle.integers.specs.Cast.{cast-nat}
-use Rattle.words.specs.Word.{at, num}
+use Rattle.words.specs.Word.{at}
 use Rattle.words.proofs.Signs.{num-short}
 use Rattle.sheet.proofs.ReadLaws.{count-is}
 use borrow.Author.Needs.{needs}
 use Rattle.sheet.proofs.reads.count.Statement.{statement}
 use Rattle.sheet.proofs.reads.count.Tie as tie
-use Rattle.sheet.proofs.reads.count.Reads as reads
-use Rattle.sheet.proofs.reads.count.Lts as lts
 
 -- src/reads.rt:30:5
 mul-result : tie.Need-mul-result

@@ -4,9 +4,6 @@ use Rattle.sheet.proofs.ReadLaws.{count-nat}
 use borrow.Author.Needs.{needs}
 use Rattle.sheet.proofs.reads.count_at.Statement.{statement}
 use Rattle.sheet.proofs.reads.count_at.Tie as tie
-use Rattle.sheet.proofs.reads.count_at.Reads as reads
-use Rattle.sheet.proofs.reads.count_at.Lts as lts
-use Rattle.sheet.proofs.reads.count.Reads as count-reads
 
 -- src/reads.rt:87:14
 mul-count : tie.Need-mul-count

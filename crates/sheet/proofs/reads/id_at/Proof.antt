@@ -5,9 +5,6 @@ use Rattle.sheet.proofs.PointsLaws.{id-of}
 use borrow.Author.Needs.{needs}
 use Rattle.sheet.proofs.reads.id_at.Statement.{statement}
 use Rattle.sheet.proofs.reads.id_at.Tie as tie
-use Rattle.sheet.proofs.reads.id_at.Reads as reads
-use Rattle.sheet.proofs.reads.id_at.Lts as lts
-use Rattle.sheet.proofs.reads.count.Reads as count-reads
 
 -- src/reads.rt:38:14
 mul-count : tie.Need-mul-count

@@ -4,9 +4,6 @@ use Rattle.sheet.proofs.ReadLaws.{level-nat}
 use borrow.Author.Needs.{needs}
 use Rattle.sheet.proofs.reads.level_at.Statement.{statement}
 use Rattle.sheet.proofs.reads.level_at.Tie as tie
-use Rattle.sheet.proofs.reads.level_at.Reads as reads
-use Rattle.sheet.proofs.reads.level_at.Lts as lts
-use Rattle.sheet.proofs.reads.count.Reads as count-reads
 
 -- src/reads.rt:73:14
 mul-count : tie.Need-mul-count

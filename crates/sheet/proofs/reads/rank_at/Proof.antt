@@ -4,9 +4,6 @@ use Rattle.sheet.proofs.ReadLaws.{rank-nat}
 use borrow.Author.Needs.{needs}
 use Rattle.sheet.proofs.reads.rank_at.Statement.{statement}
 use Rattle.sheet.proofs.reads.rank_at.Tie as tie
-use Rattle.sheet.proofs.reads.rank_at.Reads as reads
-use Rattle.sheet.proofs.reads.rank_at.Lts as lts
-use Rattle.sheet.proofs.reads.count.Reads as count-reads
 
 -- src/reads.rt:65:14
 mul-count : tie.Need-mul-count

@@ -3,9 +3,6 @@ use Rattle.sheet.specs.Places.{spotOf}
 use borrow.Author.Needs.{needs}
 use Rattle.sheet.proofs.reads.spot_at.Statement.{statement}
 use Rattle.sheet.proofs.reads.spot_at.Tie as tie
-use Rattle.sheet.proofs.reads.spot_at.Reads as reads
-use Rattle.sheet.proofs.reads.spot_at.Lts as lts
-use Rattle.sheet.proofs.reads.word.Reads as word-reads
 
 -- src/reads.rt:47:20
 mul-word : tie.Need-mul-word

@@ -3,8 +3,6 @@ use Rattle.words.specs.Word.{at}
 use borrow.Author.Needs.{needs}
 use Rattle.sheet.proofs.reads.word.Statement.{statement}
 use Rattle.sheet.proofs.reads.word.Tie as tie
-use Rattle.sheet.proofs.reads.word.Reads as reads
-use Rattle.sheet.proofs.reads.word.Lts as lts
 
 -- src/reads.rt:21:5
 mul-result : tie.Need-mul-result
