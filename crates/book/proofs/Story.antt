@@ -11,7 +11,7 @@ use lib.ListN.{length, take, drop, length-take, length-drop, take-append-drop}
 use lib.Seq.{paste, take-paste, take-add, take-length, length-paste}
 use lib.Dec.{eqb, ltb, leb}
 use borrow.Author.Tests.{leb-true, ltb-true, ltb-false, le-ltb, ne-eqb, eqb-true, not-true, not-false}
-use Rattle.integers.specs.Bools.{decide, and-left, and-right, and-both, or-both-false}
+use Rattle.integers.proofs.Bools.{decide, and-left, and-right, and-both, or-both-false}
 use Rattle.plane.specs.Point.{Point}
 use Rattle.words.specs.Range.{editionOk, idOk, sizeOk}
 use Rattle.list.specs.declared.Key.{Key}

@@ -10,7 +10,7 @@ use lib.ListN.{length, drop}
 use lib.Seq.{paste, paste-zero, drop-paste, length-paste}
 use lib.Dec.{eqb, ltb}
 use borrow.Author.Tests.{ltb-false, eqb-true, le-ltb, eq-eqb, not-false}
-use Rattle.integers.specs.Bools.{and-left, and-right, and-both, or-false-left, or-false-right}
+use Rattle.integers.proofs.Bools.{and-left, and-right, and-both, or-false-left, or-false-right}
 use Rattle.list.specs.declared.Key.{Key}
 use Rattle.list.specs.declared.Pair.{Pair}
 use Rattle.list.specs.declared.Page.{Page}

@@ -11,9 +11,10 @@ use mir.Syntax.{w32, w64}
 use mir.Val.{Fits, toZ, ofZ}
 use mir.Facts.{toZ-ofZ}
 use borrow.Author.Tests.{le-leb, lt-leb, leb-true}
-use Rattle.integers.specs.Bools.{test-iff}
-use Rattle.integers.specs.Order.{Within, in-lit, sfits-in, abs-of, zl, diff, leZ-not, le-true, pp, nn}
-use Rattle.integers.specs.Cast.{result-is}
+use Rattle.integers.proofs.Bools.{test-iff}
+use Rattle.integers.specs.Bounds.{Within}
+use Rattle.integers.proofs.Order.{in-lit, sfits-in, abs-of, zl, diff, leZ-not, le-true, pp, nn}
+use Rattle.integers.proofs.Cast.{result-is}
 use Rattle.brute.specs.declared.Place.{Place}
 use Rattle.brute.specs.Brute.{clip, across, apart, covers}
 

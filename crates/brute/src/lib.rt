@@ -4,7 +4,7 @@ ghost use mathlib.Core.Path.{_≡_};
 ghost use mathlib.Core.Bool.{false};
 ghost use Prim.Native.Nat.{_≤_, _<_};
 ghost use lib.IntN.{natAbs, _-ℤ_};
-ghost use Rattle.integers.specs.Order.{Within};
+ghost use Rattle.integers.specs.Bounds.{Within};
 ghost use Rattle.brute.specs.Brute.{clip, placeAt, covers, together, clear, empty, pairs, sizeOf, FirstOf, Next};
 
 pub struct Place {

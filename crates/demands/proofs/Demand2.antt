@@ -31,7 +31,7 @@ use lib.Dec.{eqb, leb}
 use lib.IntN.{ℤ, pos}
 use lib.ListN.{length, getD, take, drop, length-take}
 use borrow.Author.Tests.{eq-eqb, eqb-true, le-leb, leb-true}
-use Rattle.integers.specs.Bools.{decide}
+use Rattle.integers.proofs.Bools.{decide}
 use Rattle.words.specs.Range.{lastId}
 use Rattle.words.proofs.TabLaws.{at-tab}
 use Rattle.plane.specs.Point.{Point, pointAt, idAt, spotAt}

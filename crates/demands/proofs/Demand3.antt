@@ -23,7 +23,7 @@ use Prim.Native.Nat.{ℕ, zero, suc, _+_, _≤_, _<_}
 use native.Mathlib.Omega.{arith}
 use lib.IntN.{ℤ}
 use lib.ListN.{length, take, drop, take-append-drop}
-use Rattle.integers.specs.Bools.{decide}
+use Rattle.integers.proofs.Bools.{decide}
 use Rattle.words.specs.Range.{lastId}
 use Rattle.plane.specs.Point.{Point, idAt, spotAt}
 use Rattle.sheet.specs.Places.{pointsOf}

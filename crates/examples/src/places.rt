@@ -3,7 +3,7 @@ use libc::STDOUT_FILENO;
 use plane::Boxed;
 use plane::Spot;
 ghost use lib.Signed.{_≤ℤ_};
-ghost use Rattle.integers.specs.Order.{Within};
+ghost use Rattle.integers.specs.Bounds.{Within};
 ghost use Rattle.plane.specs.Rule.{SpotIn, BoxIn};
 
 fn say_ring() {

@@ -3,7 +3,7 @@ use mathlib.Core.Path.{_≡_, refl, ap, subst}
 use mathlib.Core.Bool.{Bool, true, false, cond}
 use native.Mathlib.Omega.{arith}
 use lib.IntN.{ℤ, _+ℤ_}
-use Rattle.integers.specs.Order.{Within}
+use Rattle.integers.specs.Bounds.{Within}
 use Rattle.marker.specs.Half.{halfOf, HalfOf}
 use Rattle.marker.specs.Mark.{onMap, markNo, numberOf, Middle, MiddleAt, Marks}
 use Rattle.marker.specs.declared.Marker.{Marker}

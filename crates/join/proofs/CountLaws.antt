@@ -11,7 +11,7 @@ use lib.Dec.{leb, ltb}
 use lib.IntN.{ℤ}
 use lib.ListN.{length}
 use borrow.Author.Tests.{ltb-true, ltb-false, leb-true, le-leb}
-use Rattle.integers.specs.Bools.{decide}
+use Rattle.integers.proofs.Bools.{decide}
 use Rattle.bits.specs.Set.{kept, without, nextFrom}
 use Rattle.bits.proofs.NextLaws.{from-kept, from-skip}
 use Rattle.sheet.specs.Boxes.{sumOver}

@@ -11,7 +11,7 @@ use lib.ListN.{length, take, set, replicate, length-append}
 use lib.Seq.{take-at, take-all, set-at}
 use lib.Dec.{ltb}
 use borrow.Author.Tests.{ltb-true, lt-ltb, le-ltb, not-false}
-use Rattle.integers.specs.Bools.{decide}
+use Rattle.integers.proofs.Bools.{decide}
 use Rattle.words.specs.All.{firstB}
 use Rattle.words.proofs.AllLaws.{first-le, first-before}
 use Rattle.list.specs.declared.Key.{Key}

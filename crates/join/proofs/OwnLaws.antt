@@ -14,7 +14,7 @@ use lib.Dec.{eqb, ltb}
 use lib.IntN.{ℤ}
 use lib.ListN.{length}
 use borrow.Author.Tests.{ltb-true, ltb-false, lt-ltb, le-ltb, ne-eqb}
-use Rattle.integers.specs.Bools.{decide}
+use Rattle.integers.proofs.Bools.{decide}
 use Rattle.plane.specs.declared.Spot.{Spot}
 use Rattle.plane.specs.Point.{idAt}
 use Rattle.sheet.specs.Layout.{points}

@@ -10,7 +10,7 @@ use lib.Dec.{leb}
 use lib.IntN.{ℤ}
 use lib.ListN.{length}
 use borrow.Author.Tests.{le-leb, lt-leb}
-use Rattle.integers.specs.Bools.{decide}
+use Rattle.integers.proofs.Bools.{decide}
 use Rattle.plane.specs.declared.Spot.{Spot}
 use Rattle.sheet.specs.Boxes.{sumOver}
 use Rattle.sheet.specs.Places.{spotOf}

@@ -10,7 +10,7 @@ use native.Mathlib.Nat.{mul-le-mul-right}
 use lib.Dec.{ltb}
 use lib.ListN.{length}
 use borrow.Author.Tests.{ltb-true, ltb-false}
-use Rattle.integers.specs.Bools.{decide}
+use Rattle.integers.proofs.Bools.{decide}
 use Rattle.bits.specs.Set.{kept, nextFrom}
 use Rattle.bits.proofs.NextLaws.{from-le, from-kept, from-skip}
 use Rattle.list.specs.declared.Key.{Key}

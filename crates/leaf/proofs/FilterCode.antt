@@ -12,7 +12,7 @@ use lib.IntN.{ℤ}
 use lib.ListN.{length, getD, take, drop}
 use lib.Seq.{getD-take, getD-drop}
 use borrow.Author.Tests.{eq-eqb, ne-eqb, ltb-true, ltb-false}
-use Rattle.integers.specs.Bools.{and-both, decide}
+use Rattle.integers.proofs.Bools.{and-both, decide}
 use Rattle.words.specs.All.{allB}
 use Rattle.words.proofs.AllLaws.{all-make, all-more, all-stop, all-done}
 use Rattle.plane.specs.declared.Spot.{Spot}

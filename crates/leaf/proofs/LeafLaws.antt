@@ -10,7 +10,7 @@ use lib.Dec.{eqb, ltb}
 use borrow.Author.Tests.{ltb-true, ltb-false}
 use lib.IntN.{ℤ}
 use lib.ListN.{length}
-use Rattle.integers.specs.Bools.{and-left, and-right, and-both, decide, clash, test-iff}
+use Rattle.integers.proofs.Bools.{and-left, and-right, and-both, decide, clash, test-iff}
 use Rattle.words.specs.All.{allB}
 use Rattle.words.proofs.AllLaws.{all-at}
 use Rattle.plane.specs.declared.Spot.{Spot}

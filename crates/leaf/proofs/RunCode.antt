@@ -11,7 +11,7 @@ use lib.Dec.{ltb}
 use lib.IntN.{ℤ}
 use lib.ListN.{length}
 use borrow.Author.Tests.{ltb-true, ltb-false, lt-ltb}
-use Rattle.integers.specs.Bools.{and-left, and-right, decide, clash}
+use Rattle.integers.proofs.Bools.{and-left, and-right, decide, clash}
 use Rattle.bits.specs.Set.{kept, with, without, none, nextFrom}
 use Rattle.bits.proofs.SetLaws.{with-length, kept-only, none-kept, none-length}
 use Rattle.bits.proofs.NextLaws.{from-kept, from-skip}

@@ -10,8 +10,8 @@ use native.Mathlib.Omega.{arith}
 use lib.IntN.{ℤ}
 use lib.ListN.{length}
 use lib.Signed.{_≤ℤ_, _<ℤ_}
-use Rattle.integers.specs.Order.{zl, total}
-use Rattle.integers.specs.Bools.{and-both, decide}
+use Rattle.integers.proofs.Order.{zl, total}
+use Rattle.integers.proofs.Bools.{and-both, decide}
 use Rattle.words.proofs.AllLaws.{all-make, below-suc}
 use Rattle.plane.specs.declared.Spot.{Spot}
 use Rattle.plane.specs.Rule.{blocks, size}

@@ -9,7 +9,7 @@ use native.Mathlib.Omega.{arith}
 use lib.ListN.{length, take, getD}
 use lib.Dec.{eqb, ltb}
 use borrow.Author.Tests.{ltb-true, eqb-true, lt-ltb, eq-eqb}
-use Rattle.integers.specs.Bools.{decide, and-left, and-right, and-both, clash}
+use Rattle.integers.proofs.Bools.{decide, and-left, and-right, and-both, clash}
 use Rattle.list.specs.declared.Key.{Key}
 use Rattle.list.specs.declared.Pair.{Pair}
 use Rattle.list.specs.Pairs.{none, keyOf, follows, ascends, after, lastOr}

@@ -12,8 +12,8 @@ use lib.Dec.{ltb}
 use borrow.Author.Tests.{ltb-true, ltb-false}
 use lib.IntN.{pos, natAbs}
 use lib.ListN.{length, getD}
-use Rattle.integers.specs.Bools.{decide, and-both}
-use Rattle.integers.specs.Order.{in-+, in--, in-*, in-up}
+use Rattle.integers.proofs.Bools.{decide, and-both}
+use Rattle.integers.proofs.Order.{in-+, in--, in-*, in-up}
 use Rattle.words.specs.Range.{lastId, idOk, sizeOk}
 use Rattle.words.proofs.RangeLaws.{id-make, id-bounds, size-make}
 use Rattle.plane.specs.declared.Spot.{Spot}

@@ -15,7 +15,7 @@ use native.Mathlib.Decide.{ℕ-discrete}
 use lib.Dec.{ltb}
 use lib.ListN.{length, getD}
 use borrow.Author.Tests.{ltb-true, lt-ltb, not-true}
-use Rattle.integers.specs.Bools.{and-left, and-right, and-both}
+use Rattle.integers.proofs.Bools.{and-left, and-right, and-both}
 use Rattle.words.specs.Range.{lastId, idOk, sizeOk}
 use Rattle.words.proofs.RangeLaws.{id-bounds}
 use Rattle.words.proofs.AllLaws.{all-at, all-make}

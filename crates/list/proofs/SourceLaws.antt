@@ -7,7 +7,7 @@ use Prim.Native.Nat.{ℕ}
 use native.Mathlib.Omega.{arith}
 use lib.Dec.{eqb}
 use borrow.Author.Tests.{eqb-true, eq-eqb}
-use Rattle.integers.specs.Bools.{and-left, and-right, and-both}
+use Rattle.integers.proofs.Bools.{and-left, and-right, and-both}
 use Rattle.list.specs.declared.Source.{Source}
 use Rattle.list.specs.Pages.{sameKind, sourceNo}
 

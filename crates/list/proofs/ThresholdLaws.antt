@@ -16,7 +16,7 @@ use native.Mathlib.Nat.{eq-or-lt-of-le}
 use lib.Dec.{eqb, leb}
 use lib.ListN.{length}
 use borrow.Author.Tests.{eq-eqb, ne-eqb, leb-true, le-leb}
-use Rattle.integers.specs.Bools.{decide, and-left, and-right, and-both}
+use Rattle.integers.proofs.Bools.{decide, and-left, and-right, and-both}
 use Rattle.plane.specs.Point.{Point, idAt}
 use Rattle.list.specs.declared.Pair.{Pair}
 use Rattle.list.specs.declared.Source.{Source}

@@ -5,7 +5,7 @@ use Prim.Native.Nat.{ℕ, _<_}
 use lib.Dec.{leb}
 use lib.IntN.{natAbs}
 use lib.ListN.{length}
-use Rattle.integers.specs.Order.{Within}
+use Rattle.integers.specs.Bounds.{Within}
 use Rattle.words.specs.All.{allB}
 use Rattle.plane.specs.declared.Spot.{Spot}
 use Rattle.plane.specs.Rule.{blocks, size}

@@ -9,7 +9,7 @@ use lib.Dec.{ltb}
 use lib.IntN.{ℤ}
 use lib.ListN.{length, take, drop, length-append}
 use lib.Seq.{take-at}
-use Rattle.integers.specs.Bools.{or-false-left, or-false-right}
+use Rattle.integers.proofs.Bools.{or-false-left, or-false-right}
 use Rattle.words.specs.Bytes.{wordAt, wordsOf}
 use Rattle.ring.specs.Numbers.{sheetNo}
 use Rattle.lister.specs.Split.{badInput}

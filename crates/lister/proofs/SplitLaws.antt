@@ -9,7 +9,7 @@ use lib.Dec.{leb}
 use lib.IntN.{ℤ, pos, negsuc, _+ℤ_}
 use lib.ListN.{length}
 use lib.Signed.{leZ, ltZ}
-use Rattle.integers.specs.Order.{sum, zl}
+use Rattle.integers.proofs.Order.{sum, zl}
 use Rattle.words.specs.Word.{within, num}
 use Rattle.sheet.specs.Layout.{span}
 use Rattle.lister.specs.Split.{splitAt}

@@ -6,8 +6,9 @@ use lib.Signed.{_≤ℤ_}
 use mir.Syntax.{w64}
 use mir.Val.{toZ, ofZ}
 use mir.Facts.{toZ-ofZ}
-use Rattle.integers.specs.Bools.{and-left, and-right}
-use Rattle.integers.specs.Order.{Within, in-+, in-up, sfits-in}
+use Rattle.integers.proofs.Bools.{and-left, and-right}
+use Rattle.integers.specs.Bounds.{Within}
+use Rattle.integers.proofs.Order.{in-+, in-up, sfits-in}
 use Rattle.words.proofs.RangeLaws.{coord-in}
 use Rattle.sheet.specs.Limits.{form1}
 use Rattle.marker.specs.Mark.{coordinate, onMap}

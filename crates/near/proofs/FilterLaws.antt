@@ -11,7 +11,7 @@ use lib.Dec.{eqb}
 use lib.IntN.{ℤ}
 use lib.ListN.{length}
 use borrow.Author.Tests.{eqb-true, eqb-false}
-use Rattle.integers.specs.Bools.{clash}
+use Rattle.integers.proofs.Bools.{clash}
 use Rattle.plane.specs.declared.Spot.{Spot}
 use Rattle.plane.specs.Rule.{drops}
 use Rattle.plane.proofs.RuleLaws.{box-drops}

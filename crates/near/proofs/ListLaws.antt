@@ -10,7 +10,7 @@ use lib.Dec.{eqb, ltb}
 use lib.IntN.{ℤ}
 use lib.ListN.{length}
 use borrow.Author.Tests.{eqb-true, eqb-false, ltb-true, ltb-false}
-use Rattle.integers.specs.Bools.{decide, or-false-left, or-false-right, and-left, and-right}
+use Rattle.integers.proofs.Bools.{decide, or-false-left, or-false-right, and-left, and-right}
 use Rattle.plane.specs.declared.Spot.{Spot}
 use Rattle.sheet.specs.Boxes.{sumOver}
 use Rattle.walk.specs.Walk.{inTurn}

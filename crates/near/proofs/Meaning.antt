@@ -20,7 +20,7 @@ use Prim.Native.Nat.{ℕ, _*_, _<_, _≤_}
 use native.Mathlib.Omega.{arith}
 use lib.IntN.{ℤ}
 use lib.ListN.{length, getD}
-use Rattle.integers.specs.Bools.{and-right, and-both, decide, clash, test-iff}
+use Rattle.integers.proofs.Bools.{and-right, and-both, decide, clash, test-iff}
 use Rattle.plane.specs.declared.Spot.{Spot}
 use Rattle.plane.specs.Rule.{drops}
 use Rattle.list.specs.RingList.{unblocked, ringPair}

@@ -13,9 +13,9 @@ use lib.ListN.{length, getD, length-append, List·getD-append}
 use lib.Seq.{getD-at}
 use lib.Signed.{ltZ, _≤ℤ_}
 use borrow.Author.Tests.{eqb-true, eq-eqb, ltb-true, ltb-false}
-use Rattle.integers.specs.Order.{zl, diff, absN, abs-of, abs-mul}
-use Rattle.integers.specs.Sign.{sq-≥0}
-use Rattle.integers.specs.Bools.{decide}
+use Rattle.integers.proofs.Order.{zl, diff, absN, abs-of, abs-mul}
+use Rattle.integers.proofs.Sign.{sq-≥0}
+use Rattle.integers.proofs.Bools.{decide}
 use Rattle.words.specs.Word.{num}
 use Rattle.plane.specs.declared.Spot.{Spot}
 use Rattle.plane.specs.declared.Boxed.{Boxed}

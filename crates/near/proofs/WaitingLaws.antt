@@ -13,7 +13,8 @@ use lib.ListN.{length, getD, set, drop, replicate, length-set, length-replicate,
 use lib.Seq.{getD-set-same, getD-set-other, drop-set-lt, drop-cons, drop-drop, set-at}
 use lib.Signed.{ltZ}
 use borrow.Author.Tests.{lt-ltb, le-ltb, eqb-true, eqb-false}
-use Rattle.integers.specs.Order.{Within, in--, in-up, in-lit, abs-mul}
+use Rattle.integers.specs.Bounds.{Within}
+use Rattle.integers.proofs.Order.{in--, in-up, in-lit, abs-mul}
 use Rattle.words.specs.Word.{num}
 use Rattle.plane.specs.declared.Spot.{Spot}
 use Rattle.plane.specs.declared.Boxed.{Boxed}

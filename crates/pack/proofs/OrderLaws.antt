@@ -13,7 +13,7 @@ use lib.Dec.{ltb, eqb, le→leb}
 use lib.IntN.{ℤ, pos, negsuc}
 use lib.Signed.{_≤ℤ_}
 use borrow.Author.Tests.{lt-ltb, le-ltb, ltb-true, ltb-false, eq-eqb, ne-eqb}
-use Rattle.integers.specs.Bools.{and-left, and-right, and-both, decide, clash, test-iff}
+use Rattle.integers.proofs.Bools.{and-left, and-right, and-both, decide, clash, test-iff}
 use Rattle.words.specs.Word.{at, num, eqZ, isBelow}
 use Rattle.words.specs.All.{firstB}
 use Rattle.words.proofs.Signs.{is-num, below-num}

@@ -9,7 +9,7 @@ use lib.Dec.{eqb, leb}
 use lib.IntN.{ℤ}
 use lib.ListN.{length}
 use borrow.Author.Tests.{eqb-true, eq-eqb, ne-eqb, leb-true}
-use Rattle.integers.specs.Bools.{and-left, and-right, and-both, test-iff}
+use Rattle.integers.proofs.Bools.{and-left, and-right, and-both, test-iff}
 use Rattle.words.specs.Range.{editionOk}
 use Rattle.sheet.specs.declared.Limits.{Limits}
 use Rattle.sheet.specs.Points.{pointsOk}

@@ -12,7 +12,7 @@ use lib.IntN.{ℤ, pos}
 use lib.ListN.{length, set, length-set}
 use lib.Seq.{getD-set-same, getD-set-other, ext-getD}
 use borrow.Author.Tests.{lt-ltb, le-ltb, ltb-true, ltb-false, ne-eqb}
-use Rattle.integers.specs.Bools.{decide}
+use Rattle.integers.proofs.Bools.{decide}
 use Rattle.words.specs.Word.{at, num}
 use Rattle.words.specs.All.{tab}
 use Rattle.words.proofs.AllLaws.{below-suc}

@@ -7,7 +7,7 @@ use Prim.Native.Nat.{ℕ, zero, suc, _+_, _*_, _-_, _<_, _≤_}
 use native.Mathlib.Omega.{arith}
 use lib.Dec.{ltb, leb}
 use borrow.Author.Tests.{lt-ltb, le-ltb, ltb-true, ltb-false, leb-true, leb-false, le-leb, lt-leb}
-use Rattle.integers.specs.Bools.{decide}
+use Rattle.integers.proofs.Bools.{decide}
 use Rattle.sheet.specs.declared.Due.{Due}
 use Rattle.pack.specs.Tree.{up16, width, ground, above, oneLeft, nodesFrom, nodesFor, nodeOn, nodeFrom}
 use Rattle.pack.specs.Work.{follow}

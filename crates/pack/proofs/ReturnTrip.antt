@@ -10,7 +10,7 @@ use lib.Dec.{eqb}
 use lib.IntN.{ℤ, pos}
 use lib.ListN.{length}
 use borrow.Author.Tests.{lt-ltb, le-ltb, le-leb, eq-eqb, ne-eqb, eqb-true, eqb-false}
-use Rattle.integers.specs.Bools.{and-both, decide}
+use Rattle.integers.proofs.Bools.{and-both, decide}
 use Rattle.words.specs.Word.{at, eqZ, within, isBelow}
 use Rattle.words.specs.Range.{editionOk, editionWord}
 use Rattle.words.specs.All.{tab}

@@ -12,7 +12,7 @@ use lib.Dec.{ltb, eqb}
 use lib.IntN.{ℤ, pos}
 use borrow.Author.Tests.{lt-ltb, le-ltb, ltb-true, ltb-false, le-leb, eq-eqb, ne-eqb}
 use Rattle.words.specs.Word.{eqZ, num, within}
-use Rattle.integers.specs.Bools.{decide, clash, and-both}
+use Rattle.integers.proofs.Bools.{decide, clash, and-both}
 use Rattle.words.proofs.Signs.{eq-eqZ}
 use Rattle.words.proofs.AllLaws.{all-make}
 use Rattle.sheet.specs.declared.Due.{Due}

@@ -11,9 +11,10 @@ use lib.Signed.{ltZ, _≤ℤ_}
 use borrow.Author.Tests.{ltb-true, lt-ltb}
 use mir.Syntax.{w64}
 use mir.Val.{Fits}
-use Rattle.integers.specs.Order.{zl, Within, in--, in-up, in-lit, diff, +-mono}
-use Rattle.integers.specs.Sign.{sq-≥0}
-use Rattle.integers.specs.Bools.{test-iff}
+use Rattle.integers.specs.Bounds.{Within}
+use Rattle.integers.proofs.Order.{zl, in--, in-up, in-lit, diff, +-mono}
+use Rattle.integers.proofs.Sign.{sq-≥0}
+use Rattle.integers.proofs.Bools.{test-iff}
 use Rattle.plane.specs.declared.Spot.{Spot}
 use Rattle.plane.specs.declared.Boxed.{Boxed}
 use Rattle.plane.specs.Rule.{sq, out, size, far}

@@ -10,11 +10,11 @@ use native.Mathlib.Nat.{mul-le-mul}
 use lib.Dec.{lt→ltb}
 use lib.IntN.{ℤ, pos, negsuc, _-ℤ_}
 use lib.Signed.{leZ, _≤ℤ_, _<ℤ_}
-use Rattle.integers.specs.Order.{zl, diff, sum}
-use Rattle.integers.specs.Sign.{sq-≥0}
-use Rattle.integers.specs.Solver.{Expr, con, _:+_, _:-_, _:*_, v0, v1, v2, v3, v4, v5}
-use Rattle.integers.specs.Linear.{to-le, to-lt, of-lt}
-use Rattle.integers.specs.Bools.{and-left, and-right, decide, clash}
+use Rattle.integers.proofs.Order.{zl, diff, sum}
+use Rattle.integers.proofs.Sign.{sq-≥0}
+use Rattle.integers.proofs.Solver.{Expr, con, _:+_, _:-_, _:*_, v0, v1, v2, v3, v4, v5}
+use Rattle.integers.proofs.Linear.{to-le, to-lt, of-lt}
+use Rattle.integers.proofs.Bools.{and-left, and-right, decide, clash}
 use Rattle.plane.specs.declared.Spot.{Spot}
 use Rattle.plane.specs.Rule.{sq, dot, same, sameSpot, blocks, size}
 

@@ -9,14 +9,14 @@ use native.Mathlib.Omega.{arith}
 use lib.Dec.{eqb}
 use lib.IntN.{ℤ, pos}
 use lib.Signed.{leZ, ltZ, _≤ℤ_, _<ℤ_}
-use Rattle.integers.specs.Order.{zl, sfits-in}
-use Rattle.integers.specs.Solver.{con, _:+_, _:-_, _:*_}
-use Rattle.integers.specs.Solve.{_:=_, solve₄}
+use Rattle.integers.proofs.Order.{zl, sfits-in}
+use Rattle.integers.proofs.Solver.{con, _:+_, _:-_, _:*_}
+use Rattle.integers.proofs.Solve.{_:=_, solve₄}
 use mir.Syntax.{w64}
 use mir.Facts.{toZ-ofZ}
 use mir.Val.{SFits, toZ, ofZ}
 use borrow.Author.Tests.{eqb-true, eq-eqb}
-use Rattle.integers.specs.Bools.{and-left, and-right, and-both, decide, clash, test-iff}
+use Rattle.integers.proofs.Bools.{and-left, and-right, and-both, decide, clash, test-iff}
 use Rattle.plane.specs.declared.Spot.{Spot}
 use Rattle.plane.specs.declared.Boxed.{Boxed}
 use Rattle.plane.specs.Rule.{SpotIn, BoxIn, spot, dot, same, sameSpot, inBox, blocks, drops, behind, dropsBox, farCorner, far, inside, OnSide, cornersIn, sideIn, FirstSide}

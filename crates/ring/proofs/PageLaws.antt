@@ -15,7 +15,7 @@ use lib.Dec.{eqb, leb}
 use lib.IntN.{ℤ}
 use lib.ListN.{length}
 use borrow.Author.Tests.{eq-eqb, ne-eqb, eqb-true, leb-true, le-leb, not-true, not-false}
-use Rattle.integers.specs.Bools.{and-left, and-right}
+use Rattle.integers.proofs.Bools.{and-left, and-right}
 use Rattle.words.specs.Range.{lastId}
 use Rattle.words.specs.Word.{num}
 use Rattle.sheet.specs.Layout.{edition, points, nodes}

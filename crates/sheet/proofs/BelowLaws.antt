@@ -11,7 +11,7 @@ use lib.Dec.{ltb}
 use lib.IntN.{ℤ}
 use lib.Signed.{ltZ, leZ}
 use Rattle.words.specs.Word.{minZ, maxZ}
-use Rattle.integers.specs.Bools.{decide}
+use Rattle.integers.proofs.Bools.{decide}
 use Rattle.words.proofs.Signs.{leZ-refl, leZ-trans, lt-le, not-lt-le}
 use Rattle.sheet.specs.Nodes.{levelOf, firstOf, countOf, tableOk}
 use Rattle.sheet.specs.Boxes.{coordOf, better, best, tightSide, Below, reaches}

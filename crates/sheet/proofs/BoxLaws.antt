@@ -12,7 +12,7 @@ use lib.IntN.{ℤ, pos}
 use borrow.Author.Tests.{eq-eqb, ne-eqb, eqb-true, eqb-false}
 use Rattle.words.specs.Word.{at, eqZ, minZ, maxZ}
 use Rattle.words.specs.All.{allB}
-use Rattle.integers.specs.Bools.{test-iff}
+use Rattle.integers.proofs.Bools.{test-iff}
 use Rattle.words.proofs.Signs.{eqZ-eq, eq-eqZ}
 use Rattle.words.proofs.AllLaws.{all-at, all-make}
 use Rattle.sheet.specs.Order.{orderOf}

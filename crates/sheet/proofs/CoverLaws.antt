@@ -10,7 +10,7 @@ use native.Mathlib.Nat.{eq-or-lt-of-le}
 use lib.Dec.{ltb, eqb}
 use lib.IntN.{ℤ}
 use borrow.Author.Tests.{ltb-true, ltb-false, eqb-true, eq-eqb, ne-eqb}
-use Rattle.integers.specs.Bools.{and-right, decide}
+use Rattle.integers.proofs.Bools.{and-right, decide}
 use Rattle.words.proofs.AllLaws.{all-at, below-suc}
 use Rattle.sheet.specs.declared.Due.{Due}
 use Rattle.sheet.specs.Nodes.{levelOf, firstOf, countOf, sameLevel, dueOf, runOk, isLast, endOk, nodeRule, nodeOk, tableOk}

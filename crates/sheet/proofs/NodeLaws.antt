@@ -9,7 +9,7 @@ use lib.Dec.{ltb}
 use lib.IntN.{ℤ, pos}
 use borrow.Author.Tests.{ltb-true}
 use Rattle.words.specs.Word.{within, eqZ}
-use Rattle.integers.specs.Bools.{and-left}
+use Rattle.integers.proofs.Bools.{and-left}
 use Rattle.sheet.specs.declared.Due.{Due}
 use Rattle.sheet.specs.Nodes.{levelWord, firstWord, countWord, dueNext, dueOf, runOk, endOk, nodeRule, nodeOk}
 

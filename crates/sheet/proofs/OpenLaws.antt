@@ -11,7 +11,7 @@ use lib.ListN.{length}
 use borrow.Author.Tests.{ltb-false, eqb-true}
 use Rattle.words.specs.Word.{within, eqZ}
 use Rattle.words.specs.Range.{editionWord}
-use Rattle.integers.specs.Bools.{and-left, and-right}
+use Rattle.integers.proofs.Bools.{and-left, and-right}
 use Rattle.words.proofs.Signs.{within-num}
 use Rattle.sheet.specs.Layout.{form, nWord, mWord, edition, span, root, points, nodes, rootWord, countsOk, layoutOk, trailerNo}
 use Rattle.sheet.specs.Nodes.{nodesOk, tableOk}

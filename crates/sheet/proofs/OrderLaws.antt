@@ -6,7 +6,7 @@ use mathlib.Core.List.{List}
 use Prim.Native.Nat.{ℕ, _<_}
 use lib.IntN.{ℤ, pos}
 use Rattle.words.specs.Word.{isBelow, eqZ}
-use Rattle.integers.specs.Bools.{and-left, and-right, passed, failed}
+use Rattle.integers.proofs.Bools.{and-left, and-right, passed, failed}
 use Rattle.words.proofs.Signs.{below-num, is-num}
 use Rattle.words.proofs.AllLaws.{all-at}
 use Rattle.sheet.specs.Order.{orderWord, rankWord, orderOf, rankOf, placeOk, orderOk}

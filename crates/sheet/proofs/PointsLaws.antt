@@ -8,7 +8,7 @@ use native.Mathlib.Omega.{arith}
 use lib.IntN.{ℤ, pos, negsuc}
 use lib.ListN.{length}
 use borrow.Author.Tests.{ltb-true, ne-eqb}
-use Rattle.integers.specs.Bools.{and-left, and-right}
+use Rattle.integers.proofs.Bools.{and-left, and-right}
 use Rattle.plane.specs.Point.{Point, pointAt, spotAt}
 use Rattle.words.specs.Word.{num, before}
 use Rattle.words.specs.Range.{idWord, coordWord}

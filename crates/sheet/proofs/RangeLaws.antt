@@ -7,10 +7,11 @@ use Prim.Native.Nat.{ℕ, _<_}
 use native.Mathlib.Omega.{arith}
 use lib.IntN.{ℤ, pos}
 use lib.Signed.{_≤ℤ_}
-use Rattle.integers.specs.Order.{zl, Within}
+use Rattle.integers.specs.Bounds.{Within}
+use Rattle.integers.proofs.Order.{zl}
 use Rattle.words.specs.Range.{idWord, coordWord}
 use Rattle.words.proofs.RangeLaws.{coord-in}
-use Rattle.integers.specs.Bools.{and-left, and-right}
+use Rattle.integers.proofs.Bools.{and-left, and-right}
 use Rattle.words.proofs.AllLaws.{all-at}
 use Rattle.plane.specs.Rule.{SpotIn, BoxIn}
 use Rattle.sheet.specs.Points.{idAt, xAt, yAt, fieldsOk, risesOk, pointOk, pointsOk}

@@ -8,7 +8,7 @@ use native.Mathlib.Omega.{arith}
 use lib.Dec.{ltb, le→leb}
 use lib.IntN.{ℤ, pos, negsuc, natAbs}
 use lib.Signed.{_≤ℤ_}
-use Rattle.integers.specs.Bools.{and-left, and-right}
+use Rattle.integers.proofs.Bools.{and-left, and-right}
 use Rattle.words.specs.Word.{within, eqZ, isBelow, num}
 use Rattle.words.proofs.AllLaws.{all-at}
 use Rattle.words.proofs.Signs.{is-word}

@@ -8,7 +8,7 @@ use native.Mathlib.Omega.{arith}
 use lib.Dec.{eqb}
 use lib.IntN.{ℤ}
 use borrow.Author.Tests.{eqb-true, eq-eqb}
-use Rattle.integers.specs.Bools.{and-left}
+use Rattle.integers.proofs.Bools.{and-left}
 use Rattle.sheet.specs.declared.Limits.{Limits}
 use Rattle.sheet.specs.Limits.{Fair, form1}
 use Rattle.sheet.specs.Layout.{points, nodes, trailerNo}

@@ -9,7 +9,7 @@ use native.Mathlib.Omega.{arith}
 use lib.IntN.{ℤ}
 use lib.Dec.{eqb}
 use native.Mathlib.Numerals.{add-one}
-use Rattle.integers.specs.Bools.{decide}
+use Rattle.integers.proofs.Bools.{decide}
 use Rattle.sheet.specs.declared.Due.{Due}
 use Rattle.sheet.specs.Nodes.{levelOf, firstOf, countOf, sameLevel, dueOf, isLast, tableOk}
 use Rattle.sheet.specs.Boxes.{sumOver, treeSize}

@@ -11,7 +11,7 @@ use lib.Dec.{ltb, eqb}
 use lib.IntN.{ℤ, pos}
 use borrow.Author.Tests.{ltb-true, eqb-true, eq-eqb}
 use Rattle.words.specs.Word.{within, eqZ}
-use Rattle.integers.specs.Bools.{and-left, and-right, decide}
+use Rattle.integers.proofs.Bools.{and-left, and-right, decide}
 use Rattle.words.proofs.Signs.{is-num, is-word, within-num}
 use Rattle.words.proofs.AllLaws.{all-at}
 use Rattle.sheet.specs.declared.Due.{Due}

@@ -12,7 +12,7 @@ use mathlib.Core.List.{List, [], _∷_, List·Memᴰ, List·Memᴰ·head, List·
 use Prim.Native.Nat.{ℕ, zero, suc, min, _<_}
 use native.Mathlib.Omega.{arith}
 use lib.ListN.{length, take, drop, getD, length-take, take-append-drop}
-use Rattle.integers.specs.Bools.{decide, and-right, clash}
+use Rattle.integers.proofs.Bools.{decide, and-right, clash}
 use Rattle.list.specs.declared.Key.{Key}
 use Rattle.list.specs.declared.Pair.{Pair}
 use Rattle.list.specs.Pairs.{none, keyOf, follows, ascends}

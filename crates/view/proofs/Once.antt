@@ -9,7 +9,7 @@ use lib.IntN.{ℤ}
 use lib.Dec.{eqb}
 use borrow.Author.Tests.{eq-eqb, ne-eqb, eqb-true}
 use denote.Ref.{RefT, now}
-use Rattle.integers.specs.Bools.{decide}
+use Rattle.integers.proofs.Bools.{decide}
 use Rattle.sheet.specs.Layout.{points, nodes}
 use Rattle.ring.specs.Numbers.{sheetNo}
 use Rattle.ring.specs.Answers.{pointed, filtered, walked}

@@ -12,7 +12,7 @@ use lib.ListN.{length, take}
 use lib.Seq.{take-length}
 use borrow.Author.Tests.{eqb-true, eq-eqb}
 use denote.Ref.{RefT, now}
-use Rattle.integers.specs.Bools.{decide, clash}
+use Rattle.integers.proofs.Bools.{decide, clash}
 use Rattle.sheet.specs.Layout.{points, nodes}
 use Rattle.ring.specs.Numbers.{sheetNo}
 use Rattle.ring.specs.Answers.{headOf}

@@ -9,7 +9,7 @@ use native.Mathlib.Omega.{arith}
 use native.Mathlib.Decide.{ℕ-discrete}
 use lib.ListN.{length, getD, set, length-set}
 use lib.Seq.{getD-set-same, getD-set-other}
-use Rattle.integers.specs.Bools.{clash}
+use Rattle.integers.proofs.Bools.{clash}
 use Rattle.bits.specs.Set.{kept, with, none, some, Known, Finds}
 use Rattle.bits.proofs.SetLaws.{kept-same, kept-more, kept-only, none-kept}
 use Rattle.bits.proofs.SomeLaws.{some-one, known-past, known-more, finds-at}

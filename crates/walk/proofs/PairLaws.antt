@@ -8,7 +8,7 @@ use native.Mathlib.Omega.{arith}
 use lib.IntN.{ℤ}
 use lib.ListN.{length}
 use borrow.Author.Tests.{not-true}
-use Rattle.integers.specs.Bools.{test-iff}
+use Rattle.integers.proofs.Bools.{test-iff}
 use Rattle.words.proofs.AllLaws.{all-at, all-make}
 use Rattle.plane.specs.declared.Spot.{Spot}
 use Rattle.plane.specs.Rule.{blocks}

@@ -9,7 +9,7 @@ use native.Mathlib.Omega.{arith}
 use lib.Dec.{eqb, ltb}
 use lib.IntN.{ℤ}
 use borrow.Author.Tests.{ltb-true}
-use Rattle.integers.specs.Bools.{clash}
+use Rattle.integers.proofs.Bools.{clash}
 use Rattle.plane.specs.declared.Spot.{Spot}
 use Rattle.plane.specs.Rule.{blocks, far, sideIn}
 use Rattle.plane.proofs.RuleLaws.{far-clear, side-first, on-side, side-strict, strict-blocks}

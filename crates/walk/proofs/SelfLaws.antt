@@ -17,8 +17,8 @@ use lib.IntN.{ℤ}
 use lib.ListN.{length}
 use lib.Signed.{leZ}
 use borrow.Author.Tests.{eqb-false, eq-eqb, ne-eqb, ltb-true}
-use Rattle.integers.specs.Order.{zl}
-use Rattle.integers.specs.Bools.{and-left, and-right, and-both, test-iff}
+use Rattle.integers.proofs.Order.{zl}
+use Rattle.integers.proofs.Bools.{and-left, and-right, and-both, test-iff}
 use Rattle.plane.specs.declared.Spot.{Spot}
 use Rattle.plane.specs.declared.Boxed.{Boxed}
 use Rattle.plane.specs.Rule.{behind, spot, sameSpot, inBox, drops, dropsBox}

@@ -11,7 +11,7 @@ use native.Mathlib.Nat.{le-refl, eq-or-lt-of-le}
 use lib.Dec.{ltb}
 use lib.ListN.{length}
 use borrow.Author.Tests.{ltb-true, ltb-false, lt-ltb, le-ltb}
-use Rattle.integers.specs.Bools.{decide, clash, test-iff}
+use Rattle.integers.proofs.Bools.{decide, clash, test-iff}
 use Rattle.bits.specs.Set.{kept, without, nextFrom}
 use Rattle.bits.proofs.SetLaws.{without-length, gone-same, gone-other}
 use Rattle.bits.proofs.NextLaws.{from-le, from-kept, from-skip}

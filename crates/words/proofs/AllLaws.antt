@@ -10,7 +10,7 @@ use native.Mathlib.Omega.{arith}
 use Rattle.words.specs.All.{allB, firstB}
 use lib.Dec.{ltb}
 use borrow.Author.Tests.{lt-ltb, le-ltb, ltb-true, ltb-false}
-use Rattle.integers.specs.Bools.{and-left, and-right, and-both, decide, clash}
+use Rattle.integers.proofs.Bools.{and-left, and-right, and-both, decide, clash}
 
 -- ---- a loop that tests every index
 

@@ -10,8 +10,9 @@ use lib.Signed.{leZ, ltZ, nonNeg, _≤ℤ_}
 use mir.Syntax.{w32}
 use mir.Val.{Fits, SFits}
 use borrow.Author.Tests.{leb-true, le-leb, ltb-true}
-use Rattle.integers.specs.Bools.{and-left, and-right, and-both, test-iff}
-use Rattle.integers.specs.Order.{zl, diff, Neq, pp-neg, nn-neg, Within, in-between}
+use Rattle.integers.proofs.Bools.{and-left, and-right, and-both, test-iff}
+use Rattle.integers.specs.Bounds.{Within}
+use Rattle.integers.proofs.Order.{zl, diff, Neq, pp-neg, nn-neg, in-between}
 use Rattle.words.specs.Word.{within, num}
 use Rattle.words.specs.Range.{lastId, lastEdition, lastSize, idWord, editionWord, coordWord, idOk, editionOk, sizeOk}
 

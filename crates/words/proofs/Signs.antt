@@ -11,8 +11,8 @@ use mir.Syntax.{w32, w64}
 use mir.ValLaws.{toZ-ofZ}
 use mir.Val.{Fits, SFits, toZ, ofZ}
 use borrow.Author.Tests.{ltb-true, leb-true, eqb-true, eqb-false, eq-eqb, ne-eqb}
-use Rattle.integers.specs.Bools.{and-left, and-right}
-use Rattle.integers.specs.Order.{zl, leZ-not}
+use Rattle.integers.proofs.Bools.{and-left, and-right}
+use Rattle.integers.proofs.Order.{zl, leZ-not}
 use Rattle.words.specs.Word.{eqZ, within, num, isBelow}
 
 -- the count of a negative word, and of another

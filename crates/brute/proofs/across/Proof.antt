@@ -3,7 +3,8 @@ use mathlib.Core.Path.{_≡_, subst, sym, _∙_}
 use Prim.Native.Nat.{_*_}
 use native.Mathlib.Omega.{arith}
 use lib.IntN.{natAbs, _-ℤ_}
-use Rattle.integers.specs.Order.{Within, in-up, in--}
+use Rattle.integers.specs.Bounds.{Within}
+use Rattle.integers.proofs.Order.{in-up, in--}
 use Rattle.brute.proofs.Distances.{square-le, back}
 use Rattle.brute.proofs.across.Statement.{statement}
 use Rattle.brute.proofs.across.Tie as tie

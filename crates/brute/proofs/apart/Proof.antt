@@ -5,9 +5,9 @@ use Prim.Native.Nat.{ℕ, _*_}
 use native.Mathlib.Omega.{arith}
 use lib.IntN.{ℤ, pos, natAbs, _-ℤ_, _+ℤ_, _*ℤ_}
 use mir.Syntax.{w64}
-use Rattle.integers.specs.Order.{Within}
-use Rattle.integers.specs.Solver.{Expr, con, _:+_, _:*_, v0, v1, v2}
-use Rattle.integers.specs.Mach.{Each, fits, runs, eval-in}
+use Rattle.integers.specs.Bounds.{Within}
+use Rattle.integers.proofs.Solver.{Expr, con, _:+_, _:*_, v0, v1, v2}
+use Rattle.integers.proofs.Mach.{Each, fits, runs, eval-in}
 use Rattle.brute.proofs.Distances.{square-le}
 use Rattle.brute.proofs.apart.Statement.{statement}
 use Rattle.brute.proofs.apart.Tie as tie

@@ -1,7 +1,7 @@
 -- `brute::clipped` meets its contract. Assumes nothing.
 use mathlib.Core.Path.{_∙_}
 use mir.Facts.{toZ-ofZ}
-use Rattle.integers.specs.Cast.{cast-wide, wide-is}
+use Rattle.integers.proofs.Cast.{cast-wide, wide-is}
 use Rattle.brute.proofs.Distances.{clip-low, clip-high, clip-is, clip-in}
 use Rattle.brute.proofs.clipped.Statement.{statement}
 use Rattle.brute.proofs.clipped.Tie as tie

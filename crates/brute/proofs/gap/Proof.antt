@@ -4,9 +4,10 @@ use mathlib.Core.List.{List, [], _∷_}
 use Prim.Native.Nat.{ℕ, _≤_}
 use lib.IntN.{ℤ, natAbs, _-ℤ_}
 use mir.Syntax.{w64}
-use Rattle.integers.specs.Solver.{_:-_, v0, v1}
-use Rattle.integers.specs.Order.{Within, in--}
-use Rattle.integers.specs.Mach.{Each, fits, runs, lt-is}
+use Rattle.integers.proofs.Solver.{_:-_, v0, v1}
+use Rattle.integers.specs.Bounds.{Within}
+use Rattle.integers.proofs.Order.{in--}
+use Rattle.integers.proofs.Mach.{Each, fits, runs, lt-is}
 use Rattle.brute.proofs.Distances.{abs-swap, less-from, not-less-from, cast-diff}
 use Rattle.brute.proofs.gap.Statement.{statement}
 use Rattle.brute.proofs.gap.Tie as tie

@@ -1,6 +1,6 @@
 -- `brute::place_at` meets its contract. Assumes nothing.
 use mathlib.Core.Path.{subst, sym}
-use Rattle.integers.specs.Order.{Within}
+use Rattle.integers.specs.Bounds.{Within}
 use Rattle.brute.specs.Brute.{placeAt}
 use Rattle.brute.proofs.Distances.{clipped-is, clip-in}
 use borrow.Author.Needs.{needs}

@@ -5,7 +5,7 @@ use native.Mathlib.Omega.{arith}
 use lib.Dec.{ltb}
 use lib.ListN.{length}
 use borrow.Author.Tests.{ltb-true}
-use Rattle.integers.specs.Bools.{and-left, and-right}
+use Rattle.integers.proofs.Bools.{and-left, and-right}
 use Rattle.bits.proofs.NextLaws.{from-le}
 use Rattle.join.proofs.CountLaws.{Counts, one-yes, one-no, count-start, count-on, count-end}
 use Rattle.join.proofs.count_to.Statement.{statement}

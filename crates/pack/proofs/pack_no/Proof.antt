@@ -1,5 +1,5 @@
 use native.Mathlib.Omega.{arith}
-use Rattle.integers.specs.Bools.{passed, failed}
+use Rattle.integers.proofs.Bools.{passed, failed}
 use Rattle.pack.specs.Pack.{packNo}
 use Rattle.pack.proofs.TableLaws.{plan-few}
 use Rattle.pack.proofs.PackLaws.{shape-points, shape-order, range-few, size-fits, size-differs}

@@ -5,8 +5,9 @@ use mir.Syntax.{w64}
 use mir.Val.{toZ, ofZ}
 use mir.Facts.{toZ-ofZ}
 use borrow.Author.Needs.{needs}
-use Rattle.integers.specs.Order.{Within, sfits-in}
-use Rattle.integers.specs.Cast.{result-is}
+use Rattle.integers.specs.Bounds.{Within}
+use Rattle.integers.proofs.Order.{sfits-in}
+use Rattle.integers.proofs.Cast.{result-is}
 use Rattle.plane.specs.Rule.{farEnd}
 use Rattle.plane.proofs.far_corner.Statement.{statement}
 use Rattle.plane.proofs.far_corner.Tie as tie

@@ -4,9 +4,9 @@ use mathlib.Core.List.{List, [], _∷_}
 use Prim.Native.Nat.{ℕ}
 use lib.IntN.{ℤ}
 use mir.Syntax.{w64}
-use Rattle.integers.specs.Solver.{v0, v1, v2, v3}
-use Rattle.integers.specs.Order.{Within}
-use Rattle.integers.specs.Mach.{Each, runs, lt-is}
+use Rattle.integers.proofs.Solver.{v0, v1, v2, v3}
+use Rattle.integers.specs.Bounds.{Within}
+use Rattle.integers.proofs.Mach.{Each, runs, lt-is}
 use Rattle.plane.proofs.far_end.Statement.{statement}
 use Rattle.plane.proofs.far_end.Tie as tie
 

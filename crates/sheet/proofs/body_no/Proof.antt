@@ -1,5 +1,5 @@
 use mathlib.Core.Path.{_∙_}
-use Rattle.integers.specs.Bools.{passed, failed}
+use Rattle.integers.proofs.Bools.{passed, failed}
 use Rattle.sheet.specs.Open.{bodyNo}
 use Rattle.sheet.proofs.BoxLaws.{boxes-tight}
 use Rattle.sheet.proofs.OpenLaws.{nodes-table}

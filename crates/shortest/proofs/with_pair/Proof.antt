@@ -9,7 +9,7 @@ use Rattle.list.specs.Pairs.{none}
 use Rattle.list.proofs.PageLaws.{long-of}
 use native.Mathlib.Omega.{arith}
 use borrow.Author.Needs.{needs}
-use Rattle.integers.specs.Bools.{failed, passed}
+use Rattle.integers.proofs.Bools.{failed, passed}
 use Rattle.shortest.specs.declared.Search.{Search}
 use Rattle.shortest.specs.Search.{putAt}
 use Rattle.shortest.proofs.PutLaws.{Moved, moved-start, moved-on, moved-stop, moved-end}

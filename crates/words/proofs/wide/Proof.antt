@@ -1,4 +1,4 @@
-use Rattle.integers.specs.Cast.{cast-wide, wide-is}
+use Rattle.integers.proofs.Cast.{cast-wide, wide-is}
 use Rattle.words.proofs.wide.Statement.{statement}
 use Rattle.words.proofs.wide.Tie as tie
 

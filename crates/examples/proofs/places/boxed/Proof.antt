@@ -6,7 +6,8 @@ use mir.Syntax.{w64}
 use mir.Val.{toZ, ofZ}
 use mir.Facts.{toZ-ofZ}
 use borrow.Author.Needs.{needs}
-use Rattle.integers.specs.Order.{Within, sfits-in}
+use Rattle.integers.specs.Bounds.{Within}
+use Rattle.integers.proofs.Order.{sfits-in}
 use Rattle.examples.proofs.places.boxed.Statement.{statement}
 use Rattle.examples.proofs.places.boxed.Tie as tie
 

@@ -6,9 +6,10 @@ use Prim.Native.Nat.{ℕ}
 use lib.IntN.{ℤ}
 use lib.Signed.{ltZ, _≤ℤ_}
 use mir.Syntax.{w64}
-use Rattle.integers.specs.Solver.{v0, v1}
-use Rattle.integers.specs.Order.{zl, Within}
-use Rattle.integers.specs.Mach.{Each, runs, lt-is}
+use Rattle.integers.proofs.Solver.{v0, v1}
+use Rattle.integers.specs.Bounds.{Within}
+use Rattle.integers.proofs.Order.{zl}
+use Rattle.integers.proofs.Mach.{Each, runs, lt-is}
 use Rattle.examples.proofs.places.greater.Statement.{statement}
 use Rattle.examples.proofs.places.greater.Tie as tie
 

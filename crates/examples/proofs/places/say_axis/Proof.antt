@@ -5,9 +5,9 @@ use Prim.Native.Nat.{ℕ}
 use borrow.Author.Needs.{needs}
 use lib.IntN.{ℤ, pos}
 use mir.Syntax.{w64}
-use Rattle.integers.specs.Order.{Within}
-use Rattle.integers.specs.Solver.{Expr, con, _:+_, _:*_, v0, v1, v2, v3}
-use Rattle.integers.specs.Mach.{Each, fits, runs, eval-in}
+use Rattle.integers.specs.Bounds.{Within}
+use Rattle.integers.proofs.Solver.{Expr, con, _:+_, _:*_, v0, v1, v2, v3}
+use Rattle.integers.proofs.Mach.{Each, fits, runs, eval-in}
 use Rattle.examples.proofs.places.say_axis.Statement.{statement}
 use Rattle.examples.proofs.places.say_axis.Tie as tie
 

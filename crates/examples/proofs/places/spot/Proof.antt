@@ -4,7 +4,8 @@ use lib.IntN.{ℤ}
 use mir.Syntax.{w16, w64}
 use mir.Val.{SFits, toZ, ofZ}
 use mir.Facts.{toZ-ofZ, sfits-widen}
-use Rattle.integers.specs.Order.{Within, in-up, in-sfits}
+use Rattle.integers.specs.Bounds.{Within}
+use Rattle.integers.proofs.Order.{in-up, in-sfits}
 use Rattle.examples.proofs.places.spot.Statement.{statement}
 use Rattle.examples.proofs.places.spot.Tie as tie
 

@@ -3,7 +3,7 @@ use mathlib.Core.Path.{_≡_}
 use mathlib.Core.Bool.{true}
 use Prim.Native.Nat.{_-_, _≤_}
 use native.Mathlib.Omega.{arith}
-use Rattle.integers.specs.Bools.{failed, passed}
+use Rattle.integers.proofs.Bools.{failed, passed}
 use Rattle.words.specs.All.{allB}
 use Rattle.words.proofs.AllLaws.{all-none, all-more, all-stop, all-done}
 use Rattle.walk.proofs.NodeLaws.{box-fits}

@@ -5,8 +5,8 @@ use Prim.Native.Nat.{ℕ}
 use borrow.Author.Needs.{needs}
 use lib.IntN.{ℤ}
 use mir.Syntax.{w64}
-use Rattle.integers.specs.Solver.{_:+_, v0, v1, v2, v3}
-use Rattle.integers.specs.Mach.{Each, fits, runs}
+use Rattle.integers.proofs.Solver.{_:+_, v0, v1, v2, v3}
+use Rattle.integers.proofs.Mach.{Each, fits, runs}
 use Rattle.text.specs.Text.{Grown, lineText}
 use Rattle.lister.specs.Listing.{lineAt}
 use Rattle.lister.proofs.lines.put_line.Statement.{statement}

@@ -5,7 +5,7 @@ use native.Mathlib.Omega.{arith}
 use lib.Dec.{ltb}
 use lib.ListN.{length}
 use borrow.Author.Tests.{ltb-true}
-use Rattle.integers.specs.Bools.{and-left, and-right}
+use Rattle.integers.proofs.Bools.{and-left, and-right}
 use Rattle.near.proofs.WalkCode.{load, going-fits, going-rest, going-node, going-room}
 use Rattle.near.proofs.FilterCode.{wiped-all}
 use Rattle.near.proofs.OrderCode.{Giving, giving-start, giving-less, giving-meet, giving-under, giving-open, giving-done}

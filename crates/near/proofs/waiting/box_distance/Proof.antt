@@ -4,9 +4,9 @@ use mathlib.Core.List.{List, [], _∷_}
 use Prim.Native.Nat.{ℕ}
 use lib.IntN.{ℤ, pos}
 use mir.Syntax.{w64}
-use Rattle.integers.specs.Order.{Within}
-use Rattle.integers.specs.Solver.{v0, v1, v2, v3, v4, v5}
-use Rattle.integers.specs.Mach.{Each, runs}
+use Rattle.integers.specs.Bounds.{Within}
+use Rattle.integers.proofs.Solver.{v0, v1, v2, v3, v4, v5}
+use Rattle.integers.proofs.Mach.{Each, runs}
 use Rattle.plane.specs.Rule.{sq, out}
 use Rattle.plane.proofs.FarLaws.{out-same}
 use Rattle.near.proofs.WaitingLaws.{wide, away-fits, away-is}

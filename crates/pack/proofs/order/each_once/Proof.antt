@@ -3,7 +3,7 @@ use Prim.Native.Nat.{_-_}
 use native.Mathlib.Omega.{arith}
 use borrow.Author.Needs.{needs}
 use lib.ListN.{length}
-use Rattle.integers.specs.Bools.{passed, failed}
+use Rattle.integers.proofs.Bools.{passed, failed}
 use Rattle.words.specs.Word.{num, isBelow}
 use Rattle.words.proofs.Signs.{handed}
 use Rattle.pack.proofs.OrderLaws.{list-range}

@@ -4,7 +4,7 @@ use lib.IntN.{ℤ, natAbs}
 use mir.Syntax.{w32}
 use mir.Val.{SFits}
 use mir.Facts.{toZ-ofZ}
-use Rattle.integers.specs.Cast.{cast-nat}
+use Rattle.integers.proofs.Cast.{cast-nat}
 use Rattle.words.specs.Word.{at}
 use Rattle.sheet.proofs.ReadLaws.{count-is}
 use Rattle.pack.proofs.OrderLaws.{list-nat, list-below}

@@ -1,7 +1,7 @@
 -- `ring::point::asset_at` meets its contract: three words read.
 -- Assumes nothing.
 use borrow.Author.Needs.{needs}
-use Rattle.integers.specs.Cast.{result32-is}
+use Rattle.integers.proofs.Cast.{result32-is}
 use Rattle.ring.proofs.PointLaws.{asset-read}
 use Rattle.ring.proofs.point.asset_at.Statement.{statement}
 use Rattle.ring.proofs.point.asset_at.Tie as tie

@@ -1,4 +1,4 @@
-use Rattle.integers.specs.Cast.{result-is}
+use Rattle.integers.proofs.Cast.{result-is}
 use Rattle.sheet.specs.Boxes.{sideOf}
 use Rattle.sheet.specs.Places.{boxOf}
 use borrow.Author.Needs.{needs}

@@ -1,4 +1,4 @@
-use Rattle.integers.specs.Cast.{result-is}
+use Rattle.integers.proofs.Cast.{result-is}
 use Rattle.sheet.specs.Places.{spotOf}
 use borrow.Author.Needs.{needs}
 use Rattle.sheet.proofs.reads.spot_at.Statement.{statement}

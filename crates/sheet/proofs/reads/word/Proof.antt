@@ -1,4 +1,4 @@
-use Rattle.integers.specs.Cast.{cast-wide, wide-is}
+use Rattle.integers.proofs.Cast.{cast-wide, wide-is}
 use Rattle.words.specs.Word.{at}
 use borrow.Author.Needs.{needs}
 use Rattle.sheet.proofs.reads.word.Statement.{statement}
