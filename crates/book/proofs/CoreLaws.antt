@@ -26,7 +26,7 @@ use Rattle.book.specs.declared.TakenArray.{TakenArray}
 use Rattle.book.specs.declared.Begun.the-variants as begun
 use Rattle.book.specs.Rules.{oneSheet, ownWithT, beginNo, begunBy, begunBook, begunFor, lastKey, lastSlot, pairOk, pairsOk, sameKey, pageMost, pageBad, firstNo, takeNoAt, takeNo, accepted, refused, decidedAt, decided, taken, takenSlots, askedAt, asked, lentOf, withSlots, takenArray}
 use Rattle.book.proofs.TakeLaws.{no-refusal-at, by-zero, by-number, same-key, passed, or-zero}
-use Rattle.book.proofs.Rows.{width}
+use Rattle.list.proofs.PairRows.{width}
 
 -- ---- begin
 

@@ -5,7 +5,6 @@
 --     Once         one input, one answer, one final state of the slots
 --     Story        demand 3 over histories
 --     Examples     the book on small values, by computation
---     LocalRow     a local array lent as a slice
 --     Rows         what the walks by hand share
 pub mod TakeLaws
 pub mod CoreLaws
@@ -13,5 +12,4 @@ pub mod SliceLaws
 pub mod Once
 pub mod Story
 pub mod Examples
-pub mod LocalRow
 pub mod Rows

@@ -7,7 +7,6 @@
 --     CountLaws     a chamber's ring partners: those that stay kept, and how many they are
 --     Meaning      the theorems: `page-pairs`, `page-opened`, `list-by-points`
 --     OwnLaws      the page maker of a self join: `own-pairs`, `own-opened`
---     FindLaws     the loop that finds the record with an id
 pub mod MakerLaws
 pub mod WorkLaws
 pub mod TurnLaws
@@ -16,4 +15,3 @@ pub mod ThresholdLaws
 pub mod CountLaws
 pub mod Meaning
 pub mod OwnLaws
-pub mod FindLaws

@@ -5,11 +5,9 @@
 --     Sheets    what the walks of two sheets say
 --     Threshold the walks of a page of t
 --     Self      the walks of a self join
---     Find      the record with an id
 pub mod Walks
 pub mod Work
 pub mod Maker
 pub mod Sheets
 pub mod Threshold
 pub mod Self
-pub mod Find

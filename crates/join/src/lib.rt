@@ -1,5 +1,4 @@
 // The page maker, on the words of two sheets that open: P of np points and mp nodes, Q of nq points and mq nodes.
-pub mod find;
 pub mod own;
 
 use list::Key;

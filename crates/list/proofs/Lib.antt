@@ -7,6 +7,8 @@
 --     ThresholdLaws the list of t: the chambers with at least t pairs, with all their pairs
 --     SelfLaws      the self join's list: two different records once, lower id first, exactly if no other blocks
 --     Examples      the document's listing and its pages, by computation
+--     PairRows      pairs and pages as rows and as machine values, for walks by hand
+--     LocalRow      a local array lent as a slice
 pub mod Order
 pub mod PageLaws
 pub mod SourceLaws
@@ -15,3 +17,5 @@ pub mod NearestLaws
 pub mod ThresholdLaws
 pub mod SelfLaws
 pub mod Examples
+pub mod PairRows
+pub mod LocalRow

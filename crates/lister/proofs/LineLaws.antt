@@ -15,7 +15,7 @@ use Rattle.sheet.proofs.PointsLaws.{length-points, spot-of}
 use Rattle.sheet.proofs.RangeLaws.{spot-in}
 use Rattle.list.specs.declared.Pair.{Pair}
 use Rattle.list.specs.Pairs.{none}
-use Rattle.join.specs.Find.{positionOf}
+use Rattle.sheet.specs.Find.{positionOf}
 use Rattle.text.specs.Text.{Grown}
 use Rattle.text.proofs.Grow.{then}
 use Rattle.lister.specs.Listing.{Has, standsAt, lineOf, linesOf}

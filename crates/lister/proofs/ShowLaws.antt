@@ -31,7 +31,7 @@ use Rattle.ring.specs.Page.{sourceOf, pageGiven, pageAnswer}
 use Rattle.ring.proofs.PageLaws.{page-served}
 use Rattle.lister.specs.Listing.{Has, standsAt, HasBoth}
 use Rattle.lister.specs.Outcome.{Both, InRange, pairsOf}
-use Rattle.join.specs.Find.{positionOf}
+use Rattle.sheet.specs.Find.{positionOf}
 
 has : (s : List Point) (j : ℕ) → j < length s → Has s (idAt s j)
 unfolding positionOf

@@ -11,7 +11,7 @@ use Rattle.list.specs.declared.Pair.{Pair}
 use Rattle.list.specs.Pairs.{after, lastOr, isNone}
 use Rattle.list.specs.Pages.{shown}
 use Rattle.list.specs.RingList.{ringList}
-use Rattle.join.specs.Find.{positionOf}
+use Rattle.sheet.specs.Find.{positionOf}
 use Rattle.text.specs.Text.{lineText, endText}
 
 -- the set has the id

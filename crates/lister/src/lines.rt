@@ -19,7 +19,7 @@ fn stands_at(s: &[i32], h: Head, id: u32) -> Spot
     requires { ⌜ Opens (now s) (h .n) (h .m) × Has (pointsOf (now s)) id ⌝ }
     ensures { λ r. ⌜ (r ≡ standsAt (pointsOf (now (s .entry))) id) × SpotIn r ⌝ }
 {
-    let i = join::find::position_of(s, h.n, h.m, id);
+    let i = sheet::find::position_of(s, h.n, h.m, id);
     sheet::reads::spot_at(s, h.n, h.m, i)
 }
 

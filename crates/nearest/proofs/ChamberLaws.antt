@@ -27,7 +27,7 @@ use Rattle.ring.proofs.NumberLaws.{first-passes}
 use Rattle.ring.proofs.HeadLaws.{headed, heads-p, heads-q, heads-open, heads-number, headed-both, sheets-stop}
 use Rattle.nearest.specs.declared.Chamber.{Chamber}
 use Rattle.nearest.specs.Nearest.{chamberNo, standsAt, unplacedAt, chamberFound}
-use Rattle.join.specs.Find.{positionOf}
+use Rattle.sheet.specs.Find.{positionOf}
 use Rattle.ring.specs.Partners.{idNo}
 
 -- ---- what is found

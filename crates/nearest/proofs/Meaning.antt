@@ -42,9 +42,9 @@ use Rattle.ring.proofs.NumberLaws.{first-passes}
 use Rattle.nearest.specs.declared.Near.{Near}
 use Rattle.nearest.specs.declared.Found.{Found}
 use Rattle.nearest.specs.Nearest.{waitNo, chamberNo, nearestNo, nearFilterNo, standsAt, noPoint, nearAt, sixteen, nearestAt, nearestRefused, nearestAnswer, nearFiltered, waitedBy}
-use Rattle.join.specs.Find.{positionOf}
+use Rattle.sheet.specs.Find.{positionOf}
 use Rattle.ring.specs.Partners.{idNo}
-use Rattle.join.proofs.FindLaws.{has}
+use Rattle.sheet.proofs.FindLaws.{has}
 
 -- ---- by number
 

@@ -18,7 +18,7 @@ use Rattle.near.specs.Claims.{distanceTo}
 use Rattle.ring.specs.declared.Filtered.{Filtered}
 use Rattle.ring.specs.Numbers.{first, sheetsNo}
 use Rattle.ring.specs.Page.{sizeNo}
-use Rattle.join.specs.Find.{positionOf}
+use Rattle.sheet.specs.Find.{positionOf}
 use Rattle.ring.specs.Partners.{idNo}
 use Rattle.ring.specs.Answers.{filteredTo, unfiltered}
 use Rattle.nearest.specs.declared.Near.{Near}

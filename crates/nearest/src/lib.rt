@@ -82,7 +82,7 @@ fn placed(p: &[i32], q: &[i32], id: u32) -> Chamber
     if b.number != 0 {
         return unplaced(b.number);
     }
-    let j = join::find::position_of(q, b.n, b.m, id);
+    let j = sheet::find::position_of(q, b.n, b.m, id);
     if b.n <= j {
         return unplaced(20);
     }

@@ -22,9 +22,9 @@ use Rattle.list.specs.Pairs.{chamberPairs}
 use Rattle.list.specs.Pages.{lastThreshold}
 use Rattle.list.specs.RingList.{ringList, partnersOf}
 use Rattle.list.proofs.ThresholdLaws.{partners-listed}
-use Rattle.join.specs.Find.{positionOf}
+use Rattle.sheet.specs.Find.{positionOf}
 use Rattle.join.specs.Threshold.{smaller}
-use Rattle.join.proofs.FindLaws.{has}
+use Rattle.sheet.proofs.FindLaws.{has}
 use Rattle.join.proofs.Meaning.{points-rise}
 use Rattle.ring.specs.declared.Heads.{Heads}
 use Rattle.ring.specs.declared.Partnered.{Partnered}

@@ -10,7 +10,7 @@ use Rattle.sheet.specs.Places.{pointsOf}
 use Rattle.list.specs.Pairs.{chamberPairs}
 use Rattle.list.specs.Pages.{lastThreshold}
 use Rattle.list.specs.RingList.{ringList}
-use Rattle.join.specs.Find.{positionOf}
+use Rattle.sheet.specs.Find.{positionOf}
 use Rattle.join.specs.Threshold.{smaller}
 use Rattle.ring.specs.declared.Partnered.{Partnered}
 use Rattle.ring.specs.Numbers.{first, sheetsNo}

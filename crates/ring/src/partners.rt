@@ -33,7 +33,7 @@ pub fn partners(p: &[i32], q: &[i32], id: u32, t: u32) -> Partnered
     if h.number != 0 {
         return refused(h.number);
     }
-    let j = join::find::position_of(q, h.nq, h.mq, id);
+    let j = sheet::find::position_of(q, h.nq, h.mq, id);
     if h.nq <= j {
         return refused(20);
     }

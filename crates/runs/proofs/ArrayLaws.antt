@@ -11,7 +11,7 @@ use lib.ListN.{length, take, drop, length-append, length-drop}
 use lib.Seq.{length-take-le}
 use borrow.Author.Tests.{ltb-false}
 use Rattle.list.specs.declared.Pair.{Pair}
-use Rattle.book.proofs.Rows.{width}
+use Rattle.list.proofs.PairRows.{width}
 use Rattle.runs.specs.declared.Run.{Run}
 use Rattle.runs.specs.declared.RunArray.{RunArray}
 use Rattle.runs.specs.Run.{runAnswer, runSlots, lentOf, withSlots, runArray}

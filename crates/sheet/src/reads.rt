@@ -8,7 +8,7 @@ ghost use lib.Signed.{_≤ℤ_};
 ghost use lib.ListN.{length};
 ghost use Rattle.words.specs.Word.{at, num};
 ghost use Rattle.plane.specs.Point.{idAt};
-ghost use Rattle.sheet.specs.Order.{orderOf, rankOf};
+ghost use Rattle.sheet.specs.Order.{orderOf};
 ghost use Rattle.sheet.specs.Nodes.{levelOf, firstOf, countOf};
 ghost use Rattle.sheet.specs.Places.{spotOf, boxOf, pointsOf};
 ghost use Rattle.sheet.specs.Open.{Opens};
@@ -55,14 +55,6 @@ pub fn order_at(s: &[i32], n: usize, m: usize, r: usize) -> usize
     ensures { λ i. ⌜ i ≡ orderOf (now (s .entry)) n r ⌝ }
 {
     count(s, 3 * n + r)
-}
-
-// The place of position i.
-pub fn rank_at(s: &[i32], n: usize, m: usize, i: usize) -> usize
-    requires { ⌜ Opens (now s) n m × (i < n) ⌝ }
-    ensures { λ r. ⌜ r ≡ rankOf (now (s .entry)) n i ⌝ }
-{
-    count(s, 4 * n + i)
 }
 
 // The level of node j, and the first and the number of what it covers.

@@ -48,8 +48,9 @@ use Rattle.book.specs.declared.Book.{Book}
 use Rattle.book.specs.declared.Asked.{Asked}
 use Rattle.book.specs.Rules.{asked, lentOf}
 use Rattle.book.proofs.CoreLaws.{lent-room, front-long, array-long}
-use Rattle.book.proofs.LocalRow.{row-out, row-room, row-cut, row-paste}
-use Rattle.book.proofs.Rows.{word, P, pv, bval, width, Lent, lent-said}
+use Rattle.list.proofs.LocalRow.{row-out, row-room, row-cut, row-paste}
+use Rattle.list.proofs.PairRows.{word, P, pv, width}
+use Rattle.book.proofs.Rows.{bval, Lent, lent-said}
 use Rattle.list.proofs.Pair as T
 use Rattle.list.proofs.Pair.Laws as T′
 use Rattle.book.proofs.Book as B

@@ -51,8 +51,9 @@ use Rattle.book.specs.declared.Taken.{Taken}
 use Rattle.book.specs.declared.TakenArray.{TakenArray}
 use Rattle.book.specs.Rules.{taken, takenSlots, lentOf, withSlots, takenArray}
 use Rattle.book.proofs.CoreLaws.{lent-room, front-long, array-long, array-is}
-use Rattle.book.proofs.LocalRow.{row-out, row-in, row-cut, row-paste}
-use Rattle.book.proofs.Rows.{word, P, pv, gval, bval, width, Lent, lent-said}
+use Rattle.list.proofs.LocalRow.{row-out, row-in, row-cut, row-paste}
+use Rattle.list.proofs.PairRows.{word, P, pv, gval, width}
+use Rattle.book.proofs.Rows.{bval, Lent, lent-said}
 use Rattle.list.proofs.Pair as T
 use Rattle.list.proofs.Pair.Laws as T′
 use Rattle.list.proofs.Page as G

@@ -40,7 +40,7 @@ use denote.Triple.Table.{entered, cited}
 use denote.Triple.Walked.{says, Stays, stay-none, stay-none-slice, gave-slice, walkOf, goes-none, goes-none-slice, goes-gave-slice, Walks, ends-at, walked, walk-meets}
 use denote.Exit.{yes}
 use Rattle.list.specs.declared.Pair.{Pair}
-use Rattle.book.proofs.Rows.{P}
+use Rattle.list.proofs.PairRows.{P}
 use Rattle.runs.specs.declared.Run.{Run}
 use Rattle.runs.specs.Run.{runAnswer, runSlots}
 use Rattle.runs.proofs.Run as R

@@ -64,8 +64,8 @@ use denote.Exit.{yes}
 use Rattle.list.specs.declared.Pair.{Pair}
 use Rattle.list.specs.Pairs.{none}
 use Rattle.leaf.specs.LeafRun.{leafList, leftFrom}
-use Rattle.book.proofs.Rows.{word, P, pv, width, scaled}
-use Rattle.book.proofs.LocalRow.{row-out, row-room}
+use Rattle.list.proofs.PairRows.{word, P, pv, width, scaled}
+use Rattle.list.proofs.LocalRow.{row-out, row-room}
 use Rattle.list.proofs.Pair as T
 use Rattle.list.proofs.Pair.Laws as T′
 use Rattle.runs.specs.declared.Run.{Run}

@@ -47,8 +47,8 @@ use denote.Triple.Table.{entered, cited}
 use denote.Triple.Walked.{says, Stays, stay-none, stay-none-slice, walkOf, goes-none, goes-none-slice, Walks, ends-at, walked, walk-meets}
 use denote.Exit.{yes}
 use Rattle.list.specs.declared.Pair.{Pair}
-use Rattle.book.proofs.Rows.{word, P, pv, width}
-use Rattle.book.proofs.LocalRow.{row-out, row-in, row-cut, row-paste}
+use Rattle.list.proofs.PairRows.{word, P, pv, width}
+use Rattle.list.proofs.LocalRow.{row-out, row-in, row-cut, row-paste}
 use Rattle.list.proofs.Pair as T
 use Rattle.list.proofs.Pair.Laws as T′
 use Rattle.runs.specs.declared.Run.{Run}

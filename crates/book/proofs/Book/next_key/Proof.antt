@@ -48,7 +48,8 @@ use Rattle.book.specs.declared.Book.{Book}
 use Rattle.book.specs.declared.Asked.{Asked}
 use Rattle.book.specs.Rules.{lastSlot, askedAt, asked}
 use Rattle.book.proofs.CoreLaws.{asked-read, slot-or-none}
-use Rattle.book.proofs.Rows.{word, P, pv, pval, bval, width, scaled, none-is, Slot, slot-said}
+use Rattle.list.proofs.PairRows.{word, P, pv, pval, width, scaled, none-is}
+use Rattle.book.proofs.Rows.{bval, Slot, slot-said}
 use Rattle.list.proofs.Pair as T
 use Rattle.list.proofs.Pair.Laws as T′
 use Rattle.book.proofs.Book as B

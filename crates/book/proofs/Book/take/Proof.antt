@@ -63,7 +63,8 @@ use Rattle.book.specs.declared.Taken.{Taken}
 use Rattle.book.specs.declared.Decided.{Decided}
 use Rattle.book.specs.Rules.{lastSlot, decidedAt, decided, taken}
 use Rattle.book.proofs.CoreLaws.{slot-or-none, decided-read, fits-each, answer-is, slots-are}
-use Rattle.book.proofs.Rows.{word, P, pv, pval, gval, bval, width, scaled, none-is, Slot, slot-said}
+use Rattle.list.proofs.PairRows.{word, P, pv, pval, gval, width, scaled, none-is}
+use Rattle.book.proofs.Rows.{bval, Slot, slot-said}
 use Rattle.list.proofs.Pair as T
 use Rattle.list.proofs.Pair.Laws as T′
 use Rattle.list.proofs.Page as G

@@ -1,8 +1,8 @@
 // The record with an id, in a sheet that opens.
 ghost use mathlib.Core.Path.{_≡_};
 ghost use Rattle.sheet.specs.Open.{Opens};
 ghost use Rattle.sheet.specs.Places.{pointsOf};
-ghost use Rattle.join.specs.Find.{positionOf};
+ghost use Rattle.sheet.specs.Find.{positionOf};
 
 // The position of the record with this id, or n where none has it.
 pub fn position_of(s: &[i32], n: usize, m: usize, id: u32) -> usize
@@ -11,7 +11,7 @@ pub fn position_of(s: &[i32], n: usize, m: usize, id: u32) -> usize
 {
     let mut j = 0;
     while j < n {
-        if sheet::reads::id_at(s, n, m, j) == id {
+        if crate::reads::id_at(s, n, m, j) == id {
             return j;
         }
         j += 1;

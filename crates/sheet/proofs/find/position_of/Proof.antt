@@ -1,11 +1,11 @@
--- `join::find::position_of` meets its contract. The loop's invariant: none of the first j records has the id. Assumes nothing.
+-- `sheet::find::position_of` meets its contract. The loop's invariant: none of the first j records has the id. Assumes nothing.
 use mathlib.Core.Path.{_≡_}
 use Prim.Native.Nat.{_-_, _≤_}
 use native.Mathlib.Omega.{arith}
 use Rattle.words.specs.All.{firstB}
-use Rattle.join.proofs.FindLaws.{has, seek-start, seek-on, seek-stop, seek-end}
-use Rattle.join.proofs.find.position_of.Statement.{statement}
-use Rattle.join.proofs.find.position_of.Tie as tie
+use Rattle.sheet.proofs.FindLaws.{has, seek-start, seek-on, seek-stop, seek-end}
+use Rattle.sheet.proofs.find.position_of.Statement.{statement}
+use Rattle.sheet.proofs.find.position_of.Tie as tie
 
 abbrev Inv-loop : tie.InvT-loop
 Inv-loop s n m id j₀ j = (j ≤ n) × (firstB j (has s id) ≡ j)

@@ -13,10 +13,10 @@ use borrow.Author.Tests.{eq-eqb, ne-eqb}
 use Rattle.words.specs.All.{firstB}
 use Rattle.words.proofs.AllLaws.{first-none as none-yet, first-more, first-stop}
 use Rattle.plane.specs.Point.{idAt}
 use Rattle.sheet.specs.Places.{pointsOf}
 use Rattle.sheet.specs.Open.{Opens}
 use Rattle.sheet.proofs.PointsLaws.{length-points}
-use Rattle.join.specs.Find.{positionOf}
+use Rattle.sheet.specs.Find.{positionOf}
 
 abbrev pub has : List ℤ → ℕ → ℕ → Bool
 has s id j = eqb (idAt (pointsOf s) j) id
