@@ -4,8 +4,8 @@
 --     SourceLaws    what list a page is of, and the numbers 22, 13 and 31
 --     RowLaws       the list that a rule makes: it ascends and holds what the rule does; the ring list, and the ids in it
 --     NearestLaws   couples at the least distance are pairs, so the list of two sets that are not empty is not empty
---     ThresholdLaws the list of t: the chambers with at least t pairs, with all their pairs
---     SelfLaws      the self join's list: two different records once, lower id first, exactly if no other blocks
+--     ThresholdLaws of any list, the chambers with at least t pairs, with all their pairs
+--     TermsLaws     the list of any terms: of t, and the self join of one set
 --     Examples      the document's listing and its pages, by computation
 --     PairRows      pairs and pages as rows and as machine values, for walks by hand
 --     LocalRow      a local array lent as a slice
@@ -15,7 +15,7 @@ pub mod SourceLaws
 pub mod RowLaws
 pub mod NearestLaws
 pub mod ThresholdLaws
-pub mod SelfLaws
+pub mod TermsLaws
 pub mod Examples
 pub mod PairRows
 pub mod LocalRow

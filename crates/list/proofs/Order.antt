@@ -206,5 +206,10 @@ asc-places k (v ∷ l) e i zero h g = absurd (omega arith)
 asc-places k (v ∷ l) e zero (suc j) h g = asc-member (keyOf v) (getD l j none) l (and-right (follows k (keyOf v)) (ascends (keyOf v) l) e) (at-member l j (omega arith))
 asc-places k (v ∷ l) e (suc i) (suc j) h g = asc-places (keyOf v) l (and-right (follows k (keyOf v)) (ascends (keyOf v) l) e) i j (omega arith) (omega arith)
 
+-- no two pairs have the same ids ..
+pub once-key : (k : Key) (l : List Pair) → ascends k l ≡ true → (i j : ℕ) → i < j → j < length l → keyOf (getD l i none) ≡ keyOf (getD l j none) → ⊥
+once-key k l e i j h g d = true≢false (sym (asc-places k l e i j h g) ∙ never (keyOf (getD l j none)) (keyOf (getD l i none)) (inl (sym d)))
+
+-- .. so none stands there twice
 pub once : (k : Key) (l : List Pair) → ascends k l ≡ true → (i j : ℕ) → i < j → j < length l → getD l i none ≡ getD l j none → ⊥
-once k l e i j h g d = true≢false (sym (asc-places k l e i j h g) ∙ never (keyOf (getD l j none)) (keyOf (getD l i none)) (inl (ap keyOf (sym d))))
+once k l e i j h g d = once-key k l e i j h g (ap keyOf d)

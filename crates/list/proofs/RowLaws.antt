@@ -21,13 +21,10 @@ use Rattle.plane.specs.Rule.{size}
 use Rattle.plane.specs.Point.{Point, idAt, spotAt}
 use Rattle.list.specs.declared.Key.{Key}
 use Rattle.list.specs.declared.Pair.{Pair}
-use Rattle.list.specs.declared.Source.{Source}
 use Rattle.list.specs.Pairs.{start, none, keyOf, follows, ascends, lastOr}
-use Rattle.list.specs.Pages.{pageOf, followed}
 use Rattle.list.specs.Rows.{row, rows, listBy, Rising, Named}
 use Rattle.list.specs.RingList.{ringPair, sizeOf, pairAt, ringList, Near, Sound}
 use Rattle.list.proofs.Order.{by-q, by-p, asc-append, once}
-use Rattle.list.proofs.PageLaws.{pages-list}
 
 -- ids of later positions are greater
 pub rises-far : (id : ℕ → ℕ) (n : ℕ) → Rising id n → (i j : ℕ) → i < j → j < n → id i < id j
@@ -183,49 +180,71 @@ size-most a b h k =
 pub id-in : (id : ℕ → ℕ) (n : ℕ) → Rising id n → (i : ℕ) → i < n → idOk (id i) ≡ true
 id-in id n r i h = id-make (id i) (r .low i h) (r .high i h)
 
-module _ (P Q : List Point) (rp : Rising (idAt P) (length P)) (rq : Rising (idAt Q) (length Q)) where
-  -- it runs by q id, then p id
-  pub ring-ascends : ascends start (ringList P Q) ≡ true
-  unfolding ringList
-  ring-ascends = list-ascends _ _ (idAt Q) (idAt P) (named P Q) _ _ rq rp
+-- ---- the list of any rule on two sets of points
 
-  -- it holds a chamber and a pump house, by ids, exactly if the ring rule makes them a pair ..
-  pub ring-iff : (j i : ℕ) → j < length Q → i < length P → List·Memᴰ (pairAt P Q j i) (ringList P Q) ↔ (ringPair P Q j i ≡ true)
-  unfolding ringList
-  ring-iff j i a b = listed-iff _ _ (idAt Q) (idAt P) (named P Q) _ _ rq rp j i a b
+module _ (rule : ℕ → ℕ → Bool) (P Q : List Point) (rp : Rising (idAt P) (length P)) (rq : Rising (idAt Q) (length Q)) where
+  -- the list
+  abbrev pub Made : List Pair
+  Made = listBy rule (pairAt P Q) (length P) (length Q)
+
+  -- it runs by q id, then p id
+  pub made-ascends : ascends start Made ≡ true
+  made-ascends = list-ascends _ _ (idAt Q) (idAt P) (named P Q) _ _ rq rp
+
+  -- it holds a chamber and a pump house, by ids, exactly if the rule makes them a pair ..
+  pub made-iff : (j i : ℕ) → j < length Q → i < length P → List·Memᴰ (pairAt P Q j i) Made ↔ (rule j i ≡ true)
+  made-iff j i a b = listed-iff _ _ (idAt Q) (idAt P) (named P Q) _ _ rq rp j i a b
 
   -- .. it holds nothing else ..
-  pub ring-only : (v : Pair) → List·Memᴰ v (ringList P Q) → Placed (ringPair P Q) (pairAt P Q) (length P) (length Q) v
-  unfolding ringList
-  ring-only v m = listed-holds _ _ (idAt Q) (idAt P) (named P Q) _ _ rq rp v m
+  pub made-only : (v : Pair) → List·Memᴰ v Made → Placed rule (pairAt P Q) (length P) (length Q) v
+  made-only v m = listed-holds _ _ (idAt Q) (idAt P) (named P Q) _ _ rq rp v m
 
   -- .. the ids of each pair are in range, and so is its key ..
-  pub ring-ids : (v : Pair) → List·Memᴰ v (ringList P Q) → (idOk (v .q) ≡ true) × (idOk (v .p) ≡ true)
-  ring-ids v m =
-      let z = ring-only v m in
+  pub made-ids : (v : Pair) → List·Memᴰ v Made → (idOk (v .q) ≡ true) × (idOk (v .p) ≡ true)
+  made-ids v m =
+      let z = made-only v m in
       rw (z .is) (id-in (idAt Q) (length Q) rq (z .at-q) (z .q-in), id-in (idAt P) (length P) rp (z .at-p) (z .p-in))
 
-  pub ring-keys : (v : Pair) → List·Memᴰ v (ringList P Q) → (v .q ≤ lastId) × (v .p ≤ lastId)
-  ring-keys v m = let z = ring-ids v m in (id-bounds (v .q) (z .0) .1, id-bounds (v .p) (z .1) .1)
+  pub made-keys : (v : Pair) → List·Memᴰ v Made → (v .q ≤ lastId) × (v .p ≤ lastId)
+  made-keys v m = let z = made-ids v m in (id-bounds (v .q) (z .0) .1, id-bounds (v .p) (z .1) .1)
 
-  -- .. its size is the squared diameter of the places of its two records ..
-  pub ring-size : (v : Pair) → List·Memᴰ v (ringList P Q) → (j i : ℕ) → j < length Q → i < length P → idAt Q j ≡ v .q → idAt P i ≡ v .p → v .size ≡ sizeOf (spotAt Q j) (spotAt P i)
-  ring-size v m j i a b e f =
-      let z = ring-only v m in
+  -- .. and its size is the squared diameter of the places of its two records
+  pub made-size : (v : Pair) → List·Memᴰ v Made → (j i : ℕ) → j < length Q → i < length P → idAt Q j ≡ v .q → idAt P i ≡ v .p → v .size ≡ sizeOf (spotAt Q j) (spotAt P i)
+  made-size v m j i a b e f =
+      let z = made-only v m in
       let x : z .at-q ≡ j = by-id (idAt Q) (length Q) rq (z .at-q) j (z .q-in) a (sym (e ∙ ap (λ (u : Pair). u .q) (z .is))) in
       let y : z .at-p ≡ i = by-id (idAt P) (length P) rp (z .at-p) i (z .p-in) b (sym (f ∙ ap (λ (u : Pair). u .p) (z .is))) in
       ap (λ (u : Pair). u .size) (z .is) ∙ ap₂ (λ (s t : ℕ). sizeOf (spotAt Q s) (spotAt P t)) x y
 
-  -- .. and each stands there once
+-- of sound sets of points, the size of each pair is in range too
+pub made-sizes : (rule : ℕ → ℕ → Bool) (P Q : List Point) (sp : Sound P) (sq : Sound Q) (v : Pair) → List·Memᴰ v (Made rule P Q (sp .rising) (sq .rising)) → sizeOk (v .size) ≡ true
+made-sizes rule P Q sp sq v m =
+    let z = made-only rule P Q (sp .rising) (sq .rising) v m in
+    rw (z .is) (size-most (spotAt Q (z .at-q)) (spotAt P (z .at-p)) (sq .near (z .at-q) (z .q-in)) (sp .near (z .at-p) (z .p-in)))
+
+-- ---- the ring pairs' list
+
+module _ (P Q : List Point) (rp : Rising (idAt P) (length P)) (rq : Rising (idAt Q) (length Q)) where
+  pub ring-ascends : ascends start (ringList P Q) ≡ true
+  unfolding ringList
+  ring-ascends = made-ascends (ringPair P Q) P Q rp rq
+
+  pub ring-iff : (j i : ℕ) → j < length Q → i < length P → List·Memᴰ (pairAt P Q j i) (ringList P Q) ↔ (ringPair P Q j i ≡ true)
+  unfolding ringList
+  ring-iff = made-iff (ringPair P Q) P Q rp rq
+
+  pub ring-only : (v : Pair) → List·Memᴰ v (ringList P Q) → Placed (ringPair P Q) (pairAt P Q) (length P) (length Q) v
+  unfolding ringList
+  ring-only = made-only (ringPair P Q) P Q rp rq
+
+  pub ring-keys : (v : Pair) → List·Memᴰ v (ringList P Q) → (v .q ≤ lastId) × (v .p ≤ lastId)
+  unfolding ringList
+  ring-keys = made-keys (ringPair P Q) P Q rp rq
+
+  pub ring-size : (v : Pair) → List·Memᴰ v (ringList P Q) → (j i : ℕ) → j < length Q → i < length P → idAt Q j ≡ v .q → idAt P i ≡ v .p → v .size ≡ sizeOf (spotAt Q j) (spotAt P i)
+  unfolding ringList
+  ring-size = made-size (ringPair P Q) P Q rp rq
+
+  -- each pair stands there once
   pub ring-once : (a b : ℕ) → a < b → b < length (ringList P Q) → getD (ringList P Q) a none ≡ getD (ringList P Q) b none → ⊥
   ring-once a b h g e = once start (ringList P Q) ring-ascends a b h g e
-
-  -- the pages of it, followed from (0, 0), give it
-  pub ring-pages : (sizes : ℕ → ℕ) (s : Source) → ((k : ℕ) → 0 < sizes k) → followed (length (ringList P Q)) sizes (pageOf s (ringList P Q)) start ≡ ringList P Q
-  ring-pages sizes s some = pages-list sizes s (ringList P Q) some ring-ascends
-
--- of sound sets of points, the size of each pair is in range too
-pub ring-sizes : (P Q : List Point) → Sound P → Sound Q → (v : Pair) → List·Memᴰ v (ringList P Q) → sizeOk (v .size) ≡ true
-ring-sizes P Q sp sq v m =
-    let z = ring-only P Q (sp .rising) (sq .rising) v m in
-    rw (z .is) (size-most (spotAt Q (z .at-q)) (spotAt P (z .at-p)) (sq .near (z .at-q) (z .q-in)) (sp .near (z .at-p) (z .p-in)))

@@ -46,25 +46,25 @@ unfolding sourceNo
 same-source a b e =
     let p = eqb (a .«p_edition») (b .«p_edition») in
     let q = eqb (a .«q_edition») (b .«q_edition») in
-    let z = tested (sameKind a b) (p && q) (eqb (a .threshold) (b .threshold)) e in
-    let k = kind-is (a .own) (b .own) (z .0) in
+    let z = tested (sameKind a b) (p && q) (eqb (a .terms .threshold) (b .terms .threshold)) e in
+    let k = kind-is (a .terms .own) (b .terms .own) (z .0) in
     let x = eqb-true (a .«p_edition») (b .«p_edition») (and-left p q (z .1)) in
     let y = eqb-true (a .«q_edition») (b .«q_edition») (and-right p q (z .1)) in
-    let t = eqb-true (a .threshold) (b .threshold) (z .2) in
-    λ i. record { «p_edition» = x i; «q_edition» = y i; threshold = t i; own = k i }
+    let t = eqb-true (a .terms .threshold) (b .terms .threshold) (z .2) in
+    λ i. record { «p_edition» = x i; «q_edition» = y i; terms = record { threshold = t i; own = k i } }
 
 pub source-same : (a b : Source) → a ≡ b → sourceNo a b ≡ 0
 unfolding sourceNo
 source-same a b e =
     let p = eqb (a .«p_edition») (b .«p_edition») in
     let q = eqb (a .«q_edition») (b .«q_edition») in
-    let kind : sameKind a b ≡ true = is-kind (a .own) (b .own) (ap (λ (v : Source). v .own) e) in
+    let kind : sameKind a b ≡ true = is-kind (a .terms .own) (b .terms .own) (ap (λ (v : Source). v .terms .own) e) in
     let both : (p && q) ≡ true = and-both p q (eq-eqb (a .«p_edition») (b .«p_edition») (ap (λ (v : Source). v .«p_edition») e)) (eq-eqb (a .«q_edition») (b .«q_edition») (ap (λ (v : Source). v .«q_edition») e)) in
-    let same : eqb (a .threshold) (b .threshold) ≡ true = eq-eqb (a .threshold) (b .threshold) (ap (λ (v : Source). v .threshold) e) in
-    ap (λ (x : Bool). by x (p && q) (eqb (a .threshold) (b .threshold))) kind
-    ∙ ap (λ (x : Bool). by true x (eqb (a .threshold) (b .threshold))) both
+    let same : eqb (a .terms .threshold) (b .terms .threshold) ≡ true = eq-eqb (a .terms .threshold) (b .terms .threshold) (ap (λ (v : Source). v .terms .threshold) e) in
+    ap (λ (x : Bool). by x (p && q) (eqb (a .terms .threshold) (b .terms .threshold))) kind
+    ∙ ap (λ (x : Bool). by true x (eqb (a .terms .threshold) (b .terms .threshold))) both
     ∙ ap (by true true) same
 
 pub source-numbers : (a b : Source) → (sourceNo a b ≡ 0) ⊎ ((sourceNo a b ≡ 22) ⊎ ((sourceNo a b ≡ 13) ⊎ (sourceNo a b ≡ 31)))
 unfolding sourceNo
-source-numbers a b = numbers (sameKind a b) (eqb (a .«p_edition») (b .«p_edition») && eqb (a .«q_edition») (b .«q_edition»)) (eqb (a .threshold) (b .threshold))
+source-numbers a b = numbers (sameKind a b) (eqb (a .«p_edition») (b .«p_edition») && eqb (a .«q_edition») (b .«q_edition»)) (eqb (a .terms .threshold) (b .terms .threshold))

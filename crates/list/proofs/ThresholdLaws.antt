@@ -1,10 +1,9 @@
--- The list of t: the chambers that have at least t pairs in the full list, with all their pairs.
+-- The pairs of those chambers that have at least t of them, in the list of any rule.
 --
---     threshold-none      the list of 0 is the full list
---     threshold-pairs     a chamber has all its pairs in the list of t where it has at least t of them, and none otherwise
---     threshold-iff       a pair stands in the list of t exactly if it stands in the full list, and its chamber has at least t pairs there
---     partners-listed     `partnersOf`, by which the list is made, is the number of the chamber's pairs in the full list
---     threshold-pages     it ascends, and its pages, followed from (0, 0), give it
+--     least-none      at least 0: all of them
+--     least-pairs     a chamber has all its pairs there where it has at least t of them, and none otherwise
+--     least-iff       a pair stands there exactly if it stands in the rule's list, and its chamber has at least t pairs in that
+--     row-listed      the length of a chamber's row is the number of its pairs in the rule's list
 -- Assumes nothing.
 use mathlib.Core.Path.{_≡_, refl, sym, ap, _∙_}
 use mathlib.Core.Bool.{Bool, true, false, cond, _&&_}
@@ -19,13 +18,10 @@ use borrow.Author.Tests.{eq-eqb, ne-eqb, leb-true, le-leb}
 use Rattle.integers.proofs.Bools.{decide, and-left, and-right, and-both}
 use Rattle.plane.specs.Point.{Point, idAt}
 use Rattle.list.specs.declared.Pair.{Pair}
-use Rattle.list.specs.declared.Source.{Source}
-use Rattle.list.specs.Pairs.{start, ascends, chamberPairs}
-use Rattle.list.specs.Pages.{pageOf, followed}
-use Rattle.list.specs.Rows.{row, rows, listBy, Rising, Named}
-use Rattle.list.specs.RingList.{ringPair, pairAt, ringList, partnersOf, listedAt, thresholdList}
-use Rattle.list.proofs.PageLaws.{pages-list}
-use Rattle.list.proofs.RowLaws.{rises-far, named, list-ascends, listed-holds, listed-iff, ring-iff, ring-only}
+use Rattle.list.specs.Pairs.{chamberPairs}
+use Rattle.list.specs.Rows.{row, rows, atLeast, listBy, Rising, Named}
+use Rattle.list.specs.RingList.{pairAt}
+use Rattle.list.proofs.RowLaws.{rises-far, named, made-iff, made-only}
 
 -- ---- the pairs of one chamber, in the list of any rule
 
@@ -87,84 +83,77 @@ module _ (rule : ℕ → ℕ → Bool) (pair : ℕ → ℕ → Pair) (qid pid : 
     unfolding listBy
     list-of j h = rows-of nq 0 j (omega arith) (omega arith) (omega arith)
 
--- ---- the list of 0
+-- ---- at least 0
 
-pub threshold-none : (P Q : List Point) → thresholdList 0 P Q ≡ ringList P Q
-unfolding thresholdList ringList listedAt
-threshold-none P Q = ap (λ (rule : ℕ → ℕ → Bool). listBy rule (pairAt P Q) (length P) (length Q)) (λ s j i. same j i s)
+pub least-none : (rule : ℕ → ℕ → Bool) (pair : ℕ → ℕ → Pair) (n : ℕ) → atLeast rule pair 0 n ≡ rule
+unfolding atLeast
+least-none rule pair n = λ s j i. same j i s
   where
     and-yes : (a : Bool) → (a && true) ≡ a
     and-yes true = refl
     and-yes false = refl
 
-    same : (j i : ℕ) → listedAt 0 P Q j i ≡ ringPair P Q j i
-    same j i = rw (le-leb 0 (partnersOf P Q j) (omega arith)) (and-yes (ringPair P Q j i))
+    same : (j i : ℕ) → (rule j i && leb 0 (length (row rule pair j n 0))) ≡ rule j i
+    same j i = rw (le-leb 0 (length (row rule pair j n 0)) (omega arith)) (and-yes (rule j i))
 
-module _ (t : ℕ) (P Q : List Point) where
-  -- a chamber's row is whole, or empty
-  threshold-row : (j k i : ℕ) → row (listedAt t P Q) (pairAt P Q) j k i ≡ cond (leb t (partnersOf P Q j)) (row (ringPair P Q) (pairAt P Q) j k i) []
-  unfolding row listedAt
-  threshold-row j zero i = same (leb t (partnersOf P Q j))
-    where
-      same : (b : Bool) → _≡_ {A = List Pair} [] (cond b [] [])
-      same true = refl
-      same false = refl
-  threshold-row j (suc k) i = go (ringPair P Q j i) (leb t (partnersOf P Q j)) _ _ (threshold-row j k (i + 1))
-    where
-      go : (a b : Bool) (l m : List Pair) → l ≡ cond b m [] → cond (a && b) (pairAt P Q j i ∷ l) l ≡ cond b (cond a (pairAt P Q j i ∷ m) m) []
-      go true true l m e = ap (λ (x : List Pair). pairAt P Q j i ∷ x) e
-      go true false l m e = e
-      go false true l m e = e
-      go false false l m e = e
+-- a chamber's row is whole, or empty
+least-row : (rule : ℕ → ℕ → Bool) (pair : ℕ → ℕ → Pair) (t n j k i : ℕ) → row (atLeast rule pair t n) pair j k i ≡ cond (leb t (length (row rule pair j n 0))) (row rule pair j k i) []
+unfolding row atLeast
+least-row rule pair t n j zero i = same (leb t (length (row rule pair j n 0)))
+  where
+    same : (b : Bool) → _≡_ {A = List Pair} [] (cond b [] [])
+    same true = refl
+    same false = refl
+least-row rule pair t n j (suc k) i = go (rule j i) (leb t (length (row rule pair j n 0))) _ _ (least-row rule pair t n j k (i + 1))
+  where
+    go : (a b : Bool) (l m : List Pair) → l ≡ cond b m [] → cond (a && b) (pair j i ∷ l) l ≡ cond b (cond a (pair j i ∷ m) m) []
+    go true true l m e = ap (λ (x : List Pair). pair j i ∷ x) e
+    go true false l m e = e
+    go false true l m e = e
+    go false false l m e = e
 
-module _ (P Q : List Point) (rp : Rising (idAt P) (length P)) (rq : Rising (idAt Q) (length Q)) where
-  row-is : (j : ℕ) → j < length Q → chamberPairs (idAt Q j) (ringList P Q) ≡ row (ringPair P Q) (pairAt P Q) j (length P) 0
-  unfolding ringList
-  row-is j h = list-of (ringPair P Q) (pairAt P Q) (idAt Q) (idAt P) (named P Q) (length P) (length Q) rq j h
+module _ (rule : ℕ → ℕ → Bool) (P Q : List Point) (rp : Rising (idAt P) (length P)) (rq : Rising (idAt Q) (length Q)) where
+  -- the rule's list, and of it the chambers with at least t pairs
+  abbrev All : List Pair
+  All = listBy rule (pairAt P Q) (length P) (length Q)
+
+  abbrev Least : ℕ → List Pair
+  Least t = listBy (atLeast rule (pairAt P Q) t (length P)) (pairAt P Q) (length P) (length Q)
+
+  abbrev rowOf : ℕ → List Pair
+  rowOf j = row rule (pairAt P Q) j (length P) 0
+
+  row-is : (j : ℕ) → j < length Q → chamberPairs (idAt Q j) All ≡ rowOf j
+  row-is j h = list-of rule (pairAt P Q) (idAt Q) (idAt P) (named P Q) (length P) (length Q) rq j h
 
   -- the number of a chamber's pairs in the list
-  pub partners-listed : (j : ℕ) → j < length Q → partnersOf P Q j ≡ length (chamberPairs (idAt Q j) (ringList P Q))
-  unfolding partnersOf
-  partners-listed j h = sym (ap length (row-is j h))
+  pub row-listed : (j : ℕ) → j < length Q → length (rowOf j) ≡ length (chamberPairs (idAt Q j) All)
+  row-listed j h = sym (ap length (row-is j h))
 
   module _ (t : ℕ) where
     -- "all such chambers .. with all their pairs"
-    pub threshold-pairs : (j : ℕ) → j < length Q
-        → chamberPairs (idAt Q j) (thresholdList t P Q) ≡ cond (leb t (length (chamberPairs (idAt Q j) (ringList P Q)))) (chamberPairs (idAt Q j) (ringList P Q)) []
-    unfolding thresholdList
-    threshold-pairs j h =
-        list-of (listedAt t P Q) (pairAt P Q) (idAt Q) (idAt P) (named P Q) (length P) (length Q) rq j h
-        ∙ threshold-row t P Q j (length P) 0
-        ∙ ap (λ (n : ℕ). cond (leb t n) (row (ringPair P Q) (pairAt P Q) j (length P) 0) []) (partners-listed j h)
-        ∙ ap (λ (l : List Pair). cond (leb t (length (chamberPairs (idAt Q j) (ringList P Q)))) l []) (sym (row-is j h))
+    pub least-pairs : (j : ℕ) → j < length Q → chamberPairs (idAt Q j) (Least t) ≡ cond (leb t (length (chamberPairs (idAt Q j) All))) (chamberPairs (idAt Q j) All) []
+    least-pairs j h =
+        list-of (atLeast rule (pairAt P Q) t (length P)) (pairAt P Q) (idAt Q) (idAt P) (named P Q) (length P) (length Q) rq j h
+        ∙ least-row rule (pairAt P Q) t (length P) j (length P) 0
+        ∙ ap (λ (n : ℕ). cond (leb t n) (rowOf j) []) (row-listed j h)
+        ∙ ap (λ (l : List Pair). cond (leb t (length (chamberPairs (idAt Q j) All))) l []) (sym (row-is j h))
 
-    pub threshold-iff : (v : Pair) → List·Memᴰ v (thresholdList t P Q) ↔ (List·Memᴰ v (ringList P Q) × (t ≤ length (chamberPairs (v .q) (ringList P Q))))
-    unfolding thresholdList listedAt
-    threshold-iff v = (
+    pub least-iff : (v : Pair) → List·Memᴰ v (Least t) ↔ (List·Memᴰ v All × (t ≤ length (chamberPairs (v .q) All)))
+    unfolding atLeast
+    least-iff v = (
       λ m.
-          let z = listed-holds _ _ (idAt Q) (idAt P) (named P Q) _ _ rq rp v m in
+          let z = made-only (atLeast rule (pairAt P Q) t (length P)) P Q rp rq v m in
           let j = z .at-q in
           let i = z .at-p in
-          let here : List·Memᴰ (pairAt P Q j i) (ringList P Q) = ring-iff P Q rp rq j i (z .q-in) (z .p-in) .1 (and-left (ringPair P Q j i) (leb t (partnersOf P Q j)) (z .holds)) in
-          let many : t ≤ partnersOf P Q j = leb-true t (partnersOf P Q j) (and-right (ringPair P Q j i) (leb t (partnersOf P Q j)) (z .holds)) in
-          rw (z .is) (here, omega (arith, partners-listed j (z .q-in))),
+          let here : List·Memᴰ (pairAt P Q j i) All = made-iff rule P Q rp rq j i (z .q-in) (z .p-in) .1 (and-left (rule j i) (leb t (length (rowOf j))) (z .holds)) in
+          let many : t ≤ length (rowOf j) = leb-true t (length (rowOf j)) (and-right (rule j i) (leb t (length (rowOf j))) (z .holds)) in
+          rw (z .is) (here, omega (arith, row-listed j (z .q-in))),
       λ x.
-          let z = ring-only P Q rp rq v (x .0) in
+          let z = made-only rule P Q rp rq v (x .0) in
           let j = z .at-q in
           let i = z .at-p in
-          let same : length (chamberPairs (v .q) (ringList P Q)) ≡ partnersOf P Q j = ap (λ (u : Pair). length (chamberPairs (u .q) (ringList P Q))) (z .is) ∙ sym (partners-listed j (z .q-in)) in
-          let many : leb t (partnersOf P Q j) ≡ true = le-leb t (partnersOf P Q j) (omega (arith, x .1)) in
-          rw (z .is) (listed-iff _ _ (idAt Q) (idAt P) (named P Q) _ _ rq rp j i (z .q-in) (z .p-in) .1 (and-both (ringPair P Q j i) (leb t (partnersOf P Q j)) (z .holds) many)),
+          let same : length (chamberPairs (v .q) All) ≡ length (rowOf j) = ap (λ (u : Pair). length (chamberPairs (u .q) All)) (z .is) ∙ sym (row-listed j (z .q-in)) in
+          let many : leb t (length (rowOf j)) ≡ true = le-leb t (length (rowOf j)) (omega (arith, x .1)) in
+          rw (z .is) (made-iff (atLeast rule (pairAt P Q) t (length P)) P Q rp rq j i (z .q-in) (z .p-in) .1 (and-both (rule j i) (leb t (length (rowOf j))) (z .holds) many)),
     )
-
-    pub threshold-in : (v : Pair) → List·Memᴰ v (thresholdList t P Q) → List·Memᴰ v (ringList P Q)
-    threshold-in v m = threshold-iff v .0 m .0
-
-    -- it runs by q id, then p id
-    pub threshold-ascends : ascends start (thresholdList t P Q) ≡ true
-    unfolding thresholdList
-    threshold-ascends = list-ascends _ _ (idAt Q) (idAt P) (named P Q) _ _ rq rp
-
-    -- its pages, followed from (0, 0), give it
-    pub threshold-pages : (sizes : ℕ → ℕ) (s : Source) → ((k : ℕ) → 0 < sizes k) → followed (length (thresholdList t P Q)) sizes (pageOf s (thresholdList t P Q)) start ≡ thresholdList t P Q
-    threshold-pages sizes s some = pages-list sizes s (thresholdList t P Q) some threshold-ascends

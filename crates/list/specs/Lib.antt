@@ -3,11 +3,11 @@
 --     Pages       a page of a list; following the pages
 --     Rows        the list that any rule on positions makes
 --     RingList    the ring rule on two sets of points, and its list; sets of points as sheets hold them
---     SelfList    the self join of one set of points
+--     Terms       the list of any terms: the full list, that of t, the self join of one set
 --     Nearest     the couples at the least distance
 pub mod Pairs
 pub mod Pages
 pub mod Rows
 pub mod RingList
-pub mod SelfList
+pub mod Terms
 pub mod Nearest

@@ -19,13 +19,13 @@ thresholdNo t = cond (leb t lastThreshold) 0 21
 
 -- both are of self joins, or neither is
 abbrev pub sameKind : Source → Source → Bool
-sameKind a b = (a .own && b .own) || (not (a .own) && not (b .own))
+sameKind a b = (a .terms .own && b .terms .own) || (not (a .terms .own) && not (b .terms .own))
 
 -- 22 "wrong kind", then 13 "page of other editions", then 31 "page of another t": the number for a page of `b` and a book of `a`, 0 where they are of one list
 unfoldable pub sourceNo : Source → Source → ℕ
 sourceNo a b =
     cond (not (sameKind a b)) 22
-    (cond (not (eqb (a .«p_edition») (b .«p_edition») && eqb (a .«q_edition») (b .«q_edition»))) 13 (cond (not (eqb (a .threshold) (b .threshold))) 31 0))
+    (cond (not (eqb (a .«p_edition») (b .«p_edition») && eqb (a .«q_edition») (b .«q_edition»))) 13 (cond (not (eqb (a .terms .threshold) (b .terms .threshold))) 31 0))
 
 -- sixteen pairs, the unused ones three zeros
 unfoldable pub padded : List Pair → List Pair

@@ -2,7 +2,6 @@
 use mathlib.Core.Bool.{Bool, not, _&&_}
 use mathlib.Core.List.{List}
 use Prim.Native.Nat.{ℕ, _<_}
-use lib.Dec.{leb}
 use lib.IntN.{natAbs}
 use lib.ListN.{length}
 use Rattle.integers.specs.Bounds.{Within}
@@ -36,14 +35,6 @@ ringList P Q = listBy (ringPair P Q) (pairAt P Q) (length P) (length Q)
 -- how many pairs of the list are of the chamber at position j
 unfoldable pub partnersOf : List Point → List Point → ℕ → ℕ
 partnersOf P Q j = length (row (ringPair P Q) (pairAt P Q) j (length P) 0)
-
--- "at least t partners": a ring pair of a chamber that has so many
-unfoldable pub listedAt : ℕ → List Point → List Point → ℕ → ℕ → Bool
-listedAt t P Q j i = ringPair P Q j i && leb t (partnersOf P Q j)
-
--- "list all such chambers by id with all their pairs": the list of t, "0 for the full list"
-unfoldable pub thresholdList : ℕ → List Point → List Point → List Pair
-thresholdList t P Q = listBy (listedAt t P Q) (pairAt P Q) (length P) (length Q)
 
 -- a place where a point of a sheet may stand: "x and y from -1,000,000 to 1,000,000"
 pub record Near (z : Spot) : Type 0 where

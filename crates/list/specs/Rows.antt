@@ -1,9 +1,11 @@
 -- The list of pairs that a rule makes: for each q in id order, for each p in id order, the pair if the rule holds of the two positions (q's first).
 -- The rule is any test on positions, and so is what makes a pair of them.
 use mathlib.Core.Path.{_≡_}
-use mathlib.Core.Bool.{Bool, cond}
+use mathlib.Core.Bool.{Bool, cond, _&&_}
 use mathlib.Core.List.{List, [], _∷_, _++_}
 use Prim.Native.Nat.{ℕ, zero, suc, _+_, _≤_, _<_}
+use lib.Dec.{leb}
+use lib.ListN.{length}
 use Rattle.list.specs.declared.Pair.{Pair}
 
 module _ (rule : ℕ → ℕ → Bool) (pair : ℕ → ℕ → Pair) where
@@ -16,6 +18,10 @@ module _ (rule : ℕ → ℕ → Bool) (pair : ℕ → ℕ → Pair) where
   unfoldable pub rows : ℕ → ℕ → ℕ → List Pair
   rows n zero j = []
   rows n (suc k) j = row j n 0 ++ rows n k (j + 1)
+
+  -- "at least t partners": the rule holds, and it holds of at least t of the n positions of P for this q
+  unfoldable pub atLeast : ℕ → ℕ → ℕ → ℕ → Bool
+  atLeast t n j i = rule j i && leb t (length (row j n 0))
 
   -- the list for np pump houses and nq chambers
   unfoldable pub listBy : ℕ → ℕ → List Pair

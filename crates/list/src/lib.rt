@@ -18,14 +18,20 @@ pub struct Pair {
     pub size: u64,
 }
 
-// What list a page or a book is of: two editions, the number of partners that a chamber must have to be listed, 0 for the full list, and the kind: whether it
-// is the self join of one sheet, whose edition then stands twice.
+// What is asked of a list beside its points: the number of partners that a chamber must have to be listed, 0 for the full list, and the kind: whether it is the self
+// join of one sheet.
+#[repr(C)]
+pub struct Terms {
+    pub threshold: u32,
+    pub own: bool,
+}
+
+// What list a page or a book is of: two editions and the terms. The edition of a self join's sheet stands twice.
 #[repr(C)]
 pub struct Source {
     pub p_edition: u32,
     pub q_edition: u32,
-    pub threshold: u32,
-    pub own: bool,
+    pub terms: Terms,
 }
 
 // One page of a list: the pairs that follow a key, how many they are, and whether none follows them.
@@ -66,13 +72,13 @@ pub fn threshold_no(t: u32) -> u32
 pub fn source_no(a: Source, b: Source) -> u32
     ensures { λ r. ⌜ r ≡ sourceNo a b ⌝ }
 {
-    if !((a.own & b.own) | (!a.own & !b.own)) {
+    if !((a.terms.own & b.terms.own) | (!a.terms.own & !b.terms.own)) {
         return 22;
     }
     if !((a.p_edition == b.p_edition) & (a.q_edition == b.q_edition)) {
         return 13;
     }
-    if a.threshold != b.threshold {
+    if a.terms.threshold != b.terms.threshold {
         return 31;
     }
     0

@@ -1,0 +1,34 @@
+-- The list that pages and books are of, for any terms: one definition, of points alone.
+use mathlib.Core.Bool.{Bool, true, false, not, _&&_, _||_}
+use mathlib.Core.List.{List}
+use Prim.Native.Nat.{ℕ}
+use lib.Dec.{ltb}
+use lib.ListN.{length}
+use Rattle.plane.specs.Point.{Point, idAt}
+use Rattle.list.specs.declared.Pair.{Pair}
+use Rattle.list.specs.declared.Terms.{Terms}
+use Rattle.list.specs.Rows.{atLeast, listBy}
+use Rattle.list.specs.RingList.{ringPair, pairAt}
+
+-- the terms of the full list of two sheets, of the list of t, "0 for the full list", and of a self join, "with [..] t 0"
+abbrev pub withT : ℕ → Terms
+withT t = record { threshold = t; own = false }
+
+abbrev pub full : Terms
+full = withT 0
+
+abbrev pub alone : Terms
+alone = record { threshold = 0; own = true }
+
+-- The rule of the terms, t apart: the ring rule. A self join is of one set in both places: "pairs of two different records of one sheet, lower id first", in which q is
+-- the lower id, p the higher; "blocked by the other records of that sheet".
+unfoldable pub pairFor : Terms → List Point → List Point → ℕ → ℕ → Bool
+pairFor a P Q j i = (not (a .own) || ltb (idAt Q j) (idAt P i)) && ringPair P Q j i
+
+-- "list all such chambers by id with all their pairs": those of the rule, of the chambers that have at least t of them
+unfoldable pub listedFor : Terms → List Point → List Point → ℕ → ℕ → Bool
+listedFor a P Q = atLeast (pairFor a P Q) (pairAt P Q) (a .threshold) (length P)
+
+-- "The list runs by q id, then p id"
+unfoldable pub listFor : Terms → List Point → List Point → List Pair
+listFor a P Q = listBy (listedFor a P Q) (pairAt P Q) (length P) (length Q)
