@@ -28,12 +28,13 @@ use Rattle.list.specs.Pairs.{keyOf, follows}
 use Rattle.list.specs.RingList.{pairAt}
 use Rattle.join.specs.declared.Draft.{Draft}
 use Rattle.join.specs.declared.Tried.{Tried}
-use Rattle.join.specs.Walks.{Walks}
+use Rattle.join.specs.Walks.{Walks, Agrees}
 use Rattle.join.specs.Work.{firstFrom}
 use Rattle.join.specs.Maker.{spent, found, withTried, tried, partners, chamber}
-use Rattle.join.specs.Sheets.{walksOf}
+use Rattle.list.specs.declared.Terms.{Terms}
+use Rattle.join.specs.Sheets.{walksBy, walksOf}
 use Rattle.join.specs.Threshold.{ringOpened, walksFor, onWords}
-use Rattle.join.proofs.TurnLaws.{Capped, Words, all-words}
+use Rattle.join.proofs.TurnLaws.{Capped, all-words}
 use Rattle.join.proofs.ThresholdLaws.{ring-few}
 
 -- ---- the first chamber from the key on: none of the first j is one
@@ -103,10 +104,10 @@ on-words ws P Q = record { filter = λ j. omega arith; ring = λ j i. omega arit
 
 -- ---- the words of the filter walk, and room
 
-pub words-of : (P Q : List ℤ) (j : ℕ) (ws : List ℕ) → ws ≡ filterKept (length ws) P (spotOf Q j) .bits → Words (walksOf (length ws) P Q) j 0 ws
+pub words-of : (P Q : List ℤ) (j : ℕ) (ws : List ℕ) → ws ≡ filterKept (length ws) P (spotOf Q j) .bits → Agrees (walksOf (length ws) P Q) j 0 ws
 words-of P Q j ws e = all-words (walksOf (length ws) P Q) j ws (λ i. ap (λ (x : List ℕ). kept x i) (sym e))
 
-pub words-on : (P Q : List ℤ) (j : ℕ) (ws : List ℕ) → Words (onWords ws P Q) j 0 ws
+pub words-on : (P Q : List ℤ) (j : ℕ) (ws : List ℕ) → Agrees (onWords ws P Q) j 0 ws
 words-on P Q j ws = all-words (onWords ws P Q) j ws (λ i. refl)
 
 module _ (P Q : List ℤ) (j : ℕ) (z : Spot) (ez : z ≡ spotOf Q j) (b : ℕ) where
@@ -121,8 +122,8 @@ module _ (P Q : List ℤ) (j : ℕ) (z : Spot) (ez : z ≡ spotOf Q j) (b : ℕ)
       ∙ ap (λ (x : ℕ). partners (walksOf b P Q) key size j n 0 (spent x d)) (eo ∙ ap (λ (y : Spot). filterKept b P y .opened) ez)
 
 -- so many words, or as many
-pub chamber-same : (P Q : List ℤ) (key : Key) (size n t j : ℕ) (d r : Draft) (a b : ℕ) → a ≡ b → r ≡ chamber (walksFor (walksOf a P Q) n t) key size n j d → r ≡ chamber (walksFor (walksOf b P Q) n t) key size n j d
-chamber-same P Q key size n t j d r a b e f = f ∙ ap (λ (x : ℕ). chamber (walksFor (walksOf x P Q) n t) key size n j d) e
+pub chamber-same : (c : Terms) (P Q : List ℤ) (key : Key) (size n t j : ℕ) (d r : Draft) (a b : ℕ) → a ≡ b → r ≡ chamber (walksFor (walksBy c a P Q) n t) key size n j d → r ≡ chamber (walksFor (walksBy c b P Q) n t) key size n j d
+chamber-same c P Q key size n t j d r a b e f = f ∙ ap (λ (x : ℕ). chamber (walksFor (walksBy c x P Q) n t) key size n j d) e
 
 pub filter-few : {P : List ℤ} {np mp : ℕ} → Opens P np mp → (words : ℕ) (z : Spot) (o : ℕ) → o ≡ filterKept words P z .opened → o ≤ mp
 filter-few {P} c words z o e = omega (arith, c .m-is, filter-opened-at-most-m words P z (own c))

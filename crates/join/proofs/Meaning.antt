@@ -2,17 +2,16 @@
 --
 --     points-rise       the ids of a sheet's points ascend, from 1 to 2,000,000,000: what the laws of the list ask for
 --     points-sound      of a sheet of form 1 they also stand within 1,000,000: what demand 3 asks for
---     page-pairs        the pairs, their number and the end mark are those of the page of t's list, `thresholdList t (pointsOf P) (pointsOf Q)`
---     page-opened       the count is that of the walks, `pageOpened` of `walksFor`
+--     page-pairs        the pairs, their number and the end mark are those of the page of the terms' list, `listFor a (pointsOf P) (pointsOf Q)`
+--     page-opened       the count is that of the walks, `pageOpened` of `walksFor` of `walksBy`
 --     sheet-pages       following the pages from (0, 0), whatever their sizes, gives the list
 --     list-by-points    sheets with the same points give the same list, and the same pairs, number and end mark of every page
 -- Assumes nothing.
-use mathlib.Core.Path.{_≡_, sym, ap, subst, _∙_}
-use mathlib.Core.Bool.{Bool, _&&_}
+use mathlib.Core.Path.{_≡_, refl, sym, ap, subst, _∙_}
+use mathlib.Core.Bool.{Bool, true, false, _&&_}
 use mathlib.Core.List.{List}
-use Prim.Native.Nat.{ℕ, zero, suc, _*_, _≤_, _<_}
+use Prim.Native.Nat.{ℕ, _*_, _≤_, _<_}
 use native.Mathlib.Omega.{arith}
-use lib.Dec.{leb}
 use lib.IntN.{ℤ, pos}
 use lib.ListN.{length}
 use lib.Signed.{_≤ℤ_}
@@ -24,22 +23,25 @@ use Rattle.sheet.specs.Places.{pointsOf}
 use Rattle.sheet.specs.Open.{openNo, Opens}
 use Rattle.sheet.proofs.PointsLaws.{length-points, spot-of, id-low, id-high, id-rises}
 use Rattle.walk.proofs.Meaning.{pair-exact}
+use Rattle.walk.proofs.SelfLaws.{self-walked}
 use Rattle.list.specs.declared.Key.{Key}
 use Rattle.list.specs.declared.Pair.{Pair}
 use Rattle.list.specs.declared.Source.{Source}
 use Rattle.list.specs.Pairs.{start}
 use Rattle.list.specs.Pages.{pageOf, followed}
-use Rattle.list.specs.Rows.{row, listBy, Rising}
-use Rattle.list.specs.RingList.{ringPair, pairAt, ringList, partnersOf, listedAt, thresholdList, Sound}
+use Rattle.list.specs.Rows.{atLeast, listBy, Rising}
+use Rattle.list.specs.RingList.{pairAt, Sound}
+use Rattle.list.specs.declared.Terms.{Terms}
+use Rattle.list.specs.Terms.{pairFor, listedFor, listFor}
 use Rattle.list.proofs.RowLaws.{named}
-use Rattle.list.proofs.ThresholdLaws.{threshold-none, threshold-pages}
+use Rattle.list.proofs.TermsLaws.{for-pages}
 use Rattle.join.specs.Work.{pageOpened}
 use Rattle.join.specs.Maker.{pageMade, pageFrom}
-use Rattle.join.specs.Sheets.{walksOf}
-use Rattle.join.specs.Threshold.{allWalked, walksFor}
+use Rattle.join.specs.Sheets.{walksBy, Alone}
+use Rattle.join.specs.Threshold.{walksFor}
 use Rattle.join.proofs.MakerLaws.{Exact, maker-page}
 use Rattle.join.proofs.WorkLaws.{maker-opened}
-use Rattle.join.proofs.ThresholdLaws.{exact-all}
+use Rattle.join.proofs.ThresholdLaws.{exact-for, for-named, for-rising, for-pair}
 use Rattle.sheet.proofs.SheetLaws.{open-facts, open-lim, form1-fair, own}
 use Rattle.sheet.proofs.RangeLaws.{spot-within}
 
@@ -64,54 +66,58 @@ points-sound w e =
           rw (spot-of w i k) (record { x-near = z .0; y-near = z .1 });
     }
 
+-- what holds of two sheets, and of one in both places, holds of the terms
+pub by-kind : (F : Terms → List ℤ → Type 0) (a : Terms) (P Q : List ℤ) → Alone a P Q → ((t : ℕ) → F (record { threshold = t; own = false }) Q) → ((t : ℕ) → F (record { threshold = t; own = true }) P) → F a Q
+by-kind F a P Q al two one = go (a .own) refl
+  where
+    go : (k : Bool) → a .own ≡ k → F a Q
+    go true e = subst (F a) (al .one e) (subst (λ (x : Terms). F x P) (λ i. record { threshold = a .threshold; own = sym e i }) (one (a .threshold)))
+    go false e = subst (λ (x : Terms). F x Q) (λ i. record { threshold = a .threshold; own = sym e i }) (two (a .threshold))
+
 module _ {P Q : List ℤ} {np mp nq mq : ℕ} (o : Opens P np mp) (o′ : Opens Q nq mq) where
-  -- the rule of the list of t, by the counts of the sheets
-  ruleOf : ℕ → ℕ → ℕ → Bool
-  ruleOf t j i = ringPair (pointsOf P) (pointsOf Q) j i && leb t (length (row (ringPair (pointsOf P) (pointsOf Q)) (pairAt (pointsOf P) (pointsOf Q)) j np 0))
+  module _ (a : Terms) (al : Alone a P Q) (words : ℕ) (enough : np ≤ 64 * words) where
+    -- the walks find what the rule makes
+    exact : Exact (walksBy a words P Q) (pairFor a (pointsOf P) (pointsOf Q)) np nq
+    unfolding pairFor
+    exact j i hj hi =
+        by-kind (λ t R. j < points R → pairFor t (pointsOf P) (pointsOf R) j i ≡ (walksBy t words P R .kept j i && walksBy t words P R .clear j i)) a P Q al
+        (λ t h. pair-exact P Q (own o) (own o′) j i h (omega (arith, o .n-is)) words (omega (arith, o .n-is)))
+        (λ t h. self-walked words P (own o) (omega (arith, o .n-is)) j i h (omega (arith, o .n-is)))
+        (omega (arith, o′ .n-is))
 
-  list-is : (t : ℕ) → listBy (ruleOf t) (pairAt (pointsOf P) (pointsOf Q)) np nq ≡ thresholdList t (pointsOf P) (pointsOf Q)
-  unfolding thresholdList listedAt partnersOf ruleOf
-  list-is t =
-      let pair = pairAt (pointsOf P) (pointsOf Q) in
-      let l : ℕ → ℕ → List Pair = λ n m. listBy (λ j i. ringPair (pointsOf P) (pointsOf Q) j i && leb t (length (row (ringPair (pointsOf P) (pointsOf Q)) pair j n 0))) pair n m in
-      ap (λ (k : ℕ). l k nq) (sym (length-points P ∙ o .n-is)) ∙ ap (λ (k : ℕ). l (length (pointsOf P)) k) (sym (length-points Q ∙ o′ .n-is))
+    list-is : listBy (atLeast (pairFor a (pointsOf P) (pointsOf Q)) (pairAt (pointsOf P) (pointsOf Q)) (a .threshold) np) (pairAt (pointsOf P) (pointsOf Q)) np nq ≡ listFor a (pointsOf P) (pointsOf Q)
+    unfolding listFor listedFor
+    list-is =
+        let pair = pairAt (pointsOf P) (pointsOf Q) in
+        let l : ℕ → ℕ → List Pair = λ n m. listBy (atLeast (pairFor a (pointsOf P) (pointsOf Q)) pair (a .threshold) n) pair n m in
+        ap (λ (k : ℕ). l k nq) (sym (length-points P ∙ o .n-is)) ∙ ap (λ (k : ℕ). l (length (pointsOf P)) k) (sym (length-points Q ∙ o′ .n-is))
 
-  full-is : listBy (ringPair (pointsOf P) (pointsOf Q)) (pairAt (pointsOf P) (pointsOf Q)) np nq ≡ thresholdList 0 (pointsOf P) (pointsOf Q)
-  unfolding ringList
-  full-is =
-      let l = listBy (ringPair (pointsOf P) (pointsOf Q)) (pairAt (pointsOf P) (pointsOf Q)) in
-      ap (λ (k : ℕ). l k nq) (sym (length-points P ∙ o .n-is)) ∙ ap (λ (k : ℕ). l (length (pointsOf P)) k) (sym (length-points Q ∙ o′ .n-is)) ∙ sym (threshold-none (pointsOf P) (pointsOf Q))
+    pub page-pairs : (s : Source) (key : Key) (size : ℕ) → size ≤ 16
+        → pageFrom s key (pageMade (walksFor (walksBy a words P Q) np (a .threshold)) key size np nq) ≡ pageOf s (listFor a (pointsOf P) (pointsOf Q)) key size
+    page-pairs s key size h =
+        let w = walksFor (walksBy a words P Q) np (a .threshold) in
+        let rule = atLeast (pairFor a (pointsOf P) (pointsOf Q)) (pairAt (pointsOf P) (pointsOf Q)) (a .threshold) np in
+        maker-page w key size rule np nq (exact-for (walksBy a words P Q) (pairFor a (pointsOf P) (pointsOf Q)) np nq exact (a .threshold)) (idAt (pointsOf P)) (for-named (walksBy a words P Q) np (a .threshold) (idAt (pointsOf P)) (named (pointsOf P) (pointsOf Q))) s
+        (for-rising (walksBy a words P Q) np (a .threshold) nq (ids-rise o′)) (ids-rise o) h
+        ∙ ap (λ (pair : ℕ → ℕ → Pair). pageOf s (listBy rule pair np nq) key size) (for-pair (walksBy a words P Q) np (a .threshold))
+        ∙ ap (λ (l : List Pair). pageOf s l key size) list-is
 
-  module _ (words : ℕ) (enough : np ≤ 64 * words) where
-    exact : Exact (walksOf words P Q) (ringPair (pointsOf P) (pointsOf Q)) np nq
-    exact j i hj hi = pair-exact P Q (own o) (own o′) j i (omega (arith, o′ .n-is)) (omega (arith, o .n-is)) words (omega (arith, o .n-is))
+    pub page-opened : (key : Key) (size : ℕ) → pageMade (walksFor (walksBy a words P Q) np (a .threshold)) key size np nq .opened ≡ pageOpened (walksFor (walksBy a words P Q) np (a .threshold)) key size np nq
+    page-opened key size = maker-opened (walksFor (walksBy a words P Q) np (a .threshold)) key size np nq
 
-    pub page-pairs : (t : ℕ) (s : Source) (key : Key) (size : ℕ) → size ≤ 16
-        → pageFrom s key (pageMade (walksFor (walksOf words P Q) np t) key size np nq) ≡ pageOf s (thresholdList t (pointsOf P) (pointsOf Q)) key size
-    unfolding walksFor allWalked ruleOf
-    page-pairs zero s key size h =
-        maker-page (walksOf words P Q) key size (ringPair (pointsOf P) (pointsOf Q)) np nq exact (idAt (pointsOf P)) (named (pointsOf P) (pointsOf Q)) s (ids-rise o′) (ids-rise o) h
-        ∙ ap (λ (l : List Pair). pageOf s l key size) full-is
-    page-pairs (suc t) s key size h =
-        maker-page (allWalked (walksOf words P Q) np (suc t)) key size (ruleOf (suc t)) np nq (exact-all (walksOf words P Q) (ringPair (pointsOf P) (pointsOf Q)) np nq exact (suc t)) (idAt (pointsOf P)) (named (pointsOf P) (pointsOf Q)) s (ids-rise o′) (ids-rise o) h
-        ∙ ap (λ (l : List Pair). pageOf s l key size) (list-is (suc t))
+  pub sheet-pages : (a : Terms) (sizes : ℕ → ℕ) (s : Source) → ((k : ℕ) → 0 < sizes k)
+      → followed (length (listFor a (pointsOf P) (pointsOf Q))) sizes (pageOf s (listFor a (pointsOf P) (pointsOf Q))) start ≡ listFor a (pointsOf P) (pointsOf Q)
+  sheet-pages a sizes s some = for-pages a (pointsOf P) (pointsOf Q) (points-rise o) (points-rise o′) sizes s some
 
-    pub page-opened : (t : ℕ) (key : Key) (size : ℕ) → pageMade (walksFor (walksOf words P Q) np t) key size np nq .opened ≡ pageOpened (walksFor (walksOf words P Q) np t) key size np nq
-    page-opened t key size = maker-opened (walksFor (walksOf words P Q) np t) key size np nq
-
-  pub sheet-pages : (t : ℕ) (sizes : ℕ → ℕ) (s : Source) → ((k : ℕ) → 0 < sizes k)
-      → followed (length (thresholdList t (pointsOf P) (pointsOf Q))) sizes (pageOf s (thresholdList t (pointsOf P) (pointsOf Q))) start ≡ thresholdList t (pointsOf P) (pointsOf Q)
-  sheet-pages t sizes s some = threshold-pages (pointsOf P) (pointsOf Q) (points-rise o) (points-rise o′) t sizes s some
-
-module _ (P P′ Q Q′ : List ℤ) (ep : pointsOf P ≡ pointsOf P′) (eq : pointsOf Q ≡ pointsOf Q′) (t : ℕ) where
-  pub same-list : thresholdList t (pointsOf P) (pointsOf Q) ≡ thresholdList t (pointsOf P′) (pointsOf Q′)
-  same-list = ap (λ (x : List Point). thresholdList t x (pointsOf Q)) ep ∙ ap (thresholdList t (pointsOf P′)) eq
+module _ (P P′ Q Q′ : List ℤ) (ep : pointsOf P ≡ pointsOf P′) (eq : pointsOf Q ≡ pointsOf Q′) (a : Terms) where
+  pub same-list : listFor a (pointsOf P) (pointsOf Q) ≡ listFor a (pointsOf P′) (pointsOf Q′)
+  same-list = ap (λ (x : List Point). listFor a x (pointsOf Q)) ep ∙ ap (listFor a (pointsOf P′)) eq
 
   -- whatever the editions and the trees
   pub list-by-points : (s s′ : Source) (key : Key) (size : ℕ)
-      → (pageOf s (thresholdList t (pointsOf P) (pointsOf Q)) key size .pairs ≡ pageOf s′ (thresholdList t (pointsOf P′) (pointsOf Q′)) key size .pairs)
-      × (pageOf s (thresholdList t (pointsOf P) (pointsOf Q)) key size .count ≡ pageOf s′ (thresholdList t (pointsOf P′) (pointsOf Q′)) key size .count)
-      × (pageOf s (thresholdList t (pointsOf P) (pointsOf Q)) key size .end ≡ pageOf s′ (thresholdList t (pointsOf P′) (pointsOf Q′)) key size .end)
+      → (pageOf s (listFor a (pointsOf P) (pointsOf Q)) key size .pairs ≡ pageOf s′ (listFor a (pointsOf P′) (pointsOf Q′)) key size .pairs)
+      × (pageOf s (listFor a (pointsOf P) (pointsOf Q)) key size .count ≡ pageOf s′ (listFor a (pointsOf P′) (pointsOf Q′)) key size .count)
+      × (pageOf s (listFor a (pointsOf P) (pointsOf Q)) key size .end ≡ pageOf s′ (listFor a (pointsOf P′) (pointsOf Q′)) key size .end)
   unfolding pageOf
   list-by-points s s′ key size =
       (ap (λ (l : List Pair). pageOf s l key size .pairs) same-list, ap (λ (l : List Pair). pageOf s l key size .count) same-list, ap (λ (l : List Pair). pageOf s l key size .end) same-list)

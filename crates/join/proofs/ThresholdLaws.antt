@@ -20,7 +20,8 @@ use Rattle.walk.proofs.WalkLaws.{sum-one}
 use Rattle.walk.proofs.SiftLaws.{oneIf, sum-cap}
 use Rattle.list.specs.declared.Key.{Key}
 use Rattle.list.specs.declared.Pair.{Pair}
-use Rattle.list.specs.Rows.{row}
+use Rattle.list.specs.Rows.{row, atLeast, Rising, Named}
+use Rattle.list.proofs.ThresholdLaws.{least-none}
 use Rattle.join.specs.declared.Draft.{Draft}
 use Rattle.join.specs.Walks.{Walks}
 use Rattle.join.specs.Work.{firstFrom}
@@ -56,8 +57,8 @@ module _ (w : Walks) (rule : ℕ → ℕ → Bool) (np nq : ℕ) (ex : Exact w r
   found-is j h = ap length (row-same (λ j i. w .kept j i && w .clear j i) rule (w .pair) j np 0 (λ x a b. sym (ex j x h (omega arith))))
 
   -- the rule of t: that of the full list, where it lists at least t for the chamber
-  pub exact-all : (t : ℕ) → Exact (allWalked w np t) (λ j i. rule j i && leb t (length (row rule (w .pair) j np 0))) np nq
-  unfolding allWalked
+  exact-all : (t : ℕ) → Exact (allWalked w np t) (atLeast rule (w .pair) t np) np nq
+  unfolding allWalked atLeast
   exact-all t j i hj hi =
       ap (λ (a : Bool). a && leb t (length (row rule (w .pair) j np 0))) (ex j i hj hi)
       ∙ ap (λ (n : ℕ). w .kept j i && w .clear j i && leb t n) (sym (found-is j hj))
@@ -66,6 +67,11 @@ module _ (w : Walks) (rule : ℕ → ℕ → Bool) (np nq : ℕ) (ex : Exact w r
       and-yes : (a : Bool) → (a && true) ≡ a
       and-yes true = refl
       and-yes false = refl
+
+  pub exact-for : (t : ℕ) → Exact (walksFor w np t) (atLeast rule (w .pair) t np) np nq
+  unfolding walksFor
+  exact-for zero j i hj hi = ap (λ (x : ℕ → ℕ → Bool). x j i) (least-none rule (w .pair) np) ∙ ex j i hj hi
+  exact-for (suc t) j i hj hi = exact-all (suc t) j i hj hi
 
 -- ---- room for the count
 
@@ -89,7 +95,22 @@ module _ (w : Walks) (a b n : ℕ) (c : Capped w a b) where
 
 -- ---- a chamber of a page of t
 
--- the ids are the sheet's, whatever t is
+-- the pairs and the ids are the sheets', whatever t is
+pub for-pair : (w : Walks) (n t : ℕ) → walksFor w n t .pair ≡ w .pair
+unfolding walksFor allWalked
+for-pair w n zero = refl
+for-pair w n (suc t) = refl
+
+pub for-named : (w : Walks) (n t : ℕ) (pid : ℕ → ℕ) → Named (w .pair) (w .qid) pid → Named (walksFor w n t .pair) (walksFor w n t .qid) pid
+unfolding walksFor allWalked
+for-named w n zero pid h = h
+for-named w n (suc t) pid h = h
+
+pub for-rising : (w : Walks) (n t m : ℕ) → Rising (w .qid) m → Rising (walksFor w n t .qid) m
+unfolding walksFor allWalked
+for-rising w n zero m h = h
+for-rising w n (suc t) m h = h
+
 for-ids : (w : Walks) (n t : ℕ) → walksFor w n t .qid ≡ w .qid
 unfolding walksFor allWalked
 for-ids w n zero = refl

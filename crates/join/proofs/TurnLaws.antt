@@ -18,7 +18,7 @@ use Rattle.list.specs.declared.Pair.{Pair}
 use Rattle.list.specs.Pairs.{keyOf, follows}
 use Rattle.join.specs.declared.Draft.{Draft}
 use Rattle.join.specs.declared.Tried.{Tried}
-use Rattle.join.specs.Walks.{Walks}
+use Rattle.join.specs.Walks.{Walks, Agrees}
 use Rattle.join.specs.Work.{firstFrom}
 use Rattle.join.specs.Maker.{spent, found, withTried, tried, partner, partners, chamber, chambers, blank, pageMade}
 
@@ -27,12 +27,7 @@ pub record Capped (w : Walks) (a b : ℕ) : Type 0 where
   pub filter : (j : ℕ) → w .keptOpened j ≤ a
   pub ring : (j i : ℕ) → w .clearOpened j i ≤ b
 
--- words that hold what is kept for the q at j, from position a on; before it nothing is
-pub record Words (w : Walks) (j a : ℕ) (ws : List ℕ) : Type 0 where
-  pub early : (i : ℕ) → i < a → w .kept j i ≡ false
-  pub held : (i : ℕ) → a ≤ i → w .kept j i ≡ kept ws i
-
-pub all-words : (w : Walks) (j : ℕ) (ws : List ℕ) → ((i : ℕ) → w .kept j i ≡ kept ws i) → Words w j 0 ws
+pub all-words : (w : Walks) (j : ℕ) (ws : List ℕ) → ((i : ℕ) → w .kept j i ≡ kept ws i) → Agrees w j 0 ws
 all-words w j ws e = record { early = λ i h. absurd (omega arith); held = λ i h. e i }
 
 -- one factor less
@@ -97,7 +92,7 @@ module _ (w : Walks) (key : Key) (size : ℕ) where
       (decide (ltb i n)))
       (decide (d .more))
 
-  partners-next : (j n a : ℕ) (d : Draft) (ws : List ℕ) → Words w j a ws → (i u : ℕ) → u ≡ nextFrom ws i → partners w key size j (n - i) i d ≡ partners w key size j (n - u) u d
+  partners-next : (j n a : ℕ) (d : Draft) (ws : List ℕ) → Agrees w j a ws → (i u : ℕ) → u ≡ nextFrom ws i → partners w key size j (n - i) i d ≡ partners w key size j (n - u) u d
   partners-next j n a d ws s i u e = from-skip ws (λ (t : ℕ). partners w key size j (n - t) t d) (λ t f. partners-pass j n d t (not-kept t f)) i u e
     where
       not-kept : (t : ℕ) → kept ws t ≡ false → w .kept j t ≡ false
@@ -139,7 +134,7 @@ module _ (w : Walks) (key : Key) (size : ℕ) where
     pub here : i < n → w .kept j i ≡ true
     pub past : a ≤ i
 
-  pub tries-start : (a b j n : ℕ) (d : Draft) (ws : List ℕ) → Words w j a ws → n ≤ 64 * length ws → (i : ℕ) → i ≡ nextFrom ws a → Tries a b j n d d i
+  pub tries-start : (a b j n : ℕ) (d : Draft) (ws : List ℕ) → Agrees w j a ws → n ≤ 64 * length ws → (i : ℕ) → i ≡ nextFrom ws a → Tries a b j n d d i
   tries-start a b j n d ws s h i e =
       let up = from-le ws a i e in
       record {
@@ -155,7 +150,7 @@ module _ (w : Walks) (key : Key) (size : ℕ) where
   pub tries-room : (a b j n : ℕ) (d r : Draft) (i : ℕ) → i < n → Tries a b j n d r i → r .opened + b ≤ d .opened + n * b
   tries-room a b j n d r i l t = omega (arith, t .room, step-mul i n b l)
 
-  pub tries-on : (a c b : ℕ) → Capped w c b → (j n : ℕ) (d r : Draft) (ws : List ℕ) → Words w j a ws → n ≤ 64 * length ws → (i : ℕ) → i < n → r .more ≡ false → Tries a b j n d r i
+  pub tries-on : (a c b : ℕ) → Capped w c b → (j n : ℕ) (d r : Draft) (ws : List ℕ) → Agrees w j a ws → n ≤ 64 * length ws → (i : ℕ) → i < n → r .more ≡ false → Tries a b j n d r i
       → (r′ : Draft) → r′ ≡ withTried size (w .pair j i) (tried w key j i) r → (u : ℕ) → u ≡ nextFrom ws (i + 1) → Tries a b j n d r′ u
   tries-on a c b capped j n d r ws s h i l m t r′ e u f =
       let up = from-le ws (i + 1) u f in

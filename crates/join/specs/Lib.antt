@@ -2,12 +2,10 @@
 --     Walks     what the walks say, by positions
 --     Work      the count of nodes opened, as the document says it
 --     Maker     the page in the making, step by step
---     Sheets    what the walks of two sheets say
+--     Sheets    what the walks of two sheets say, and of a self join
 --     Threshold the walks of a page of t
---     Self      the walks of a self join
 pub mod Walks
 pub mod Work
 pub mod Maker
 pub mod Sheets
 pub mod Threshold
-pub mod Self

@@ -1,10 +1,11 @@
-// The page maker, on the words of two sheets that open: P of np points and mp nodes, Q of nq points and mq nodes.
-pub mod own;
-
+// The page maker, on the words of two sheets that open, each with its size. For a self join both are the one sheet.
 use list::Key;
 use list::Page;
 use list::Pair;
 use list::Source;
+use list::Terms;
+use sheet::Size;
+use walk::Answer;
 ghost use mathlib.Core.Path.{_≡_};
 ghost use Prim.Native.Nat.{ℕ, _+_, _*_, _≤_, _<_};
 ghost use lib.ListN.{length};
@@ -14,12 +15,21 @@ ghost use Rattle.sheet.specs.Open.{Opens};
 ghost use Rattle.plane.specs.Point.{idAt};
 ghost use Rattle.sheet.specs.Places.{spotOf, pointsOf};
 ghost use Rattle.walk.specs.FilterWalk.{filterKept};
+ghost use Rattle.walk.specs.RingWalk.{clear};
 ghost use Rattle.list.specs.Pairs.{keyOf, follows};
 ghost use Rattle.list.specs.RingList.{pairAt, partnersOf};
+ghost use Rattle.join.specs.Walks.{Agrees};
 ghost use Rattle.join.specs.Work.{firstFrom};
 ghost use Rattle.join.specs.Maker.{found, tried, partners, chamber, pageMade, pageFrom};
-ghost use Rattle.join.specs.Sheets.{walksOf};
+ghost use Rattle.join.specs.Sheets.{walksOf, startFor, Alone, walksBy};
 ghost use Rattle.join.specs.Threshold.{foundFor, ringOpened, walksFor, smaller, onWords};
+
+// What is asked for: the pairs after a key, how many, and of which list.
+pub struct Ask {
+    pub key: Key,
+    pub size: usize,
+    pub terms: Terms,
+}
 
 // A page in the making: the pairs found, how many they are, whether a pair beyond the size was found, and the nodes opened.
 pub struct Draft {
@@ -58,83 +68,77 @@ fn with_found(d: Draft, size: usize, v: Pair) -> Draft
 }
 
 // Whether the pair of position j of Q and position i of P is after the key.
-fn is_late(
-    p: &[i32],
-    np: usize,
-    mp: usize,
-    q: &[i32],
-    nq: usize,
-    mq: usize,
-    key: Key,
-    j: usize,
-    i: usize,
-) -> bool
-    requires { ⌜ Opens (now p) np mp × Opens (now q) nq mq × (j < nq) × (i < np) ⌝ }
+fn is_late(p: &[i32], hp: Size, q: &[i32], hq: Size, key: Key, j: usize, i: usize) -> bool
+    requires { ⌜ Opens (now p) (hp .n) (hp .m) × Opens (now q) (hq .n) (hq .m) × (j < hq .n) × (i < hp .n) ⌝ }
     ensures { λ r. ⌜ r ≡ follows key (keyOf (pairAt (pointsOf (now (p .entry))) (pointsOf (now (q .entry))) j i)) ⌝ }
 {
     let v = Key {
-        q: sheet::reads::id_at(q, nq, mq, j),
-        p: sheet::reads::id_at(p, np, mp, i),
+        q: sheet::reads::id_at(q, hq.n, hq.m, j),
+        p: sheet::reads::id_at(p, hp.n, hp.m, i),
     };
     list::is_after(key, v)
 }
 
-// The kept partner at position i of P, for the q at position j: ring-walked if it is after the key.
-fn try_partner(
-    p: &[i32],
-    np: usize,
-    mp: usize,
-    q: &[i32],
-    nq: usize,
-    mq: usize,
-    key: Key,
-    j: usize,
-    i: usize,
-) -> Tried
-    requires { ⌜ Opens (now p) np mp × Opens (now q) nq mq × (j < nq) × (i < np) ⌝ }
-    ensures { λ r. ⌜ ((words : ℕ) → r ≡ tried (walksOf words (now (p .entry)) (now (q .entry))) key j i) ⌝ }
+// The ring walk of position j of Q and position i of P: over both sheets, or of a self join once over the one.
+fn walked(p: &[i32], hp: Size, q: &[i32], hq: Size, terms: Terms, j: usize, i: usize) -> Answer
+    requires { ⌜ Opens (now p) (hp .n) (hp .m) × Opens (now q) (hq .n) (hq .m) × (j < hq .n) × (i < hp .n) × Alone terms (now p) (now q) ⌝ }
+    ensures { λ r. ⌜ ((words : ℕ) → (clear (r .hit) ≡ walksBy terms words (now (p .entry)) (now (q .entry)) .clear j i) × (r .opened ≡ walksBy terms words (now (p .entry)) (now (q .entry)) .clearOpened j i)) ⌝ }
 {
-    if !is_late(p, np, mp, q, nq, mq, key, j, i) {
+    if terms.own {
+        let a = sheet::reads::spot_at(q, hq.n, hq.m, j);
+        let b = sheet::reads::spot_at(p, hp.n, hp.m, i);
+        return walk::ring::ring_on(p, hp.n, hp.m, 0, a, b, 0);
+    }
+    walk::ring::pair_walk(p, hp.n, hp.m, q, hq.n, hq.m, j, i)
+}
+
+// The kept partner at position i of P, for the q at position j: ring-walked if it is after the key.
+fn try_partner(p: &[i32], hp: Size, q: &[i32], hq: Size, ask: Ask, j: usize, i: usize) -> Tried
+    requires { ⌜ Opens (now p) (hp .n) (hp .m) × Opens (now q) (hq .n) (hq .m) × (j < hq .n) × (i < hp .n) × Alone (ask .terms) (now p) (now q) ⌝ }
+    ensures { λ r. ⌜ ((words : ℕ) → r ≡ tried (walksBy (ask .terms) words (now (p .entry)) (now (q .entry))) (ask .key) j i) ⌝ }
+{
+    let key = ask.key;
+    if !is_late(p, hp, q, hq, key, j, i) {
         return Tried {
             finds: false,
             opened: 0,
         };
     }
-    let a = walk::ring::pair_walk(p, np, mp, q, nq, mq, j, i);
+    let terms = ask.terms;
+    let a = walked(p, hp, q, hq, terms, j, i);
     Tried {
         finds: walk::clear_after(a),
         opened: a.opened,
     }
 }
 
-// The kept partners of the q at position j, in id order, until a pair beyond the size is found.
+// The kept partners of the q at position j, in id order from position `from` on, until a pair beyond the size is found.
 fn with_partners(
     p: &[i32],
-    np: usize,
-    mp: usize,
+    hp: Size,
     q: &[i32],
-    nq: usize,
-    mq: usize,
-    key: Key,
-    size: usize,
+    hq: Size,
+    ask: Ask,
     j: usize,
+    from: usize,
     bits: &[u64],
     d: Draft,
 ) -> Draft
-    requires { ⌜ Opens (now p) np mp × Opens (now q) nq mq × (j < nq) × (size ≤ 16) × Holds (now bits) np × (d .opened + np * (mp + mq) < 9223372036854775808) × (now bits ≡ filterKept (length (now bits)) (now p) (spotOf (now q) j) .bits) ⌝ }
-    ensures { λ r. ⌜ r ≡ partners (walksOf (length (now (bits .entry))) (now (p .entry)) (now (q .entry))) key size j np 0 d ⌝ }
+    requires { ⌜ Opens (now p) (hp .n) (hp .m) × Opens (now q) (hq .n) (hq .m) × (j < hq .n) × (ask .size ≤ 16) × Holds (now bits) (hp .n) × (d .opened + hp .n * (hp .m + hq .m) < 9223372036854775808) × Alone (ask .terms) (now p) (now q) × Agrees (walksBy (ask .terms) (length (now bits)) (now p) (now q)) j from (now bits) ⌝ }
+    ensures { λ r. ⌜ r ≡ partners (walksBy (ask .terms) (length (now (bits .entry))) (now (p .entry)) (now (q .entry))) (ask .key) (ask .size) j (hp .n) 0 d ⌝ }
 {
+    let n = hp.n;
     let mut r = d;
-    let mut i = bits::next_from(bits, 0);
-    while i < np {
+    let mut i = bits::next_from(bits, from);
+    while i < n {
         if r.more {
             return r;
         }
-        let t = try_partner(p, np, mp, q, nq, mq, key, j, i);
+        let t = try_partner(p, hp, q, hq, ask, j, i);
         r.opened = r.opened + t.opened;
         if t.finds {
-            let v = walk::pair::pair_at(p, np, mp, q, nq, mq, j, i);
-            r = with_found(r, size, v);
+            let v = walk::pair::pair_at(p, hp.n, hp.m, q, hq.n, hq.m, j, i);
+            r = with_found(r, ask.size, v);
         }
         i = bits::next_from(bits, i + 1);
     }
@@ -142,24 +146,16 @@ fn with_partners(
 }
 
 // Of the kept partners of the q at position j those stay kept whose ring walk is clear: how many they are, and the nodes opened.
-fn keep_clear(
-    p: &[i32],
-    np: usize,
-    mp: usize,
-    q: &[i32],
-    nq: usize,
-    mq: usize,
-    j: usize,
-    bits: &mut [u64],
-) -> Sifted
-    requires { ⌜ Opens (now p) np mp × Opens (now q) nq mq × (j < nq) × Holds (now bits) np × (now bits ≡ filterKept (length (now bits)) (now p) (spotOf (now q) j) .bits) ⌝ }
-    ensures { λ r. ⌜ ((i : ℕ) → kept (now (bits .exit)) i ≡ (walksOf (length (now (bits .entry))) (now (p .entry)) (now (q .entry)) .kept j i && walksOf (length (now (bits .entry))) (now (p .entry)) (now (q .entry)) .clear j i)) × (r .count ≡ foundFor (walksOf (length (now (bits .entry))) (now (p .entry)) (now (q .entry))) np j) × (r .opened ≡ ringOpened (walksOf (length (now (bits .entry))) (now (p .entry)) (now (q .entry))) np j) ⌝ }
+fn keep_clear(p: &[i32], hp: Size, q: &[i32], hq: Size, j: usize, bits: &mut [u64]) -> Sifted
+    requires { ⌜ Opens (now p) (hp .n) (hp .m) × Opens (now q) (hq .n) (hq .m) × (j < hq .n) × Holds (now bits) (hp .n) × (now bits ≡ filterKept (length (now bits)) (now p) (spotOf (now q) j) .bits) ⌝ }
+    ensures { λ r. ⌜ ((i : ℕ) → kept (now (bits .exit)) i ≡ (walksOf (length (now (bits .entry))) (now (p .entry)) (now (q .entry)) .kept j i && walksOf (length (now (bits .entry))) (now (p .entry)) (now (q .entry)) .clear j i)) × (r .count ≡ foundFor (walksOf (length (now (bits .entry))) (now (p .entry)) (now (q .entry))) (hp .n) j) × (r .opened ≡ ringOpened (walksOf (length (now (bits .entry))) (now (p .entry)) (now (q .entry))) (hp .n) j) ⌝ }
 {
+    let n = hp.n;
     let mut opened: u64 = 0;
     let mut count: usize = 0;
     let mut i = bits::next_from(bits, 0);
-    while i < np {
-        let a = walk::ring::pair_walk(p, np, mp, q, nq, mq, j, i);
+    while i < n {
+        let a = walk::ring::pair_walk(p, hp.n, hp.m, q, hq.n, hq.m, j, i);
         opened += a.opened;
         if walk::clear_after(a) {
             count += 1;
@@ -177,87 +173,91 @@ fn keep_clear(
 // The pairs of the q at position j with the kept positions, in id order, after the key, until a pair beyond the size is found. No partner is walked.
 fn with_kept(
     p: &[i32],
-    np: usize,
-    mp: usize,
+    hp: Size,
     q: &[i32],
-    nq: usize,
-    mq: usize,
-    key: Key,
-    size: usize,
+    hq: Size,
+    ask: Ask,
     j: usize,
     bits: &[u64],
     d: Draft,
 ) -> Draft
-    requires { ⌜ Opens (now p) np mp × Opens (now q) nq mq × (j < nq) × (size ≤ 16) × Holds (now bits) np ⌝ }
-    ensures { λ r. ⌜ r ≡ partners (onWords (now (bits .entry)) (now (p .entry)) (now (q .entry))) key size j np 0 d ⌝ }
+    requires { ⌜ Opens (now p) (hp .n) (hp .m) × Opens (now q) (hq .n) (hq .m) × (j < hq .n) × (ask .size ≤ 16) × Holds (now bits) (hp .n) ⌝ }
+    ensures { λ r. ⌜ r ≡ partners (onWords (now (bits .entry)) (now (p .entry)) (now (q .entry))) (ask .key) (ask .size) j (hp .n) 0 d ⌝ }
 {
+    let n = hp.n;
+    let key = ask.key;
     let mut r = d;
     let mut i = bits::next_from(bits, 0);
-    while i < np {
+    while i < n {
         if r.more {
             return r;
         }
-        if is_late(p, np, mp, q, nq, mq, key, j, i) {
-            let v = walk::pair::pair_at(p, np, mp, q, nq, mq, j, i);
-            r = with_found(r, size, v);
+        if is_late(p, hp, q, hq, key, j, i) {
+            let v = walk::pair::pair_at(p, hp.n, hp.m, q, hq.n, hq.m, j, i);
+            r = with_found(r, ask.size, v);
         }
         i = bits::next_from(bits, i + 1);
     }
     r
 }
 
+// The position that the partners of the q at position j start from. Ids rise with positions, so that those of higher id stand after j.
+fn start_for(terms: Terms, j: usize) -> usize
+    requires { ⌜ j < 60000 ⌝ }
+    ensures { λ r. ⌜ r ≡ startFor terms j ⌝ }
+{
+    if terms.own { j + 1 } else { 0 }
+}
+
+fn wide(t: u32) -> usize
+    ensures { λ r. ⌜ r ≡ t ⌝ }
+{
+    t as usize
+}
+
 // The q at position j: filtered, on the words lent, and its kept partners tried; for a page of t above 0 all of them, and shown where at least t are ring partners.
+// The filter of a self join meets q too, which changes the bit of q alone.
 fn with_chamber(
     p: &[i32],
-    np: usize,
-    mp: usize,
+    hp: Size,
     q: &[i32],
-    nq: usize,
-    mq: usize,
-    key: Key,
-    size: usize,
-    t: usize,
+    hq: Size,
+    ask: Ask,
     j: usize,
     bits: &mut [u64],
     d: Draft,
 ) -> Draft
-    requires { ⌜ Opens (now p) np mp × Opens (now q) nq mq × (j < nq) × (size ≤ 16) × Holds (now bits) np × (d .opened + (mp + np * (mp + mq)) < 9223372036854775808) ⌝ }
-    ensures { λ r. ⌜ r ≡ chamber (walksFor (walksOf (length (now (bits .entry))) (now (p .entry)) (now (q .entry))) np t) key size np j d ⌝ }
+    requires { ⌜ Opens (now p) (hp .n) (hp .m) × Opens (now q) (hq .n) (hq .m) × (j < hq .n) × (ask .size ≤ 16) × Holds (now bits) (hp .n) × (d .opened + (hp .m + hp .n * (hp .m + hq .m)) < 9223372036854775808) × Alone (ask .terms) (now p) (now q) ⌝ }
+    ensures { λ r. ⌜ r ≡ chamber (walksFor (walksBy (ask .terms) (length (now (bits .entry))) (now (p .entry)) (now (q .entry))) (hp .n) (ask .terms .threshold)) (ask .key) (ask .size) (hp .n) j d ⌝ }
 {
-    let z = sheet::reads::spot_at(q, nq, mq, j);
-    let opened = walk::filter::filter_kept(p, np, mp, z, bits);
+    let z = sheet::reads::spot_at(q, hq.n, hq.m, j);
+    let opened = walk::filter::filter_kept(p, hp.n, hp.m, z, bits);
     let mut r = d;
     r.opened = d.opened + opened;
+    let terms = ask.terms;
+    let t = wide(terms.threshold);
     if t == 0 {
-        return with_partners(p, np, mp, q, nq, mq, key, size, j, bits, r);
+        let from = start_for(terms, j);
+        return with_partners(p, hp, q, hq, ask, j, from, bits, r);
     }
-    let s = keep_clear(p, np, mp, q, nq, mq, j, bits);
+    let s = keep_clear(p, hp, q, hq, j, bits);
     r.opened = r.opened + s.opened;
     if s.count < t {
         return r;
     }
-    with_kept(p, np, mp, q, nq, mq, key, size, j, bits, r)
+    with_kept(p, hp, q, hq, ask, j, bits, r)
 }
 
 // How many ring partners the q at position j has, or t where it has more: no kept partner is walked after the t-th.
-fn count_to(
-    p: &[i32],
-    np: usize,
-    mp: usize,
-    q: &[i32],
-    nq: usize,
-    mq: usize,
-    j: usize,
-    t: usize,
-    bits: &[u64],
-) -> usize
-    requires { ⌜ Opens (now p) np mp × Opens (now q) nq mq × (j < nq) × Holds (now bits) np × (now bits ≡ filterKept (length (now bits)) (now p) (spotOf (now q) j) .bits) ⌝ }
+fn count_to(p: &[i32], hp: Size, q: &[i32], hq: Size, j: usize, t: usize, bits: &[u64]) -> usize
+    requires { ⌜ Opens (now p) (hp .n) (hp .m) × Opens (now q) (hq .n) (hq .m) × (j < hq .n) × Holds (now bits) (hp .n) × (now bits ≡ filterKept (length (now bits)) (now p) (spotOf (now q) j) .bits) ⌝ }
     ensures { λ r. ⌜ r ≡ smaller t (partnersOf (pointsOf (now (p .entry))) (pointsOf (now (q .entry))) j) ⌝ }
 {
+    let n = hp.n;
     let mut count: usize = 0;
     let mut i = bits::next_from(bits, 0);
-    while (i < np) & (count < t) {
-        let a = walk::ring::pair_walk(p, np, mp, q, nq, mq, j, i);
+    while (i < n) & (count < t) {
+        let a = walk::ring::pair_walk(p, hp.n, hp.m, q, hq.n, hq.m, j, i);
         if walk::clear_after(a) {
             count += 1;
         }
@@ -269,31 +269,30 @@ fn count_to(
 // The same, from the filter walk on, the kept set on the words lent.
 pub fn partners_to(
     p: &[i32],
-    np: usize,
-    mp: usize,
+    hp: Size,
     q: &[i32],
-    nq: usize,
-    mq: usize,
+    hq: Size,
     j: usize,
     t: usize,
     bits: &mut [u64],
 ) -> usize
-    requires { ⌜ Opens (now p) np mp × Opens (now q) nq mq × (j < nq) × Holds (now bits) np ⌝ }
+    requires { ⌜ Opens (now p) (hp .n) (hp .m) × Opens (now q) (hq .n) (hq .m) × (j < hq .n) × Holds (now bits) (hp .n) ⌝ }
     ensures { λ r. ⌜ r ≡ smaller t (partnersOf (pointsOf (now (p .entry))) (pointsOf (now (q .entry))) j) ⌝ }
 {
-    let z = sheet::reads::spot_at(q, nq, mq, j);
-    walk::filter::filter_kept(p, np, mp, z, bits);
-    count_to(p, np, mp, q, nq, mq, j, t, bits)
+    let z = sheet::reads::spot_at(q, hq.n, hq.m, j);
+    walk::filter::filter_kept(p, hp.n, hp.m, z, bits);
+    count_to(p, hp, q, hq, j, t, bits)
 }
 
-// The first position of Q whose id is not below the key's, or nq.
-fn first_from(q: &[i32], nq: usize, mq: usize, key: Key) -> usize
-    requires { ⌜ Opens (now q) nq mq ⌝ }
-    ensures { λ r. ⌜ r ≡ firstFrom (idAt (pointsOf (now (q .entry)))) key nq ⌝ }
+// The first position of Q whose id is not below the key's, or the number of its points.
+fn first_from(q: &[i32], hq: Size, key: Key) -> usize
+    requires { ⌜ Opens (now q) (hq .n) (hq .m) ⌝ }
+    ensures { λ r. ⌜ r ≡ firstFrom (idAt (pointsOf (now (q .entry)))) key (hq .n) ⌝ }
 {
+    let n = hq.n;
     let mut j = 0;
-    while j < nq {
-        if sheet::reads::id_at(q, nq, mq, j) >= key.q {
+    while j < n {
+        if sheet::reads::id_at(q, hq.n, hq.m, j) >= key.q {
             return j;
         }
         j += 1;
@@ -302,20 +301,9 @@ fn first_from(q: &[i32], nq: usize, mq: usize, key: Key) -> usize
 }
 
 // The page maker's work, the kept sets on the words lent.
-pub fn made_on(
-    p: &[i32],
-    np: usize,
-    mp: usize,
-    q: &[i32],
-    nq: usize,
-    mq: usize,
-    key: Key,
-    size: usize,
-    t: usize,
-    bits: &mut [u64],
-) -> Draft
-    requires { ⌜ Opens (now p) np mp × Opens (now q) nq mq × (size ≤ 16) × Holds (now bits) np ⌝ }
-    ensures { λ r. ⌜ r ≡ pageMade (walksFor (walksOf (length (now (bits .entry))) (now (p .entry)) (now (q .entry))) np t) key size np nq ⌝ }
+pub fn made_on(p: &[i32], hp: Size, q: &[i32], hq: Size, ask: Ask, bits: &mut [u64]) -> Draft
+    requires { ⌜ Opens (now p) (hp .n) (hp .m) × Opens (now q) (hq .n) (hq .m) × (ask .size ≤ 16) × Holds (now bits) (hp .n) × Alone (ask .terms) (now p) (now q) ⌝ }
+    ensures { λ r. ⌜ r ≡ pageMade (walksFor (walksBy (ask .terms) (length (now (bits .entry))) (now (p .entry)) (now (q .entry))) (hp .n) (ask .terms .threshold)) (ask .key) (ask .size) (hp .n) (hq .n) ⌝ }
 {
     let mut r = Draft {
         pairs: [Pair {
@@ -327,34 +315,26 @@ pub fn made_on(
         more: false,
         opened: 0,
     };
-    let mut j = first_from(q, nq, mq, key);
-    while j < nq {
+    let n = hq.n;
+    let key = ask.key;
+    let mut j = first_from(q, hq, key);
+    while j < n {
         if r.more {
             return r;
         }
-        r = with_chamber(p, np, mp, q, nq, mq, key, size, t, j, bits, r);
+        r = with_chamber(p, hp, q, hq, ask, j, bits, r);
         j += 1;
     }
     r
 }
 
 // The page maker's work for sheets of at most 1,024 pump houses: the kept sets on sixteen words of its own.
-pub fn page_made(
-    p: &[i32],
-    np: usize,
-    mp: usize,
-    q: &[i32],
-    nq: usize,
-    mq: usize,
-    key: Key,
-    size: usize,
-    t: usize,
-) -> Draft
-    requires { ⌜ Opens (now p) np mp × Opens (now q) nq mq × (size ≤ 16) × (np ≤ 1024) ⌝ }
-    ensures { λ r. ⌜ r ≡ pageMade (walksFor (walksOf 16 (now (p .entry)) (now (q .entry))) np t) key size np nq ⌝ }
+pub fn page_made(p: &[i32], hp: Size, q: &[i32], hq: Size, ask: Ask) -> Draft
+    requires { ⌜ Opens (now p) (hp .n) (hp .m) × Opens (now q) (hq .n) (hq .m) × (ask .size ≤ 16) × (hp .n ≤ 1024) × Alone (ask .terms) (now p) (now q) ⌝ }
+    ensures { λ r. ⌜ r ≡ pageMade (walksFor (walksBy (ask .terms) 16 (now (p .entry)) (now (q .entry))) (hp .n) (ask .terms .threshold)) (ask .key) (ask .size) (hp .n) (hq .n) ⌝ }
 {
     let mut bits = [0u64; 16];
-    made_on(p, np, mp, q, nq, mq, key, size, t, &mut bits)
+    made_on(p, hp, q, hq, ask, &mut bits)
 }
 
 // The page of what was made.

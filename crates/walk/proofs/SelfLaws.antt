@@ -35,7 +35,7 @@ use Rattle.sheet.proofs.TreeLaws.{child, leaf}
 use Rattle.bits.specs.Set.{kept, with, none, some}
 use Rattle.bits.proofs.SetLaws.{with-length, kept-same, kept-other, none-kept, none-length}
 use Rattle.list.specs.RingList.{unblocked, ringPair}
-use Rattle.list.specs.SelfList.{selfPair}
+use Rattle.list.specs.Terms.{alone, pairFor}
 use Rattle.walk.specs.Walk.{inTurn, walk, walkAll}
 use Rattle.walk.specs.FilterWalk.{Kept, soFar, dropped, shut, consider, filterPlace, filterTake, filterVisit, filterKept, filterKeeps}
 use Rattle.walk.specs.RingWalk.{clear, ringWalk}
@@ -217,8 +217,8 @@ module _ (words : ℕ) (w : List ℤ) (opens : Opens w (points w) (nodes w)) (en
 
   -- a pair of the self join is a kept position of higher id whose ring walk is clear: what a page maker may rely on
   pub self-walked : (i : ℕ) → j < points w → i < points w
-      → selfPair (pointsOf w) j i ≡ (passKeeps words w j i && ltb (idAt (pointsOf w) j) (idAt (pointsOf w) i) && clear (ringWalk 0 w (spotOf w j) (spotOf w i) .hit))
-  unfolding selfPair
+      → pairFor alone (pointsOf w) (pointsOf w) j i ≡ (passKeeps words w j i && ltb (idAt (pointsOf w) j) (idAt (pointsOf w) i) && clear (ringWalk 0 w (spotOf w j) (spotOf w i) .hit))
+  unfolding pairFor ringPair
   self-walked i hj hi =
       let low = ltb (idAt (pointsOf w) j) (idAt (pointsOf w) i) in
       let free = unblocked (pointsOf w) (spotAt (pointsOf w) j) (spotAt (pointsOf w) i) in
@@ -227,10 +227,12 @@ module _ (words : ℕ) (w : List ℤ) (opens : Opens w (points w) (nodes w)) (en
       let is : walked ≡ free = clear-iff 0 w opens (spotOf w j) (spotOf w i) ∙ ap₂ (unblocked (pointsOf w)) (sym (spot-of w j hj)) (sym (spot-of w i hi)) in
       test-iff _ _
       (λ e.
-      let f = and-right low free e in
-      let l = and-left low free e in
+      let f = and-left free free (and-right low (free && free) e) in
+      let l = and-left low (free && free) e in
       and-both (keeps && low) walked (and-both keeps low (is-kept l f) l) (is ∙ f))
-      (λ e. and-both low free (and-right keeps low (and-left (keeps && low) walked e)) (sym is ∙ and-right (keeps && low) walked e))
+      (λ e.
+      let f = sym is ∙ and-right (keeps && low) walked e in
+      and-both low (free && free) (and-right keeps low (and-left (keeps && low) walked e)) (and-both free free f f))
     where
       is-kept : ltb (idAt (pointsOf w) j) (idAt (pointsOf w) i) ≡ true → unblocked (pointsOf w) (spotAt (pointsOf w) j) (spotAt (pointsOf w) i) ≡ true → passKeeps words w j i ≡ true
       is-kept l f =

@@ -12,10 +12,10 @@ use Rattle.join.proofs.count_to.Statement.{statement}
 use Rattle.join.proofs.count_to.Tie as tie
 
 abbrev Inv-loop : tie.InvT-loop
-Inv-loop p np mp q nq mq j t bits count₀ i₀ count i = Counts (length bits) p q j t count i
+Inv-loop p hp q hq j t bits n count₀ i₀ count i = Counts (length bits) p q j t count i
 
 abbrev μ-loop : tie.MeasureT-loop
-μ-loop p np mp q nq mq j t bits count₀ i₀ count i = np - i
+μ-loop p hp q hq j t bits n count₀ i₀ count i = hp .n - i
 
 next-from-requires : tie.Need-next-from-requires Inv-loop μ-loop
 next-from-requires c κs = c .before .pre .3 .numbered
@@ -27,11 +27,11 @@ abbrev start : tie.At-loop Inv-loop μ-loop → tie.Start Inv-loop μ-loop
 start l = l .before .before .before
 
 -- what the test of a turn says
-in-p : (c : tie.In-loop Inv-loop μ-loop) → c .before .loop .i < start (c .before) .args .np
-in-p c = ltb-true _ _ (and-left (ltb (c .before .loop .i) (start (c .before) .args .np)) (ltb (c .before .loop .count) (start (c .before) .args .t)) (c .loop-test .taken))
+in-p : (c : tie.In-loop Inv-loop μ-loop) → c .before .loop .i < start (c .before) .args .hp .n
+in-p c = ltb-true _ _ (and-left (ltb (c .before .loop .i) (start (c .before) .args .hp .n)) (ltb (c .before .loop .count) (start (c .before) .args .t)) (c .loop-test .taken))
 
 in-t : (c : tie.In-loop Inv-loop μ-loop) → c .before .loop .count < start (c .before) .args .t
-in-t c = ltb-true _ _ (and-right (ltb (c .before .loop .i) (start (c .before) .args .np)) (ltb (c .before .loop .count) (start (c .before) .args .t)) (c .loop-test .taken))
+in-t c = ltb-true _ _ (and-right (ltb (c .before .loop .i) (start (c .before) .args .hp .n)) (ltb (c .before .loop .count) (start (c .before) .args .t)) (c .loop-test .taken))
 
 pair-walk-requires : tie.Need-pair-walk-requires Inv-loop μ-loop
 pair-walk-requires c κs =
@@ -45,7 +45,7 @@ add-count : tie.Need-add-count Inv-loop μ-loop
 add-count c = let i = c .before .before .before in omega (arith, in-t i, start (i .before) .fits .t)
 
 add-next-from : tie.Need-add-next-from Inv-loop μ-loop
-add-next-from c = let i = c .before .before .before in omega (arith, in-p i, start (i .before) .fits .np)
+add-next-from c = let i = c .before .before .before in omega (arith, in-p i, start (i .before) .pre .0 .n-le)
 
 next-from-requires-2 : tie.Need-next-from-requires-2 Inv-loop μ-loop
 next-from-requires-2 c κs = start (c .before .before .before .before) .pre .3 .numbered

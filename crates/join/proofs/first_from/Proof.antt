@@ -10,10 +10,10 @@ use Rattle.join.proofs.first_from.Statement.{statement}
 use Rattle.join.proofs.first_from.Tie as tie
 
 abbrev Inv-loop : tie.InvT-loop
-Inv-loop q nq mq key j₀ j = (j ≤ nq) × (firstFrom (idAt (pointsOf q)) key j ≡ j)
+Inv-loop q hq key n j₀ j = (j ≤ hq .n) × (firstFrom (idAt (pointsOf q)) key j ≡ j)
 
 abbrev μ-loop : tie.MeasureT-loop
-μ-loop q nq mq key j₀ j = nq - j
+μ-loop q hq key n j₀ j = hq .n - j
 
 loop-holds : tie.Need-loop-holds Inv-loop μ-loop
 loop-holds c = (omega arith, scan-start _ _)

@@ -12,10 +12,10 @@ use Rattle.join.proofs.keep_clear.Statement.{statement}
 use Rattle.join.proofs.keep_clear.Tie as tie
 
 abbrev Inv-loop : tie.InvT-loop
-Inv-loop p np mp q nq mq j bits₀ opened₀ count₀ i₀ bits opened count i = Keeping (length bits₀) p q j bits count opened i
+Inv-loop p hp q hq j bits₀ n opened₀ count₀ i₀ bits opened count i = Keeping (length bits₀) p q j bits count opened i
 
 abbrev μ-loop : tie.MeasureT-loop
-μ-loop p np mp q nq mq j bits₀ opened₀ count₀ i₀ bits opened count i = np - i
+μ-loop p hp q hq j bits₀ n opened₀ count₀ i₀ bits opened count i = hp .n - i
 
 next-from-requires : tie.Need-next-from-requires Inv-loop μ-loop
 next-from-requires c κs = c .before .before .pre .3 .numbered
@@ -46,7 +46,7 @@ add-count : tie.Need-add-count Inv-loop μ-loop
 add-count c =
     let i = c .before .before .before .before in
     let s = start (i .before) in
-    omega (arith, keep-few (s .pre .0) (s .pre .1) _ (s .pre .3 .enough) _ _ _ _ _ (i .before .loop .inv), i .loop-test .taken, s .fits .np)
+    omega (arith, keep-few (s .pre .0) (s .pre .1) _ (s .pre .3 .enough) _ _ _ _ _ (i .before .loop .inv), i .loop-test .taken, s .pre .0 .n-le)
 
 remove-requires : tie.Need-remove-requires Inv-loop μ-loop
 remove-requires c κs =
@@ -69,7 +69,7 @@ turn c =
 add-next-from : tie.Need-add-next-from Inv-loop μ-loop
 add-next-from c =
     let i = c .before .before .before .before .before in
-    omega (arith, i .loop-test .taken, start (i .before) .fits .np)
+    omega (arith, i .loop-test .taken, start (i .before) .pre .0 .n-le)
 
 next-from-requires-2 : tie.Need-next-from-requires-2 Inv-loop μ-loop
 next-from-requires-2 c κs =

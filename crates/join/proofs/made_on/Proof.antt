@@ -4,23 +4,24 @@ use Prim.Native.Nat.{_+_, _*_, _-_}
 use native.Mathlib.Omega.{arith}
 use native.Mathlib.Nat.{lt-of-le-of-lt}
 use lib.ListN.{length}
-use Rattle.join.specs.Sheets.{walksOf}
+use Rattle.join.specs.Sheets.{walksBy}
 use Rattle.join.specs.Threshold.{walksFor}
 use Rattle.join.proofs.ThresholdLaws.{for-cap, first-for}
 use Rattle.join.proofs.TurnLaws.{Rounds, rounds-start, rounds-room, rounds-on, rounds-stop, rounds-end}
 use Rattle.walk.proofs.FilterCode.{still-holds}
-use Rattle.join.proofs.CallLaws.{chamber-same, capped, page-room}
+use Rattle.join.proofs.CallLaws.{chamber-same, page-room}
+use Rattle.join.proofs.KindLaws.{by-capped}
 use Rattle.join.proofs.made_on.Statement.{statement}
 use Rattle.join.proofs.made_on.Tie as tie
 
 abbrev Inv-loop : tie.InvT-loop
-Inv-loop p np mp q nq mq key size t bits₀ r₀ j₀ bits r j = (length bits ≡ length bits₀) × Rounds (walksFor (walksOf (length bits₀) p q) np t) key size (mp + np * (mp + mq)) np nq r j
+Inv-loop p hp q hq ask bits₀ r₀ n j₀ bits r j = (length bits ≡ length bits₀) × Rounds (walksFor (walksBy (ask .terms) (length bits₀) p q) (hp .n) (ask .terms .threshold)) (ask .key) (ask .size) (hp .m + hp .n * (hp .m + hq .m)) (hp .n) (hq .n) r j
 
 abbrev μ-loop : tie.MeasureT-loop
-μ-loop p np mp q nq mq key size t bits₀ r₀ j₀ bits r j = nq - j
+μ-loop p hp q hq ask bits₀ r₀ n j₀ bits r j = hq .n - j
 
 first-from-requires : tie.Need-first-from-requires Inv-loop μ-loop
-first-from-requires c κs = c .before .pre .1
+first-from-requires c κs = c .before .before .pre .1
 
 loop-holds : tie.Need-loop-holds Inv-loop μ-loop
 loop-holds c = (refl, rounds-start _ _ _ _ _ _ _ (first-for _ _ _ _ _ _ (c .first-from .ensures)))
@@ -34,9 +35,9 @@ returns c = rounds-stop _ _ _ _ _ _ _ _ (c .if1 .taken) (c .before .before .loop
 with-chamber-requires : tie.Need-with-chamber-requires Inv-loop μ-loop
 with-chamber-requires c κs =
     let l = c .before .before .before in
-    let s = l .before .before .before in
+    let s = l .before .before .before .before in
     let in-loop = c .before .before .loop-test .taken in
-    (s .pre .0, s .pre .1, in-loop, s .pre .2, still-holds _ _ _ (l .loop .inv .0) (s .pre .3), lt-of-le-of-lt (rounds-room _ _ _ _ _ _ _ (l .loop .j) in-loop (l .loop .inv .1)) (page-room (s .pre .0) (s .pre .1)))
+    (s .pre .0, s .pre .1, in-loop, s .pre .2, still-holds _ _ _ (l .loop .inv .0) (s .pre .3), lt-of-le-of-lt (rounds-room _ _ _ _ _ _ _ (l .loop .j) in-loop (l .loop .inv .1)) (page-room (s .pre .0) (s .pre .1)), s .pre .4)
 
 add-j : tie.Need-add-j Inv-loop μ-loop
 add-j c = omega arith
@@ -48,10 +49,10 @@ loop-again : tie.Need-loop-again Inv-loop μ-loop
 loop-again c =
     let k = c .before .before in
     let l = k .before .before .before .before in
-    let s = l .before .before .before in
+    let s = l .before .before .before .before in
     let long = l .loop .inv .0 in (
-      k .with-chamber .kept .1 .1 .1 .1 .1 .1 .1 .1 .1 .1 .0 ∙ long,
-      rounds-on _ _ _ _ _ _ _ (l .loop .j) (for-cap _ _ _ _ (capped (s .pre .0) (s .pre .1) (length (s .args .bits .now))) _ _ _ _ _) (k .before .before .before .loop-test .taken) (k .before .before .if1 .left) (l .loop .inv .1) _ (chamber-same _ _ _ _ _ _ _ _ _ _ _ long (k .with-chamber .ensures)),
+      k .with-chamber .kept .1 .1 .1 .1 .1 .1 .0 ∙ long,
+      rounds-on _ _ _ _ _ _ _ (l .loop .j) (for-cap _ _ _ _ (by-capped (s .pre .0) (s .pre .1) _ (s .pre .4) (length (s .args .bits .now)) (s .pre .3 .enough)) _ _ _ _ _) (k .before .before .before .loop-test .taken) (k .before .before .if1 .left) (l .loop .inv .1) _ (chamber-same (s .args .ask .terms) (s .args .p .now) (s .args .q .now) _ _ _ _ _ _ _ _ _ long (k .with-chamber .ensures)),
     )
 
 same-length-2 : tie.Need-same-length-2 Inv-loop μ-loop

@@ -1,9 +1,10 @@
 -- `join::with_chamber` meets its contract: the lent words are the filter walk's, and as many as before. Assumes nothing.
-use mathlib.Core.Path.{_∙_}
+use mathlib.Core.Path.{sym, _∙_}
 use native.Mathlib.Omega.{arith}
 use Rattle.walk.proofs.FilterCode.{still-holds}
-use Rattle.join.proofs.CallLaws.{words-are, chamber-walked, filter-few, spot-fits, walks-few}
-use Rattle.join.proofs.ThresholdLaws.{chamber-full, chamber-shut, chamber-shown}
+use Rattle.join.proofs.CallLaws.{words-are, filter-few, spot-fits, walks-few}
+use Rattle.join.proofs.ThresholdLaws.{chamber-full}
+use Rattle.join.proofs.KindLaws.{by-agrees, by-chamber, two-shut, two-shown}
 use borrow.Author.Needs.{needs}
 use Rattle.join.proofs.with_chamber.Statement.{statement}
 use Rattle.join.proofs.with_chamber.Tie as tie
@@ -22,24 +23,35 @@ add-r c =
     let s = k .before .before .before .before in
     omega (arith, s .pre .5, filter-few (s .pre .0) _ _ _ (k .filter-kept .ensures .1))
 
+wide-requires : tie.Need-wide-requires
+wide-requires c κs = search needs
+
+start-for-requires : tie.Need-start-for-requires
+start-for-requires c κs =
+    let s = c .before .before .before .before .before .before .before .before .before .before in
+    omega (arith, s .pre .2, s .pre .1 .n-le)
+
 with-partners-requires : tie.Need-with-partners-requires
 with-partners-requires c κs =
-    let k = c .before .before .before .before .before in
+    let k = c .before .before .before .before .before .before .before .before in
     let s = k .before .before .before .before in
     let long = k .filter-kept .kept .1 .1 .1 .1 .0 in
-    (s .pre .0, s .pre .1, s .pre .2, s .pre .3, still-holds _ _ _ long (s .pre .4), omega (arith, s .pre .5, filter-few (s .pre .0) _ _ _ (k .filter-kept .ensures .1)), words-are _ _ _ _ (k .before .before .spot-at .ensures) _ _ long (k .filter-kept .ensures .0))
+    let still = still-holds _ _ _ long (s .pre .4) in
+    (s .pre .0, s .pre .1, s .pre .2, s .pre .3, still, omega (arith, s .pre .5, filter-few (s .pre .0) _ _ _ (k .filter-kept .ensures .1)), s .pre .6, by-agrees (s .pre .0) (s .pre .1) _ (s .pre .6) _ (s .pre .2) _ (still .enough) (words-are _ _ _ _ (k .before .before .spot-at .ensures) _ _ long (k .filter-kept .ensures .0)) _ (c .before .start-for .ensures))
 
 same-length : tie.Need-same-length
 same-length c = search needs
 
 returns : tie.Need-returns
 returns c =
-    let k = c .before .before .before .before .before .before in
-    chamber-full _ _ _ _ _ _ _ (c .before .before .if1 .taken) _ (chamber-walked _ _ _ _ (k .before .before .spot-at .ensures) _ _ (k .filter-kept .kept .1 .1 .1 .1 .0) _ _ _ _ _ _ (k .filter-kept .ensures .1) (c .with-partners .ensures))
+    let w = c .before .before .before .before in
+    let k = c .before .before .before .before .before .before .before .before .before in
+    let s = k .before .before .before .before in
+    chamber-full _ _ _ _ _ _ _ (sym (w .wide .ensures) ∙ c .before .before .before .if1 .taken) _ (by-chamber (s .pre .0) (s .pre .1) _ (s .pre .6) _ _ (k .before .before .spot-at .ensures) _ _ (k .filter-kept .kept .1 .1 .1 .1 .0) (s .pre .4 .enough) _ _ _ _ _ (k .filter-kept .ensures .1) (c .with-partners .ensures))
 
 keep-clear-requires : tie.Need-keep-clear-requires
 keep-clear-requires c κs =
-    let k = c .before .before .before .before .before in
+    let k = c .before .before .before .before .before .before .before in
     let s = k .before .before .before .before in
     let long = k .filter-kept .kept .1 .1 .1 .1 .0 in
     (s .pre .0, s .pre .1, s .pre .2, still-holds _ _ _ long (s .pre .4), words-are _ _ _ _ (k .before .before .spot-at .ensures) _ _ long (k .filter-kept .ensures .0))
@@ -47,7 +59,7 @@ keep-clear-requires c κs =
 add-r-2 : tie.Need-add-r-2
 add-r-2 c =
     let g = c .before .before .before .before in
-    let k = g .before .before .before .before .before .before in
+    let k = g .before .before .before .before .before .before .before .before in
     let s = k .before .before .before .before in
     omega (arith, s .pre .5, filter-few (s .pre .0) _ _ _ (k .filter-kept .ensures .1), walks-few (s .pre .0) (s .pre .1) _ _ _ (g .keep-clear .ensures .2))
 
@@ -57,15 +69,17 @@ same-length-2 c = search needs
 returns-2 : tie.Need-returns-2
 returns-2 c =
     let g = c .before .before .before .before .before .before in
-    let k = g .before .before .before .before .before .before in
-    chamber-shut _ _ _ _ _ _ _ _ (g .before .before .if1 .left) _ (k .before .before .spot-at .ensures) _ _ (k .filter-kept .kept .1 .1 .1 .1 .0) _ (k .filter-kept .ensures .1) _ (g .keep-clear .ensures .2) _ (g .keep-clear .ensures .1) (c .if2 .taken)
+    let w = g .before .before .before in
+    let k = g .before .before .before .before .before .before .before .before in
+    let s = k .before .before .before .before in
+    two-shut _ _ _ (s .pre .6) _ _ _ _ _ (λ z. g .before .before .if1 .left (w .wide .ensures ∙ z)) _ (k .before .before .spot-at .ensures) _ _ (k .filter-kept .kept .1 .1 .1 .1 .0) _ (k .filter-kept .ensures .1) _ (g .keep-clear .ensures .2) _ (g .keep-clear .ensures .1) (omega (arith, w .wide .ensures, c .if2 .taken))
 
 with-kept-requires : tie.Need-with-kept-requires
 with-kept-requires c κs =
     let g = c .before .before .before .before .before .before .before in
-    let k = g .before .before .before .before .before .before in
+    let k = g .before .before .before .before .before .before .before .before in
     let s = k .before .before .before .before in
-    (s .pre .0, s .pre .1, s .pre .2, s .pre .3, still-holds _ _ _ (g .keep-clear .kept .1 .1 .1 .1 .1 .1 .1 .0 ∙ k .filter-kept .kept .1 .1 .1 .1 .0) (s .pre .4))
+    (s .pre .0, s .pre .1, s .pre .2, s .pre .3, still-holds _ _ _ (g .keep-clear .kept .1 .1 .1 .1 .1 .0 ∙ k .filter-kept .kept .1 .1 .1 .1 .0) (s .pre .4))
 
 same-length-3 : tie.Need-same-length-3
 same-length-3 c = search needs
@@ -73,8 +87,10 @@ same-length-3 c = search needs
 returns-3 : tie.Need-returns-3
 returns-3 c =
     let g = c .before .before .before .before .before .before .before .before in
-    let k = g .before .before .before .before .before .before in
-    chamber-shown _ _ _ _ _ _ _ _ (g .before .before .if1 .left) _ (k .before .before .spot-at .ensures) _ _ (k .filter-kept .kept .1 .1 .1 .1 .0) _ (k .filter-kept .ensures .1) _ (g .keep-clear .ensures .2) _ (g .keep-clear .ensures .1) (c .before .before .if2 .left) _ (g .keep-clear .ensures .0) _ (c .with-kept .ensures)
+    let w = g .before .before .before in
+    let k = g .before .before .before .before .before .before .before .before in
+    let s = k .before .before .before .before in
+    two-shown _ _ _ (s .pre .6) _ _ _ _ _ (λ z. g .before .before .if1 .left (w .wide .ensures ∙ z)) _ (k .before .before .spot-at .ensures) _ _ (k .filter-kept .kept .1 .1 .1 .1 .0) _ (k .filter-kept .ensures .1) _ (g .keep-clear .ensures .2) _ (g .keep-clear .ensures .1) (omega (arith, w .wide .ensures, c .before .before .if2 .left)) _ (g .keep-clear .ensures .0) _ (c .with-kept .ensures)
 
 pub with-chamber-spec : {M : Type 1} → statement M
 with-chamber-spec =
@@ -83,6 +99,8 @@ with-chamber-spec =
     spot-at-requires
     filter-kept-requires
     add-r
+    wide-requires
+    start-for-requires
     with-partners-requires
     same-length
     returns

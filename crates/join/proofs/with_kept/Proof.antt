@@ -11,39 +11,39 @@ use Rattle.join.proofs.with_kept.Statement.{statement}
 use Rattle.join.proofs.with_kept.Tie as tie
 
 abbrev Inv-loop : tie.InvT-loop
-Inv-loop p np mp q nq mq key size j bits r₀ i₀ r i = Tries (onWords bits p q) key size 0 0 j np r₀ r i
+Inv-loop p hp q hq ask j bits n key r₀ i₀ r i = Tries (onWords bits p q) (ask .key) (ask .size) 0 0 j (hp .n) r₀ r i
 
 abbrev μ-loop : tie.MeasureT-loop
-μ-loop p np mp q nq mq key size j bits r₀ i₀ r i = np - i
+μ-loop p hp q hq ask j bits n key r₀ i₀ r i = hp .n - i
 
 next-from-requires : tie.Need-next-from-requires Inv-loop μ-loop
-next-from-requires c κs = c .before .pre .4 .numbered
+next-from-requires c κs = c .before .before .pre .4 .numbered
 
 loop-holds : tie.Need-loop-holds Inv-loop μ-loop
-loop-holds c = tries-start _ _ _ _ _ _ _ _ _ (words-on _ _ _ _) (c .before .before .pre .4 .enough) _ (c .next-from .ensures)
+loop-holds c = tries-start _ _ _ _ _ _ _ _ _ (words-on _ _ _ _) (c .before .before .before .pre .4 .enough) _ (c .next-from .ensures)
 
 returns : tie.Need-returns Inv-loop μ-loop
 returns c = tries-stop _ _ _ _ _ _ _ _ _ _ (c .if1 .taken) (c .before .before .loop .inv)
 
 is-late-requires : tie.Need-is-late-requires Inv-loop μ-loop
 is-late-requires c κs =
-    let s = c .before .before .before .before .before in
+    let s = c .before .before .before .before .before .before in
     (s .pre .0, s .pre .1, s .pre .2, c .before .loop-test .taken)
 
 pair-at-requires : tie.Need-pair-at-requires Inv-loop μ-loop
 pair-at-requires c κs =
     let t = c .before in
-    let s = t .before .before .before .before .before .before in
+    let s = t .before .before .before .before .before .before .before in
     (s .pre .0, s .pre .1, s .pre .2, t .before .before .loop-test .taken)
 
 with-found-requires : tie.Need-with-found-requires Inv-loop μ-loop
-with-found-requires c κs = c .before .before .before .before .before .before .before .before .pre .3
+with-found-requires c κs = c .before .before .before .before .before .before .before .before .before .pre .3
 
 add-next-from : tie.Need-add-next-from Inv-loop μ-loop
-add-next-from c = omega (arith, c .before .before .before .loop-test .taken, c .before .before .before .before .before .before .before .fits .np)
+add-next-from c = omega (arith, c .before .before .before .loop-test .taken, c .before .before .before .before .before .before .before .before .pre .0 .n-le)
 
 next-from-requires-2 : tie.Need-next-from-requires-2 Inv-loop μ-loop
-next-from-requires-2 c κs = c .before .before .before .before .before .before .before .pre .4 .numbered
+next-from-requires-2 c κs = c .before .before .before .before .before .before .before .before .pre .4 .numbered
 
 loop-less : tie.Need-loop-less Inv-loop μ-loop
 loop-less c =
@@ -53,7 +53,7 @@ loop-again : tie.Need-loop-again Inv-loop μ-loop
 loop-again c =
     let t = c .before .before in
     let l = t .before .before .before in
-    let s = l .before .before .before in
+    let s = l .before .before .before .before in
     tries-on _ _ _ _ _ _ (on-words _ _ _) _ _ _ _ _ (words-on _ _ _ _) (s .pre .4 .enough) (l .loop .i) (t .before .before .loop-test .taken) (t .before .if1 .left) (l .loop .inv) _
     (⊎-elim
     (λ x. show-late _ _ _ _ _ _ _ _ (t .is-late .ensures) _ _ (x .0 .taken) _ (x .1 .ensures) (x .3 ∙ x .2 .ensures))

@@ -5,17 +5,18 @@ use Prim.Native.Nat.{_+_, _-_}
 use native.Mathlib.Omega.{arith}
 use lib.ListN.{length}
 use Rattle.bits.proofs.NextLaws.{from-le}
-use Rattle.join.specs.Sheets.{walksOf}
+use Rattle.join.specs.Sheets.{walksBy}
 use Rattle.join.proofs.TurnLaws.{Tries, tries-start, tries-room, tries-on, tries-stop, tries-end, tried-few}
-use Rattle.join.proofs.CallLaws.{with-yes, with-no, words-of, capped}
+use Rattle.join.proofs.CallLaws.{with-yes, with-no}
+use Rattle.join.proofs.KindLaws.{by-capped}
 use Rattle.join.proofs.with_partners.Statement.{statement}
 use Rattle.join.proofs.with_partners.Tie as tie
 
 abbrev Inv-loop : tie.InvT-loop
-Inv-loop p np mp q nq mq key size j bits r₀ i₀ r i = Tries (walksOf (length bits) p q) key size 0 (mp + mq) j np r₀ r i
+Inv-loop p hp q hq ask j from bits n r₀ i₀ r i = Tries (walksBy (ask .terms) (length bits) p q) (ask .key) (ask .size) from (hp .m + hq .m) j (hp .n) r₀ r i
 
 abbrev μ-loop : tie.MeasureT-loop
-μ-loop p np mp q nq mq key size j bits r₀ i₀ r i = np - i
+μ-loop p hp q hq ask j from bits n r₀ i₀ r i = hp .n - i
 
 next-from-requires : tie.Need-next-from-requires Inv-loop μ-loop
 next-from-requires c κs = c .before .pre .4 .numbered
@@ -23,7 +24,7 @@ next-from-requires c κs = c .before .pre .4 .numbered
 loop-holds : tie.Need-loop-holds Inv-loop μ-loop
 loop-holds c =
     let s = c .before .before in
-    tries-start _ _ _ _ _ _ _ _ _ (words-of _ _ _ _ (s .pre .6)) (s .pre .4 .enough) _ (c .next-from .ensures)
+    tries-start _ _ _ _ _ _ _ _ _ (s .pre .7) (s .pre .4 .enough) _ (c .next-from .ensures)
 
 returns : tie.Need-returns Inv-loop μ-loop
 returns c = tries-stop _ _ _ _ _ _ _ _ _ _ (c .if1 .taken) (c .before .before .loop .inv)
@@ -31,7 +32,7 @@ returns c = tries-stop _ _ _ _ _ _ _ _ _ _ (c .if1 .taken) (c .before .before .l
 try-partner-requires : tie.Need-try-partner-requires Inv-loop μ-loop
 try-partner-requires c κs =
     let s = c .before .before .before .before .before in
-    (s .pre .0, s .pre .1, s .pre .2, c .before .loop-test .taken)
+    (s .pre .0, s .pre .1, s .pre .2, c .before .loop-test .taken, s .pre .6)
 
 add-r : tie.Need-add-r Inv-loop μ-loop
 add-r c =
@@ -40,7 +41,7 @@ add-r c =
     let s = l .before .before .before in
     let few = tries-room _ _ _ _ _ _ _ _ _ (l .loop .i) (t .before .before .loop-test .taken) (l .loop .inv) in
     let words = length (s .args .bits .now) in
-    let cap = tried-few _ _ (s .args .size) _ _ (capped (s .pre .0) (s .pre .1) words) _ _ _ (t .try-partner .ensures words) in
+    let cap = tried-few _ _ (s .args .ask .size) _ _ (by-capped (s .pre .0) (s .pre .1) _ (s .pre .6) words (s .pre .4 .enough)) _ _ _ (t .try-partner .ensures words) in
     omega (arith, s .pre .5)
 
 pair-at-requires : tie.Need-pair-at-requires Inv-loop μ-loop
@@ -70,7 +71,7 @@ loop-again c =
     let l = t .before .before .before in
     let s = l .before .before .before in
     let words = length (s .args .bits .now) in
-    tries-on _ _ _ _ _ _ (capped (s .pre .0) (s .pre .1) words) _ _ _ _ _ (words-of _ _ _ _ (s .pre .6)) (s .pre .4 .enough) (l .loop .i) (t .before .before .loop-test .taken) (t .before .if1 .left) (l .loop .inv) _
+    tries-on _ _ _ _ _ _ (by-capped (s .pre .0) (s .pre .1) _ (s .pre .6) words (s .pre .4 .enough)) _ _ _ _ _ (s .pre .7) (s .pre .4 .enough) (l .loop .i) (t .before .before .loop-test .taken) (t .before .if1 .left) (l .loop .inv) _
     (⊎-elim
     (λ x. with-yes _ _ _ _ _ _ _ (x .1 .ensures) (t .try-partner .ensures words) (x .0 .taken) (x .3 ∙ x .2 .ensures))
     (λ x. x .1 ∙ with-no _ _ _ _ _ (t .try-partner .ensures words) (x .0 .left))
