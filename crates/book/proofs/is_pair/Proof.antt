@@ -1,3 +1,4 @@
+use mathlib.Core.Bool.{_&&_}
 use mathlib.Core.Path.{ap₂}
 use borrow.Author.Needs.{needs}
 use Rattle.book.specs.Rules.{pairOk}

@@ -1,5 +1,6 @@
 -- `brute::size_of` meets its contract. Assumes nothing.
 use mathlib.Core.Path.{ap, ap₂, _∙_}
+use Prim.Native.Nat.{_+_}
 use borrow.Author.Needs.{needs}
 use borrow.Author.Tests.{lt-ltb, le-ltb}
 use Rattle.brute.specs.Brute.{across, sizeOf}
