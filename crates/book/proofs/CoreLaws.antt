@@ -1,32 +1,33 @@
 -- What the functions of the book find: laws over plain values.
 -- Assumes nothing.
 use mathlib.Core.Path.{_≡_, refl, sym, ap, ap₂, _∙_}
-use mathlib.Core.Bool.{Bool, true, false, not, cond, _&&_, _||_, and-false, true≢false}
+use mathlib.Core.Bool.{Bool, true, false, not, _&&_, _||_, and-false}
 use mathlib.Core.Logic.{⊎-elim}
 use mathlib.Core.List.{List, [], _∷_, _++_}
-use Prim.Native.Nat.{ℕ, zero, suc, _+_, _*_, _-_, _^_, _≤_, _<_}
+use Prim.Native.Nat.{ℕ, zero, suc, _+_, _-_, _≤_, _<_}
 use native.Mathlib.Omega.{arith}
 use native.Mathlib.Numerals.{add-one}
-use lib.Dec.{eqb, ltb}
-use lib.ListN.{length, take, drop, getD, length-append, length-drop}
-use lib.Seq.{drop-cons, paste, length-take-le}
-use borrow.Author.Tests.{ltb-false, lt-ltb, le-ltb, not-true, not-false}
-use Rattle.integers.proofs.Bools.{decide}
+use lib.Dec.{eqb}
+use lib.ListN.{length, take, drop, getD}
+use lib.Seq.{drop-cons, paste}
+use borrow.Author.Tests.{lt-ltb, le-ltb, not-true, not-false}
 use Rattle.words.specs.Range.{editionOk}
+use Rattle.words.specs.First.{given, first, answer}
+use Rattle.words.proofs.FirstLaws.{first-passes, first-stops, first-last, given-no, answer-given, answer-refused}
 use Rattle.list.specs.declared.Key.{Key}
 use Rattle.list.specs.declared.Pair.{Pair}
 use Rattle.list.specs.declared.Source.{Source}
 use Rattle.list.specs.declared.Page.{Page}
 use Rattle.list.specs.Pairs.{none, keyOf, follows, ascends}
 use Rattle.list.specs.Pages.{thresholdNo, sourceNo, pagePairs}
+use Rattle.list.specs.Lent.{lentOf}
 use Rattle.book.specs.declared.Book.{Book}
 use Rattle.book.specs.declared.Decided.{Decided}
 use Rattle.book.specs.declared.Taken.{Taken}
 use Rattle.book.specs.declared.TakenArray.{TakenArray}
 use Rattle.book.specs.declared.Begun.the-variants as begun
-use Rattle.book.specs.Rules.{oneSheet, ownWithT, beginNo, begunBy, begunBook, begunFor, lastKey, lastSlot, pairOk, pairsOk, sameKey, pageMost, pageBad, firstNo, takeNoAt, takeNo, accepted, refused, decidedAt, decided, taken, takenSlots, askedAt, asked, lentOf, withSlots, takenArray}
-use Rattle.book.proofs.TakeLaws.{no-refusal-at, by-zero, by-number, same-key, passed, or-zero}
-use Rattle.list.proofs.PairRows.{width}
+use Rattle.book.specs.Rules.{oneSheet, ownWithT, beginNo, begunBook, begunFor, lastKey, lastSlot, pairOk, pairsOk, sameKey, pageMost, pageBad, takeNoAt, takeNo, accepted, refused, decidedAt, decided, taken, takenSlots, askedAt, asked, withSlots, takenArray}
+use Rattle.book.proofs.TakeLaws.{no-refusal-at, decided-yes, decided-no, same-key, passed, or-zero}
 
 -- ---- begin
 
@@ -35,30 +36,26 @@ module _ (s : Source) (a b : Bool) (ea : a ≡ editionOk (s .«p_edition»)) (eb
   both = sym (ap₂ (λ (x y : Bool). not (x && y && oneSheet s)) ea eb)
 
   pub begin-3 : not (a && b && oneSheet s) ≡ true → begun.Refused 3 ≡ begunFor s
-  unfolding begunFor beginNo begunBy
+  unfolding begunFor beginNo first given answer
   begin-3 e = rw (both ∙ e)
 
   module _ (e : not (a && b && oneSheet s) ≡ false) where
     pub begin-own : ownWithT s ≡ true → begun.Refused 21 ≡ begunFor s
-    unfolding begunFor beginNo begunBy
+    unfolding begunFor beginNo first given answer
     begin-own f = rw (both ∙ e, f)
 
     module _ (f : ownWithT s ≡ false) (n : ℕ) (d : n ≡ thresholdNo (s .threshold)) where
       number-is : beginNo s ≡ n
-      unfolding beginNo
-      number-is = rw (both ∙ e, f) (sym d)
+      unfolding beginNo first given
+      number-is = rw (both ∙ e, f) (first-last _ ∙ sym d)
 
       pub begin-21 : (n ≡ 0 → ⊥) → begun.Refused n ≡ begunFor s
       unfolding begunFor
-      begin-21 ne = refused-by n ne ∙ ap (λ (k : ℕ). begunBy k (begunBook s)) (sym number-is)
-        where
-          refused-by : (k : ℕ) → (k ≡ 0 → ⊥) → begun.Refused k ≡ begunBy k (begunBook s)
-          refused-by zero ne = absurd (ne refl)
-          refused-by (suc k) ne = unfold begunBy in refl
+      begin-21 ne = sym (answer-refused (begun.Open (begunBook s)) begun.Refused _ n number-is ne)
 
       pub begin-0 : n ≡ 0 → begun.Open (begunBook s) ≡ begunFor s
-      unfolding begunFor begunBy
-      begin-0 z = ap (λ (k : ℕ). begunBy k (begunBook s)) (sym (number-is ∙ z))
+      unfolding begunFor
+      begin-0 z = sym (answer-given (begun.Open (begunBook s)) begun.Refused _ (number-is ∙ z))
 
 -- ---- the loop over a page's pairs
 
@@ -169,90 +166,62 @@ bad-is g r h e =
 
 -- ---- the numbers, in order
 
-skip : (t : Bool) (k r x : ℕ) → t ≡ false → x ≡ r → x ≡ cond t k r
-skip true k r x e f = absurd (true≢false e)
-skip false k r x e f = f
-
-hit : (t : Bool) (k r : ℕ) → t ≡ true → k ≡ cond t k r
-hit true k r e = refl
-hit false k r e = absurd (true≢false (sym e))
-
-skip-first : (n r x : ℕ) → n ≡ 0 → x ≡ r → x ≡ firstNo n r
-unfolding firstNo
-skip-first n r x e f = f ∙ sym (ap (λ (m : ℕ). firstNo m r) e)
-
-hit-first : (n r : ℕ) → (n ≡ 0 → ⊥) → n ≡ firstNo n r
-unfolding firstNo
-hit-first zero r e = absurd (e refl)
-hit-first (suc n) r e = refl
-
 module _ (b : Book) (len : ℕ) (k : Key) (g : Page) where
   pub is-11 : len < b .held → 11 ≡ takeNoAt b len k g
-  unfolding takeNoAt
-  is-11 h = hit (ltb len (b .held)) 11 _ (lt-ltb len (b .held) h)
+  unfolding takeNoAt first given
+  is-11 h = rw (lt-ltb len (b .held) h)
 
   module _ (h1 : b .held ≤ len) where
-    past-11 : (x r : ℕ) → x ≡ r → x ≡ cond (ltb len (b .held)) 11 r
-    past-11 x r e = skip (ltb len (b .held)) 11 r x (le-ltb len (b .held) h1) e
-
     pub is-12 : b .closed ≡ true → 12 ≡ takeNoAt b len k g
-    unfolding takeNoAt
-    is-12 h = past-11 12 _ (hit (b .closed) 12 _ h)
+    unfolding takeNoAt first given
+    is-12 h = rw (le-ltb len (b .held) h1, h)
 
     module _ (h2 : b .closed ≡ false) where
-      past-12 : (x r : ℕ) → x ≡ r → x ≡ cond (ltb len (b .held)) 11 (cond (b .closed) 12 r)
-      past-12 x r e = past-11 x _ (skip (b .closed) 12 r x h2 e)
-
       pub is-13 : (m : ℕ) → m ≡ sourceNo (b .source) (g .source) → (m ≡ 0 → ⊥) → m ≡ takeNoAt b len k g
       unfolding takeNoAt
-      is-13 m e h = e ∙ past-12 (sourceNo (b .source) (g .source)) _ (hit-first (sourceNo (b .source) (g .source)) _ (λ z. h (e ∙ z)))
+      is-13 m e h =
+          e ∙ sym (first-passes _ _ (given-no _ 11 (le-ltb len (b .held) h1)) ∙ first-passes _ _ (given-no _ 12 h2) ∙ first-stops (sourceNo (b .source) (g .source)) _ (λ z. h (e ∙ z)))
 
       module _ (h3 : sourceNo (b .source) (g .source) ≡ 0) where
-        past-13 : (x r : ℕ) → x ≡ r → x ≡ cond (ltb len (b .held)) 11 (cond (b .closed) 12 (firstNo (sourceNo (b .source) (g .source)) r))
-        past-13 x r e = past-12 x _ (skip-first (sourceNo (b .source) (g .source)) r x h3 e)
-
         pub is-14 : sameKey (g .key) k ≡ false → 14 ≡ takeNoAt b len k g
-        unfolding takeNoAt
-        is-14 h = past-13 14 _ (hit (not (sameKey (g .key) k)) 14 _ (ap not h))
+        unfolding takeNoAt first given
+        is-14 h = rw (le-ltb len (b .held) h1, h2, h3, h)
 
         module _ (h4 : sameKey (g .key) k ≡ true) where
           pub is-15 : pageBad g ≡ true → 15 ≡ takeNoAt b len k g
-          unfolding takeNoAt
-          is-15 h = past-13 15 _ (skip (not (sameKey (g .key) k)) 14 _ 15 (ap not h4) (hit (pageBad g) 15 _ h))
+          unfolding takeNoAt first given
+          is-15 h = rw (le-ltb len (b .held) h1, h2, h3, h4, h)
 
           module _ (h5 : pageBad g ≡ false) where
             pub is-16 : len - b .held < g .count → 16 ≡ takeNoAt b len k g
-            unfolding takeNoAt
-            is-16 h =
-                past-13 16 _
-                (skip (not (sameKey (g .key) k)) 14 _ 16 (ap not h4)
-                (skip (pageBad g) 15 _ 16 h5 (hit (ltb (len - b .held) (g .count)) 16 _ (lt-ltb (len - b .held) (g .count) h))))
+            unfolding takeNoAt first given
+            is-16 h = rw (le-ltb len (b .held) h1, h2, h3, h4, h5, lt-ltb (len - b .held) (g .count) h)
 
             pub is-0 : g .count ≤ len - b .held → 0 ≡ takeNoAt b len k g
             is-0 h = sym (no-refusal-at b len k g h1 h2 h3 (same-key (g .key) k h4) h5 h)
 
 -- ---- all that is decided
 
-pub decided-no : (b : Book) (len : ℕ) (k : Key) (g : Page) (m : ℕ) → m ≡ takeNoAt b len k g → (m ≡ 0 → ⊥) → refused m b ≡ decidedAt b len k g
+pub refused-at : (b : Book) (len : ℕ) (k : Key) (g : Page) (m : ℕ) → m ≡ takeNoAt b len k g → (m ≡ 0 → ⊥) → refused b m ≡ decidedAt b len k g
 unfolding decidedAt
-decided-no b len k g m e h = ap (λ (x : ℕ). refused x b) e ∙ sym (by-number (takeNoAt b len k g) b g (λ z. h (e ∙ z)))
+refused-at b len k g m e h = sym (answer-refused (accepted b g) (refused b) _ m (sym e) h)
 
-pub decided-yes : (b : Book) (len : ℕ) (k : Key) (g : Page) → takeNoAt b len k g ≡ 0 → accepted b g ≡ decidedAt b len k g
+pub accepted-at : (b : Book) (len : ℕ) (k : Key) (g : Page) → takeNoAt b len k g ≡ 0 → accepted b g ≡ decidedAt b len k g
 unfolding decidedAt
-decided-yes b len k g e = sym (by-zero (takeNoAt b len k g) b g e)
+accepted-at b len k g e = sym (answer-given (accepted b g) (refused b) _ e)
 
 -- ---- what the loop of stores rests on
 
 -- each pair that is appended is one of the sixteen, and has its slot
 pub fits-each : (b : Book) (s : List Pair) (g : Page) (k : ℕ) → k < decided b s g .n → (k < 16) × (b .held + k < length s)
-unfolding decided accepted refused
+unfolding accepted refused
 fits-each b s g k h =
     ⊎-elim
     (λ (e : takeNo b s g ≡ 0).
     let p = passed b s g e in
-    let l : k < g .count = rw (by-zero (takeNo b s g) b g e) at h in
+    let l : k < g .count = rw (decided-yes b s g e) at h in
     (omega (arith, p .few), omega (arith, p .fits)))
-    (λ (e : takeNo b s g ≡ 0 → ⊥). let l : k < 0 = rw (by-number (takeNo b s g) b g e) at h in absurd (omega arith))
+    (λ (e : takeNo b s g ≡ 0 → ⊥). let l : k < 0 = rw (decided-no b s g e) at h in absurd (omega arith))
     (or-zero (takeNo b s g))
 
 pub answer-is : (b : Book) (s : List Pair) (g : Page) (d : Decided) → d ≡ decided b s g → d .taken ≡ taken b s g
@@ -265,24 +234,7 @@ slots-are b s g d e = ap (λ (x : Decided). paste s (b .held) (g .pairs) (x .n))
 
 -- ---- a part of an array, lent
 
-lent-few : (len m : ℕ) → m ≡ lentOf len → m ≤ 64
-unfolding lentOf
-lent-few len m e =
-    ⊎-elim
-    (λ (t : ltb 64 len ≡ true). let z : m ≡ 64 = e ∙ (rw t) in omega arith)
-    (λ (t : ltb 64 len ≡ false). let z : m ≡ len = e ∙ (rw t) in omega (arith, ltb-false 64 len t))
-    (decide (ltb 64 len))
-
-pub lent-room : (len m : ℕ) → m ≡ lentOf len → (m < 2 ^ 64) × (m * width < 2 ^ 63)
-lent-room len m e = let h = lent-few len m e in (omega arith, omega arith)
-
-pub front-long : (l : List Pair) (len m : ℕ) → length l ≡ 64 → m ≡ lentOf len → length (take m l) ≡ m
-front-long l len m long e = length-take-le m l (omega (arith, lent-few len m e))
-
-pub array-long : (l : List Pair) (len m : ℕ) (zs : List Pair) → length l ≡ 64 → m ≡ lentOf len → length zs ≡ length (take m l) → length (zs ++ drop m l) ≡ 64
-array-long l len m zs long e h = length-append zs (drop m l) ∙ omega (arith, length-drop m l, front-long l len m long e, lent-few len m e)
-
-pub array-is : (l : List Pair) (len : ℕ) (b : Book) (g : Page) (m : ℕ) (r : Taken) (zs : List Pair) (t : TakenArray) → m ≡ lentOf len
+pub array-is : (l : List Pair) (len : ℕ) (b : Book) (g : Page) (m : ℕ) (r : Taken) (zs : List Pair) (t : TakenArray) → m ≡ lentOf 64 len
     → r ≡ taken b (take m l) g → zs ≡ takenSlots b (take m l) g → t ≡ withSlots (zs ++ drop m l) r → t ≡ takenArray l len b g
 unfolding takenArray
 array-is l len b g m r zs t e x y z =

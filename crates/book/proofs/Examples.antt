@@ -11,10 +11,11 @@ use Rattle.list.specs.declared.Page.{Page}
 use Rattle.list.specs.Pairs.{start, none, keyOf, follows, ascends}
 use Rattle.list.specs.Pages.{thresholdNo, sourceNo, pagePairs}
 use Rattle.words.specs.Range.{idOk, editionOk, sizeOk}
+use Rattle.words.specs.First.{given, first, answer}
 use Rattle.book.specs.declared.Book.{Book}
 use Rattle.book.specs.declared.Begun.the-variants as begun
 use Rattle.book.specs.declared.Next.the-variants as next
-use Rattle.book.specs.Rules.{beginNo, begunBook, begunBy, begunFor, lastKey, nextNo, nextBy, askedAt, asked, pairOk, pairsOk, sameKey, pageBad, firstNo, takeNoAt, takeNo, advanced, accepted, decidedBy, decided, taken, takenSlots}
+use Rattle.book.specs.Rules.{beginNo, begunBook, begunFor, lastKey, nextNo, askedAt, asked, pairOk, pairsOk, sameKey, pageBad, takeNoAt, takeNo, advanced, accepted, decided, taken, takenSlots}
 
 -- editions 7 and 9, whose list is (5, 1), (5, 2), (6, 2)
 abbrev ours : Source
@@ -51,40 +52,40 @@ abbrev slots : List Pair
 slots = at 5 1 ∷ at 5 2 ∷ at 1 1 ∷ at 1 2 ∷ []
 
 begins : begunFor ours ≡ begun.Open (book 0 false)
-unfolding begunFor begunBy beginNo begunBook editionOk thresholdNo
+unfolding begunFor beginNo first given answer begunBook editionOk thresholdNo
 begins = refl
 
 no-edition : begunFor (record { «p_edition» = 7; «q_edition» = 0; threshold = 1001; own = false }) ≡ begun.Refused 3
-unfolding begunFor begunBy beginNo editionOk
+unfolding begunFor beginNo first given answer editionOk
 no-edition = refl
 
 no-threshold : begunFor (record { «p_edition» = 7; «q_edition» = 9; threshold = 1001; own = false }) ≡ begun.Refused 21
-unfolding begunFor begunBy beginNo editionOk thresholdNo
+unfolding begunFor beginNo first given answer editionOk thresholdNo
 no-threshold = refl
 
 -- a self join: of one edition; of two; with a t
 begins-own : begunFor alone ≡ begun.Open (record { held = 0; closed = false; source = alone })
-unfolding begunFor begunBy beginNo begunBook editionOk thresholdNo
+unfolding begunFor beginNo first given answer begunBook editionOk thresholdNo
 begins-own = refl
 
 no-two : begunFor (record { «p_edition» = 7; «q_edition» = 9; threshold = 2; own = true }) ≡ begun.Refused 3
-unfolding begunFor begunBy beginNo editionOk
+unfolding begunFor beginNo first given answer editionOk
 no-two = refl
 
 no-t : begunFor (record { «p_edition» = 7; «q_edition» = 7; threshold = 2; own = true }) ≡ begun.Refused 21
-unfolding begunFor begunBy beginNo editionOk
+unfolding begunFor beginNo first given answer editionOk
 no-t = refl
 
 asks-first : asked (book 0 false) slots ≡ record { next = next.After start; book = book 0 false }
-unfolding asked askedAt nextBy nextNo lastKey
+unfolding asked askedAt nextNo given answer lastKey
 asks-first = refl
 
 asks-last : asked (book 2 false) slots ≡ record { next = next.After (keyOf (at 5 2)); book = book 2 false }
-unfolding asked askedAt nextBy nextNo lastKey
+unfolding asked askedAt nextNo given answer lastKey
 asks-last = refl
 
 asks-too-far : asked (book 5 false) slots ≡ record { next = next.Refused 11; book = book 5 false }
-unfolding asked askedAt nextBy nextNo lastKey
+unfolding asked askedAt nextNo given answer lastKey
 asks-too-far = refl
 
 abbrev number : Book → Page → ℕ → Type 0
@@ -92,67 +93,67 @@ number b g n = takeNo b slots g ≡ n
 
 -- a page is taken: two pairs stand in the first two slots, and the others are as they were
 takes : taken (book 0 false) (at 9 9 ∷ at 8 8 ∷ at 7 7 ∷ []) (page ours none false two) ≡ record { number = 0; book = book 2 false }
-unfolding taken decided decidedBy accepted advanced takeNo takeNoAt firstNo sourceNo sameKey pageBad pairsOk pairOk idOk sizeOk ascends follows pagePairs lastKey
+unfolding taken decided accepted advanced takeNo takeNoAt sourceNo first given answer sameKey pageBad pairsOk pairOk idOk sizeOk ascends follows pagePairs lastKey
 takes = refl
 
 takes-slots : takenSlots (book 0 false) (at 9 9 ∷ at 8 8 ∷ at 7 7 ∷ []) (page ours none false two) ≡ at 5 1 ∷ at 5 2 ∷ at 7 7 ∷ []
-unfolding takenSlots decided decidedBy accepted advanced takeNo takeNoAt firstNo sourceNo sameKey pageBad pairsOk pairOk idOk sizeOk ascends follows pagePairs lastKey
+unfolding takenSlots decided accepted advanced takeNo takeNoAt sourceNo first given answer sameKey pageBad pairsOk pairOk idOk sizeOk ascends follows pagePairs lastKey
 takes-slots = refl
 
 -- of two faults the earlier number: more held than there are slots, and closed
 eleven : number (book 5 true) (page ours (at 5 2) true []) 11
-unfolding takeNo takeNoAt
+unfolding takeNo takeNoAt first given
 eleven = refl
 
 -- closed, and a page of other editions
 twelve : number (book 2 true) (page others (at 5 2) true []) 12
-unfolding takeNo takeNoAt
+unfolding takeNo takeNoAt first given
 twelve = refl
 
 -- closed, and a page of another kind; another kind, and other editions and another key
 twelve-first : number (book 2 true) (page alone (at 5 2) true []) 12
-unfolding takeNo takeNoAt
+unfolding takeNo takeNoAt first given
 twelve-first = refl
 
 twenty-two : number (book 2 false) (page alone (at 5 1) true []) 22
-unfolding takeNo takeNoAt firstNo sourceNo
+unfolding takeNo takeNoAt sourceNo first given
 twenty-two = refl
 
 -- other editions, and another t and key
 thirteen : number (book 2 false) (page others (at 5 1) true []) 13
-unfolding takeNo takeNoAt firstNo sourceNo
+unfolding takeNo takeNoAt sourceNo first given
 thirteen = refl
 
 -- another t, and another key
 thirty-one : number (book 2 false) (page less (at 5 1) true []) 31
-unfolding takeNo takeNoAt firstNo sourceNo
+unfolding takeNo takeNoAt sourceNo first given
 thirty-one = refl
 
 -- another key, and no pair and no end mark
 fourteen : number (book 2 false) (page ours (at 5 1) false []) 14
-unfolding takeNo takeNoAt firstNo sourceNo sameKey lastKey
+unfolding takeNo takeNoAt sourceNo first given sameKey lastKey
 fourteen = refl
 
 -- a pair that does not follow the key, and more pairs than slots left
 fifteen : number (book 2 false) (page ours (at 5 2) true (at 5 2 ∷ at 6 1 ∷ at 6 2 ∷ [])) 15
-unfolding takeNo takeNoAt firstNo sourceNo sameKey lastKey pageBad pairsOk pairOk idOk sizeOk ascends follows pagePairs
+unfolding takeNo takeNoAt sourceNo first given sameKey lastKey pageBad pairsOk pairOk idOk sizeOk ascends follows pagePairs
 fifteen = refl
 
 -- "15 is also given when a size lies outside 0 to 8,000,000,000,000"
 far : number (book 2 false) (page ours (at 5 2) true (wide 8000000000000 ∷ [])) 0
-unfolding takeNo takeNoAt firstNo sourceNo sameKey lastKey pageBad pairsOk pairOk idOk sizeOk ascends follows pagePairs
+unfolding takeNo takeNoAt sourceNo first given sameKey lastKey pageBad pairsOk pairOk idOk sizeOk ascends follows pagePairs
 far = refl
 
 too-far : number (book 2 false) (page ours (at 5 2) true (wide 8000000000001 ∷ [])) 15
-unfolding takeNo takeNoAt firstNo sourceNo sameKey lastKey pageBad pairsOk pairOk idOk sizeOk ascends follows pagePairs
+unfolding takeNo takeNoAt sourceNo first given sameKey lastKey pageBad pairsOk pairOk idOk sizeOk ascends follows pagePairs
 too-far = refl
 
 -- more pairs than slots left
 sixteen : number (book 2 false) (page ours (at 5 2) true (at 6 1 ∷ at 6 2 ∷ at 6 3 ∷ [])) 16
-unfolding takeNo takeNoAt firstNo sourceNo sameKey lastKey pageBad pairsOk pairOk idOk sizeOk ascends follows pagePairs
+unfolding takeNo takeNoAt sourceNo first given sameKey lastKey pageBad pairsOk pairOk idOk sizeOk ascends follows pagePairs
 sixteen = refl
 
 -- "A full book still takes an empty page with the end mark."
 full : taken (book 4 false) slots (page ours (at 1 2) true []) ≡ record { number = 0; book = book 4 true }
-unfolding taken decided decidedBy accepted advanced takeNo takeNoAt firstNo sourceNo sameKey pageBad pairsOk pairOk idOk sizeOk ascends follows pagePairs lastKey
+unfolding taken decided accepted advanced takeNo takeNoAt sourceNo first given answer sameKey pageBad pairsOk pairOk idOk sizeOk ascends follows pagePairs lastKey
 full = refl

@@ -2,18 +2,21 @@
 -- Assumes nothing.
 use mathlib.Core.Path.{_≡_, refl, sym, _∙_}
 use mathlib.Core.List.{List}
-use Prim.Native.Nat.{ℕ, zero, suc}
+use Prim.Native.Nat.{ℕ}
 use lib.ListN.{length, take}
-use Rattle.list.specs.declared.Key.{Key}
+use Rattle.words.proofs.FirstLaws.{answer-number}
 use Rattle.list.specs.declared.Pair.{Pair}
 use Rattle.list.specs.declared.Source.{Source}
 use Rattle.list.specs.declared.Page.{Page}
+use Rattle.list.specs.Lent.{lentOf}
 use Rattle.book.specs.declared.Book.{Book}
 use Rattle.book.specs.declared.Begun.{Begun}
+use Rattle.book.specs.declared.Begun.the-variants as begun
+use Rattle.book.specs.declared.Next.the-variants as next
 use Rattle.book.specs.declared.Asked.{Asked}
 use Rattle.book.specs.declared.Taken.{Taken}
 use Rattle.book.specs.declared.TakenArray.{TakenArray}
-use Rattle.book.specs.Rules.{beginNo, begunNo, begunBy, begunBook, begunFor, lastKey, nextNo, askedNo, nextBy, askedAt, asked, taken, takenSlots, lentOf, takenArray}
+use Rattle.book.specs.Rules.{beginNo, begunNo, begunBook, begunFor, lastKey, nextNo, askedNo, askedAt, asked, taken, takenSlots, takenArray}
 
 pub begin-once : (s : Source) (r r′ : Begun) → r ≡ begunFor s → r′ ≡ begunFor s → r ≡ r′
 begin-once s r r′ x y = x ∙ sym y
@@ -25,7 +28,7 @@ pub take-once : (b : Book) (s : List Pair) (g : Page) (r r′ : Taken) (t t′ :
     → (r ≡ taken b s g) × (t ≡ takenSlots b s g) → (r′ ≡ taken b s g) × (t′ ≡ takenSlots b s g) → (r ≡ r′) × (t ≡ t′)
 take-once b s g r r′ t t′ x y = (x .0 ∙ sym (y .0), x .1 ∙ sym (y .1))
 
-pub next-array-once : (s : List Pair) (len : ℕ) (b : Book) (r r′ : Asked) → r ≡ asked b (take (lentOf len) s) → r′ ≡ asked b (take (lentOf len) s) → r ≡ r′
+pub next-array-once : (s : List Pair) (len : ℕ) (b : Book) (r r′ : Asked) → r ≡ asked b (take (lentOf 64 len) s) → r′ ≡ asked b (take (lentOf 64 len) s) → r ≡ r′
 next-array-once s len b r r′ x y = x ∙ sym y
 
 pub take-array-once : (s : List Pair) (len : ℕ) (b : Book) (g : Page) (r r′ : TakenArray) → r ≡ takenArray s len b g → r′ ≡ takenArray s len b g → r ≡ r′
@@ -33,23 +36,13 @@ take-array-once s len b g r r′ x y = x ∙ sym y
 
 -- ---- the number of each answer
 
-by-begun : (n : ℕ) (b : Book) → begunNo (begunBy n b) ≡ n
-unfolding begunNo begunBy
-by-begun zero b = refl
-by-begun (suc n) b = refl
-
 pub begin-no : (s : Source) → begunNo (begunFor s) ≡ beginNo s
-unfolding begunFor
-begin-no s = by-begun (beginNo s) (begunBook s)
-
-by-next : (n : ℕ) (k : Key) → askedNo (nextBy n k) ≡ n
-unfolding askedNo nextBy
-by-next zero k = refl
-by-next (suc n) k = refl
+unfolding begunFor begunNo
+begin-no s = answer-number (begun.Open (begunBook s)) begun.Refused begunNo refl (λ k. refl) (beginNo s)
 
 pub next-no : (b : Book) (s : List Pair) → askedNo (asked b s .next) ≡ nextNo b (length s)
-unfolding asked askedAt
-next-no b s = by-next (nextNo b (length s)) (lastKey (b .held) s)
+unfolding asked askedAt askedNo
+next-no b s = answer-number (next.After (lastKey (b .held) s)) next.Refused askedNo refl (λ k. refl) (nextNo b (length s))
 
 -- asking hands the state back
 pub asked-book : (b : Book) (s : List Pair) → asked b s .book ≡ b

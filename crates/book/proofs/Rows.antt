@@ -16,7 +16,8 @@ use denote.Triple.Statement.{Contract}
 use denote.Triple.Clauses.{ensured, lasts}
 use denote.Triple.Spec.{tripleOf}
 use Rattle.book.specs.declared.Book.{Book}
-use Rattle.book.specs.Rules.{lastSlot, lentOf}
+use Rattle.list.specs.Lent.{lentOf}
+use Rattle.book.specs.Rules.{lastSlot}
 use Rattle.book.proofs.Book as B
 use Rattle.book.proofs.Book.Laws as B′
 use Rattle.book.proofs.last_slot as slotting
@@ -35,5 +36,5 @@ module _ {M : Type 1} (𝓤 : URA M) (H : Heap 𝓤) (A : Atoms 𝓤) (mem : Mem
   abbrev pub Lent : Contract 𝓤
   Lent = tripleOf 𝓤 H A lending.signature (lending.spec 𝓤 H A mem run)
 
-  pub lent-said : (len r : ℕ) → ent 𝓤 (ensured 𝓤 H A lending.ended (lending.clauses 𝓤 H A mem run) tt (len, tt) tt r) (fact 𝓤 (r ≡ lentOf len))
-  lent-said len r = exE 𝓤 _ (λ ws. snd∗ 𝓤 (sem 𝓤 H A (lasts lending.ended tt (len, tt) ws)) (fact 𝓤 (r ≡ lentOf len)))
+  pub lent-said : (len r : ℕ) → ent 𝓤 (ensured 𝓤 H A lending.ended (lending.clauses 𝓤 H A mem run) tt (len, tt) tt r) (fact 𝓤 (r ≡ lentOf 64 len))
+  lent-said len r = exE 𝓤 _ (λ ws. snd∗ 𝓤 (sem 𝓤 H A (lasts lending.ended tt (len, tt) ws)) (fact 𝓤 (r ≡ lentOf 64 len)))

@@ -14,6 +14,8 @@ use borrow.Author.Tests.{leb-true, ltb-true, ltb-false, le-ltb, ne-eqb, eqb-true
 use Rattle.integers.proofs.Bools.{decide, and-left, and-right, and-both, or-both-false}
 use Rattle.plane.specs.Point.{Point}
 use Rattle.words.specs.Range.{editionOk, idOk, sizeOk}
+use Rattle.words.specs.First.{answer}
+use Rattle.words.proofs.FirstLaws.{none-applies, given-failed, given-held}
 use Rattle.list.specs.declared.Key.{Key}
 use Rattle.list.specs.declared.Pair.{Pair}
 use Rattle.list.specs.declared.Source.{Source}
@@ -30,9 +32,9 @@ use Rattle.list.proofs.ThresholdLaws.{threshold-in, threshold-ascends}
 use Rattle.list.proofs.SelfLaws.{self-ascends, self-ids, self-sizes}
 use Rattle.book.specs.declared.Book.{Book}
 use Rattle.book.specs.declared.Begun.the-variants as begun
-use Rattle.book.specs.Rules.{oneSheet, ownWithT, beginNo, begunBy, begunBook, begunFor, lastKey, pairOk, pairsOk, pageMost, pageBad, takeNo, advanced, taken, takenSlots}
+use Rattle.book.specs.Rules.{oneSheet, ownWithT, beginNo, begunBook, begunFor, lastKey, pairOk, pairsOk, pageMost, pageBad, takeNo, advanced, taken, takenSlots}
 use Rattle.book.specs.World.{World, listOf, Honest, Reached, began, took, lent, ownPage, served}
-use Rattle.book.proofs.TakeLaws.{no-cond, Passed, passed, taken-book, taken-slots, refused-book, refused-slots, or-zero, no-refusal, same-length, closed-no, same-book-source}
+use Rattle.book.proofs.TakeLaws.{Passed, passed, taken-book, taken-slots, refused-book, refused-slots, or-zero, no-refusal, same-length, closed-no, same-book-source}
 use Rattle.book.proofs.SliceLaws.{last-held}
 
 -- ---- the ids and sizes of a list
@@ -223,21 +225,15 @@ module _ (l : List Pair) (asc : ascends start l ≡ true) where
 
 -- ---- the story of a book
 
--- a book that `begin` gives
-by-begun : (n : ℕ) (b c : Book) → begunBy n b ≡ begun.Open c → b ≡ c
-unfolding begunBy
-by-begun zero b c e = cc
+-- a book that `begin` gives was not refused
+by-begun : (n : ℕ) (b c : Book) → answer n (begun.Open b) begun.Refused ≡ begun.Open c → (n ≡ 0) × (b ≡ c)
+unfolding answer
+by-begun zero b c e = (refl, cc)
 by-begun (suc n) b c e = let z : _≡_ {A = ℕ} 0 1 = cc in absurd (omega arith)
 
 begun-is : (s : Source) (b : Book) → begunFor s ≡ begun.Open b → begunBook s ≡ b
 unfolding begunFor
-begun-is s b e = by-begun (beginNo s) (begunBook s) b e
-
--- .. was not refused
-open-no : (n : ℕ) (b c : Book) → begunBy n b ≡ begun.Open c → n ≡ 0
-unfolding begunBy
-open-no zero b c e = refl
-open-no (suc n) b c e = let z : _≡_ {A = ℕ} 0 1 = cc in absurd (omega arith)
+begun-is s b e = by-begun (beginNo s) (begunBook s) b e .1
 
 -- what a book can be begun for: a t up to 1,000, and a self join only of one edition and with no t
 pub record Fair (s : Source) : Type 0 where
@@ -249,17 +245,12 @@ begun-in : (s : Source) (b : Book) → begunFor s ≡ begun.Open b → Fair s
 unfolding begunFor beginNo thresholdNo
 begun-in s b e =
     let both = editionOk (s .«p_edition») && editionOk (s .«q_edition») in
-    let e1 = no-cond (not (both && oneSheet s)) 3 _ 0 (λ z. omega arith) (open-no _ (begunBook s) b e) in
-    let e2 = no-cond (ownWithT s) 21 _ 0 (λ z. omega arith) (e1 .1) in
+    let z = none-applies _ .0 (by-begun _ (begunBook s) b e .0) in
     record {
-      t-most = most (leb (s .threshold) lastThreshold) refl (e2 .1);
-      one-edition = λ o. eqb-true (s .«p_edition») (s .«q_edition») (sym (ap (λ (x : Bool). not x || eqb (s .«p_edition») (s .«q_edition»)) o) ∙ and-right both (oneSheet s) (not-false (both && oneSheet s) (e1 .0)));
-      no-t = λ o. eqb-true (s .threshold) 0 (not-false (eqb (s .threshold) 0) (sym (ap (λ (x : Bool). x && not (eqb (s .threshold) 0)) o) ∙ e2 .0));
+      t-most = leb-true (s .threshold) lastThreshold (given-held (leb (s .threshold) lastThreshold) 20 (z 2));
+      one-edition = λ o. eqb-true (s .«p_edition») (s .«q_edition») (sym (ap (λ (x : Bool). not x || eqb (s .«p_edition») (s .«q_edition»)) o) ∙ and-right both (oneSheet s) (given-held (both && oneSheet s) 2 (z 0)));
+      no-t = λ o. eqb-true (s .threshold) 0 (not-false (eqb (s .threshold) 0) (sym (ap (λ (x : Bool). x && not (eqb (s .threshold) 0)) o) ∙ given-failed (ownWithT s) 20 (z 1)));
     }
-  where
-    most : (t : Bool) → leb (s .threshold) lastThreshold ≡ t → _≡_ {A = ℕ} (cond t 0 21) 0 → s .threshold ≤ lastThreshold
-    most true d z = leb-true (s .threshold) lastThreshold d
-    most false d z = absurd (omega arith)
 
 module _ (w : World) where
   list-asc : (s : Source) → ascends start (listOf w s) ≡ true

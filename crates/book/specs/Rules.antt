@@ -1,17 +1,19 @@
 -- The order book: begin, the next key, and what taking a page decides, stores and hands back.
-use mathlib.Core.Bool.{Bool, true, false, cond, not, _&&_, _||_}
+use mathlib.Core.Bool.{Bool, true, false, not, _&&_, _||_}
 use mathlib.Core.List.{List, [], _∷_, _++_}
 use Prim.Native.Nat.{ℕ, zero, suc, _+_, _-_}
 use lib.Dec.{eqb, ltb}
 use lib.Seq.{paste}
 use lib.ListN.{length, take, drop, getD}
 use Rattle.words.specs.Range.{idOk, editionOk, sizeOk}
+use Rattle.words.specs.First.{given, first, answer}
 use Rattle.list.specs.declared.Key.{Key}
 use Rattle.list.specs.declared.Pair.{Pair}
 use Rattle.list.specs.declared.Source.{Source}
 use Rattle.list.specs.declared.Page.{Page}
 use Rattle.list.specs.Pairs.{start, none, keyOf, ascends}
 use Rattle.list.specs.Pages.{thresholdNo, sourceNo, pagePairs}
+use Rattle.list.specs.Lent.{lentOf}
 use Rattle.book.specs.declared.Book.{Book}
 use Rattle.book.specs.declared.Begun.{Begun}
 use Rattle.book.specs.declared.Begun.the-variants as begun
@@ -21,11 +23,6 @@ use Rattle.book.specs.declared.Asked.{Asked}
 use Rattle.book.specs.declared.Taken.{Taken}
 use Rattle.book.specs.declared.Decided.{Decided}
 use Rattle.book.specs.declared.TakenArray.{TakenArray}
-
--- "The first that applies, in the order listed": a number, or what comes after it where it is 0
-unfoldable pub firstNo : ℕ → ℕ → ℕ
-firstNo zero rest = rest
-firstNo (suc n) rest = suc n
 
 -- ---- begin
 
@@ -40,9 +37,11 @@ ownWithT s = s .own && not (eqb (s .threshold) 0)
 -- 3: an edition out of range, or a self join of two editions; then 21 "t outside 0 to 1,000 [..] after [..] 3 for begin", and for a self join "21 with a t"
 unfoldable pub beginNo : Source → ℕ
 beginNo s =
-    cond (not (editionOk (s .«p_edition») && editionOk (s .«q_edition») && oneSheet s)) 3
-    (cond (ownWithT s) 21
-    (thresholdNo (s .threshold)))
+    first
+    (given (not (editionOk (s .«p_edition») && editionOk (s .«q_edition») && oneSheet s)) 3
+    ∷ given (ownWithT s) 21
+    ∷ thresholdNo (s .threshold)
+    ∷ [])
 
 -- "A book is begun for two editions with nothing held, open, key (0, 0)." "Pages and books now carry t" and "say their kind": it is begun for these too.
 unfoldable pub begunBook : Source → Book
@@ -53,14 +52,9 @@ unfoldable pub begunNo : Begun → ℕ
 begunNo (begun.Open b) = 0
 begunNo (begun.Refused n) = n
 
--- the answer by its number: 0 goes with the book, "Every refusal gives only its number"
-unfoldable pub begunBy : ℕ → Book → Begun
-begunBy zero b = begun.Open b
-begunBy (suc n) b = begun.Refused (suc n)
-
--- the answer of begin
+-- the answer of begin: 0 goes with the book, "Every refusal gives only its number"
 unfoldable pub begunFor : Source → Begun
-begunFor s = begunBy (beginNo s) (begunBook s)
+begunFor s = answer (beginNo s) (begun.Open (begunBook s)) begun.Refused
 
 -- ---- the next key
 
@@ -76,21 +70,16 @@ lastSlot (suc n) len = n
 
 -- 11: held exceeds the slice's length. "Asking the next key refuses only by 11."
 unfoldable pub nextNo : Book → ℕ → ℕ
-nextNo b len = cond (ltb len (b .held)) 11 0
+nextNo b len = given (ltb len (b .held)) 11
 
 -- the document's number for each case of the answer
 unfoldable pub askedNo : Next → ℕ
 askedNo (next.After k) = 0
 askedNo (next.Refused n) = n
 
--- the answer by its number: 0 goes with the key
-unfoldable pub nextBy : ℕ → Key → Next
-nextBy zero k = next.After k
-nextBy (suc n) k = next.Refused (suc n)
-
 -- the answer of next key, for a slice of `len` slots of which the last held one has the key k
 unfoldable pub askedAt : Book → ℕ → Key → Asked
-askedAt b len k = record { next = nextBy (nextNo b len) k; book = b }
+askedAt b len k = record { next = answer (nextNo b len) (next.After k) next.Refused; book = b }
 
 -- the answer of next key
 unfoldable pub asked : Book → List Pair → Asked
@@ -124,13 +113,14 @@ pageBad g =
 -- slots left
 unfoldable pub takeNoAt : Book → ℕ → Key → Page → ℕ
 takeNoAt b len k g =
-    cond (ltb len (b .held)) 11
-    (cond (b .closed) 12
-    (firstNo (sourceNo (b .source) (g .source))
-    (cond (not (sameKey (g .key) k)) 14
-    (cond (pageBad g) 15
-    (cond (ltb (len - b .held) (g .count)) 16
-    0)))))
+    first
+    (given (ltb len (b .held)) 11
+    ∷ given (b .closed) 12
+    ∷ sourceNo (b .source) (g .source)
+    ∷ given (not (sameKey (g .key) k)) 14
+    ∷ given (pageBad g) 15
+    ∷ given (ltb (len - b .held) (g .count)) 16
+    ∷ [])
 
 -- "Taking a page appends its pairs and closes the book if the end mark is set."
 unfoldable pub advanced : Book → Page → Book
@@ -141,23 +131,18 @@ unfoldable pub accepted : Book → Page → Decided
 accepted b g = record { n = g .count; taken = record { number = 0; book = advanced b g } }
 
 -- a refused one appends nothing: it "leaves lent memory and book state as they stood"
-unfoldable pub refused : ℕ → Book → Decided
-refused m b = record { n = 0; taken = record { number = m; book = b } }
-
--- what is decided, by the number
-unfoldable pub decidedBy : ℕ → Book → Page → Decided
-decidedBy zero b g = accepted b g
-decidedBy (suc m) b g = refused (suc m) b
+unfoldable pub refused : Book → ℕ → Decided
+refused b m = record { n = 0; taken = record { number = m; book = b } }
 
 unfoldable pub decidedAt : Book → ℕ → Key → Page → Decided
-decidedAt b len k g = decidedBy (takeNoAt b len k g) b g
+decidedAt b len k g = answer (takeNoAt b len k g) (accepted b g) (refused b)
 
 -- the number of refusal of a page, of any state and slice
 unfoldable pub takeNo : Book → List Pair → Page → ℕ
 takeNo b slots g = takeNoAt b (length slots) (lastKey (b .held) slots) g
 
 unfoldable pub decided : Book → List Pair → Page → Decided
-decided b slots g = decidedBy (takeNo b slots g) b g
+decided b slots g = answer (takeNo b slots g) (accepted b g) (refused b)
 
 -- the answer of take
 unfoldable pub taken : Book → List Pair → Page → Taken
@@ -169,14 +154,10 @@ takenSlots b slots g = paste slots (b .held) (g .pairs) (decided b slots g .n)
 
 -- ---- a part of an array, lent
 
--- how many of 64 slots are lent: `len`, or all where it exceeds 64
-unfoldable pub lentOf : ℕ → ℕ
-lentOf len = cond (ltb 64 len) 64 len
-
 abbrev pub withSlots : List Pair → Taken → TakenArray
 withSlots slots t = record { slots = slots; taken = t }
 
--- `take` on the first so many slots of an array: the others are as they were
+-- `take` on the first so many of 64 slots: the others are as they were
 unfoldable pub takenArray : List Pair → ℕ → Book → Page → TakenArray
 takenArray slots len b g =
-    withSlots (takenSlots b (take (lentOf len) slots) g ++ drop (lentOf len) slots) (taken b (take (lentOf len) slots) g)
+    withSlots (takenSlots b (take (lentOf 64 len) slots) g ++ drop (lentOf 64 len) slots) (taken b (take (lentOf 64 len) slots) g)

@@ -8,7 +8,8 @@ ghost use mathlib.Core.Bool.{_&&_};
 ghost use Prim.Native.Nat.{_≤_, _<_};
 ghost use lib.ListN.{getD, take as taking};
 ghost use Rattle.list.specs.Pairs.{none, keyOf, ascends};
-ghost use Rattle.book.specs.Rules.{begunFor, askedAt, asked, lastSlot, pairOk, pairsOk, sameKey, pageBad, takeNoAt, decidedAt, taken, takenSlots, lentOf, withSlots, takenArray};
+ghost use Rattle.list.specs.Lent.{lentOf};
+ghost use Rattle.book.specs.Rules.{begunFor, askedAt, asked, lastSlot, pairOk, pairsOk, sameKey, pageBad, takeNoAt, decidedAt, taken, takenSlots, withSlots, takenArray};
 
 // How many pairs are held, whether all are, and of what list.
 #[repr(C)]
@@ -262,12 +263,9 @@ pub struct TakenArray {
 
 // How many of 64 slots are lent.
 fn lent_of(len: usize) -> usize
-    ensures { λ r. ⌜ r ≡ lentOf len ⌝ }
+    ensures { λ r. ⌜ r ≡ lentOf 64 len ⌝ }
 {
-    if 64 < len {
-        return 64;
-    }
-    len
+    list::lent_of(64, len)
 }
 
 fn with_slots(slots: [Pair; 64], taken: Taken) -> TakenArray
@@ -291,7 +289,7 @@ pub fn take_array(slots: [Pair; 64], len: usize, b: Book, page: Page) -> TakenAr
 
 // `Book::next_key` on the first `len` of 64 slots, which are lent for the call; on all 64 where `len` exceeds that.
 pub fn next_array(slots: [Pair; 64], len: usize, b: Book) -> Asked
-    ensures { λ r. ⌜ r ≡ asked b (taking (lentOf len) slots) ⌝ }
+    ensures { λ r. ⌜ r ≡ asked b (taking (lentOf 64 len) slots) ⌝ }
 {
     let n = lent_of(len);
     b.next_key(&slots[..n])

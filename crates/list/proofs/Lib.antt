@@ -9,6 +9,7 @@
 --     Examples      the document's listing and its pages, by computation
 --     PairRows      pairs and pages as rows and as machine values, for walks by hand
 --     LocalRow      a local array lent as a slice
+--     LentLaws      how many of its slots are lent
 pub mod Order
 pub mod PageLaws
 pub mod SourceLaws
@@ -19,3 +20,4 @@ pub mod TermsLaws
 pub mod Examples
 pub mod PairRows
 pub mod LocalRow
+pub mod LentLaws

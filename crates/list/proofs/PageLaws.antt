@@ -1,23 +1,36 @@
 -- The pages of a list that ascends: what a page shows, its end mark, and that following the pages gives the list.
 -- Assumes nothing.
 use mathlib.Core.Path.{_≡_, refl, sym, ap, subst, _∙_}
-use mathlib.Core.Bool.{Bool, true, false, cond, not}
+use mathlib.Core.Bool.{Bool, true, false, cond, not, _&&_}
 use mathlib.Core.Logic.{⊎-elim}
 use mathlib.Core.List.{List, [], _∷_, _++_, map, append-nil, List·Memᴰ, List·Memᴰ·head, List·Memᴰ·tail, List·Memᴰ·cases-cons, Memᴰ·append-left}
 use Prim.Native.Nat.{ℕ, zero, suc, _-_, _≤_, _<_}
 use native.Mathlib.Omega.{arith}
 use lib.ListN.{length, take, drop, replicate, take-append-drop, length-append, length-take, length-drop, length-map, length-replicate}
 use lib.Seq.{take-append-seam, take-all}
-use lib.Dec.{ltb}
-use borrow.Author.Tests.{ltb-true, ltb-false, lt-ltb, le-ltb, not-false}
-use Rattle.integers.proofs.Bools.{decide}
+use lib.Dec.{ltb, leb}
+use borrow.Author.Tests.{ltb-true, ltb-false, lt-ltb, le-ltb, leb-true, le-leb, not-false}
+use Rattle.integers.proofs.Bools.{decide, and-left, and-right}
+use Rattle.words.specs.First.{given}
+use Rattle.words.proofs.FirstLaws.{given-held}
 use Rattle.list.specs.declared.Key.{Key}
 use Rattle.list.specs.declared.Pair.{Pair}
 use Rattle.list.specs.declared.Source.{Source}
 use Rattle.list.specs.declared.Page.{Page}
 use Rattle.list.specs.Pairs.{start, none, keyOf, follows, ascends, after, lastOr, isNone}
-use Rattle.list.specs.Pages.{padded, shown, pageOf, pagePairs, followed}
+use Rattle.list.specs.Pages.{sizeNo, padded, shown, pageOf, pagePairs, followed}
 use Rattle.list.proofs.Order.{asc-left, last-from, last-holds, after-asc, after-all, after-last, after-after}
+
+-- a size that is not refused is 1 to 16, and no such size is
+pub size-fits : (size : ℕ) → sizeNo size ≡ 0 → (1 ≤ size) × (size ≤ 16)
+unfolding sizeNo
+size-fits size e =
+    let f = given-held (leb 1 size && leb size 16) 9 e in
+    (leb-true 1 size (and-left (leb 1 size) (leb size 16) f), leb-true size 16 (and-right (leb 1 size) (leb size 16) f))
+
+pub size-taken : (size : ℕ) → 1 ≤ size → size ≤ 16 → sizeNo size ≡ 0
+unfolding sizeNo given
+size-taken size a b = rw (le-leb 1 size a, le-leb size 16 b)
 
 -- what follows the last pair shown is what was not shown
 pub after-shown : (k key : Key) (l : List Pair) (n : ℕ) → ascends k l ≡ true → after (lastOr key (shown l key n)) l ≡ drop n (after key l)

@@ -1,31 +1,15 @@
 -- What list a page or a book is of: two sources give the number 0 exactly if they are the same, and 22, 13 or 31 otherwise.
 -- Assumes nothing.
 use mathlib.Core.Path.{_≡_, refl, sym, ap, _∙_}
-use mathlib.Core.Bool.{Bool, true, false, cond, not, _&&_, _||_}
-use mathlib.Core.Logic.{_⊎_, inl, inr}
+use mathlib.Core.Bool.{Bool, true, false, not, _&&_, _||_}
 use Prim.Native.Nat.{ℕ}
-use native.Mathlib.Omega.{arith}
 use lib.Dec.{eqb}
 use borrow.Author.Tests.{eqb-true, eq-eqb}
 use Rattle.integers.proofs.Bools.{and-left, and-right, and-both}
+use Rattle.words.specs.First.{given, first}
+use Rattle.words.proofs.FirstLaws.{none-applies, first-passes, first-skips, given-held, given-other}
 use Rattle.list.specs.declared.Source.{Source}
 use Rattle.list.specs.Pages.{sameKind, sourceNo}
-
--- the number by its three tests
-abbrev by : Bool → Bool → Bool → ℕ
-by k e t = cond (not k) 22 (cond (not e) 13 (cond (not t) 31 0))
-
-tested : (k e t : Bool) → by k e t ≡ 0 → (k ≡ true) × (e ≡ true) × (t ≡ true)
-tested true true true z = (refl, refl, refl)
-tested true true false z = absurd (omega arith)
-tested true false t z = absurd (omega arith)
-tested false e t z = absurd (omega arith)
-
-numbers : (k e t : Bool) → (by k e t ≡ 0) ⊎ ((by k e t ≡ 22) ⊎ ((by k e t ≡ 13) ⊎ (by k e t ≡ 31)))
-numbers true true true = inl refl
-numbers true true false = inr (inr (inr refl))
-numbers true false t = inr (inr (inl refl))
-numbers false e t = inr (inl refl)
 
 -- one kind
 kind-is : (a b : Bool) → ((a && b) || (not a && not b)) ≡ true → a ≡ b
@@ -46,25 +30,29 @@ unfolding sourceNo
 same-source a b e =
     let p = eqb (a .«p_edition») (b .«p_edition») in
     let q = eqb (a .«q_edition») (b .«q_edition») in
-    let z = tested (sameKind a b) (p && q) (eqb (a .terms .threshold) (b .terms .threshold)) e in
-    let k = kind-is (a .terms .own) (b .terms .own) (z .0) in
-    let x = eqb-true (a .«p_edition») (b .«p_edition») (and-left p q (z .1)) in
-    let y = eqb-true (a .«q_edition») (b .«q_edition») (and-right p q (z .1)) in
-    let t = eqb-true (a .terms .threshold) (b .terms .threshold) (z .2) in
+    let z = none-applies _ .0 e in
+    let k = kind-is (a .terms .own) (b .terms .own) (given-held (sameKind a b) 21 (z 0)) in
+    let both = given-held (p && q) 12 (z 1) in
+    let x = eqb-true (a .«p_edition») (b .«p_edition») (and-left p q both) in
+    let y = eqb-true (a .«q_edition») (b .«q_edition») (and-right p q both) in
+    let t = eqb-true (a .terms .threshold) (b .terms .threshold) (given-held (eqb (a .terms .threshold) (b .terms .threshold)) 30 (z 2)) in
     λ i. record { «p_edition» = x i; «q_edition» = y i; terms = record { threshold = t i; own = k i } }
 
 pub source-same : (a b : Source) → a ≡ b → sourceNo a b ≡ 0
-unfolding sourceNo
+unfolding sourceNo first given
 source-same a b e =
     let p = eqb (a .«p_edition») (b .«p_edition») in
     let q = eqb (a .«q_edition») (b .«q_edition») in
     let kind : sameKind a b ≡ true = is-kind (a .terms .own) (b .terms .own) (ap (λ (v : Source). v .terms .own) e) in
     let both : (p && q) ≡ true = and-both p q (eq-eqb (a .«p_edition») (b .«p_edition») (ap (λ (v : Source). v .«p_edition») e)) (eq-eqb (a .«q_edition») (b .«q_edition») (ap (λ (v : Source). v .«q_edition») e)) in
     let same : eqb (a .terms .threshold) (b .terms .threshold) ≡ true = eq-eqb (a .terms .threshold) (b .terms .threshold) (ap (λ (v : Source). v .terms .threshold) e) in
-    ap (λ (x : Bool). by x (p && q) (eqb (a .terms .threshold) (b .terms .threshold))) kind
-    ∙ ap (λ (x : Bool). by true x (eqb (a .terms .threshold) (b .terms .threshold))) both
-    ∙ ap (by true true) same
+    rw (kind, both, same)
 
-pub source-numbers : (a b : Source) → (sourceNo a b ≡ 0) ⊎ ((sourceNo a b ≡ 22) ⊎ ((sourceNo a b ≡ 13) ⊎ (sourceNo a b ≡ 31)))
+-- the only other numbers are 22, 13 and 31
+pub source-other : (a b : Source) (x : ℕ) → (22 ≡ x → ⊥) → (13 ≡ x → ⊥) → (31 ≡ x → ⊥) → sourceNo a b ≡ x → sourceNo a b ≡ 0
 unfolding sourceNo
-source-numbers a b = numbers (sameKind a b) (eqb (a .«p_edition») (b .«p_edition») && eqb (a .«q_edition») (b .«q_edition»)) (eqb (a .terms .threshold) (b .terms .threshold))
+source-other a b x i j k e =
+    let f = first-skips _ _ x (given-other _ 22 x i) e in
+    let g = first-skips _ _ x (given-other _ 13 x j) (f .1) in
+    let h = first-skips _ _ x (given-other _ 31 x k) (g .1) in
+    first-passes _ _ (f .0) ∙ first-passes _ _ (g .0) ∙ first-passes _ _ (h .0) ∙ (unfold first in refl)

@@ -1,9 +1,10 @@
 -- The pages of a list.
 use mathlib.Core.Bool.{Bool, cond, not, _&&_, _||_}
-use mathlib.Core.List.{List, [], _++_}
+use mathlib.Core.List.{List, [], _∷_, _++_}
 use Prim.Native.Nat.{ℕ, zero, suc, _-_}
 use lib.Dec.{eqb, leb}
 use lib.ListN.{length, take, replicate}
+use Rattle.words.specs.First.{given, first}
 use Rattle.list.specs.declared.Key.{Key}
 use Rattle.list.specs.declared.Pair.{Pair}
 use Rattle.list.specs.declared.Source.{Source}
@@ -15,7 +16,11 @@ abbrev pub lastThreshold : ℕ
 lastThreshold = 1000
 
 unfoldable pub thresholdNo : ℕ → ℕ
-thresholdNo t = cond (leb t lastThreshold) 0 21
+thresholdNo t = given (not (leb t lastThreshold)) 21
+
+-- 10: "size out of range", "a size 1 to 16"
+unfoldable pub sizeNo : ℕ → ℕ
+sizeNo size = given (not (leb 1 size && leb size 16)) 10
 
 -- both are of self joins, or neither is
 abbrev pub sameKind : Source → Source → Bool
@@ -24,8 +29,11 @@ sameKind a b = (a .terms .own && b .terms .own) || (not (a .terms .own) && not (
 -- 22 "wrong kind", then 13 "page of other editions", then 31 "page of another t": the number for a page of `b` and a book of `a`, 0 where they are of one list
 unfoldable pub sourceNo : Source → Source → ℕ
 sourceNo a b =
-    cond (not (sameKind a b)) 22
-    (cond (not (eqb (a .«p_edition») (b .«p_edition») && eqb (a .«q_edition») (b .«q_edition»))) 13 (cond (not (eqb (a .terms .threshold) (b .terms .threshold))) 31 0))
+    first
+    (given (not (sameKind a b)) 22
+    ∷ given (not (eqb (a .«p_edition») (b .«p_edition») && eqb (a .«q_edition») (b .«q_edition»))) 13
+    ∷ given (not (eqb (a .terms .threshold) (b .terms .threshold))) 31
+    ∷ [])
 
 -- sixteen pairs, the unused ones three zeros
 unfoldable pub padded : List Pair → List Pair

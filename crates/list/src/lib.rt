@@ -1,7 +1,8 @@
 // The list of ring pairs and its pages, with no tree in sight: keys, pairs, what list a page is of, and the page.
 ghost use mathlib.Core.Path.{_≡_};
 ghost use Rattle.list.specs.Pairs.{keyOf, follows};
-ghost use Rattle.list.specs.Pages.{thresholdNo, sourceNo};
+ghost use Rattle.list.specs.Pages.{thresholdNo, sizeNo, sourceNo};
+ghost use Rattle.list.specs.Lent.{lentOf};
 
 // A place in the list: a chamber's id, then a pump house's.
 #[repr(C)]
@@ -66,6 +67,26 @@ pub fn threshold_no(t: u32) -> u32
         return 0;
     }
     21
+}
+
+// The number of refusal for a size, 0 where it is 1 to 16.
+pub fn size_no(size: usize) -> u32
+    ensures { λ r. ⌜ r ≡ sizeNo size ⌝ }
+{
+    if !((1 <= size) & (size <= 16)) {
+        return 10;
+    }
+    0
+}
+
+// How many of so many slots are lent: `len`, or all where it exceeds them.
+pub fn lent_of(slots: usize, len: usize) -> usize
+    ensures { λ r. ⌜ r ≡ lentOf slots len ⌝ }
+{
+    if slots < len {
+        return slots;
+    }
+    len
 }
 
 // The number of refusal for a page of `b` handed to a book of `a`, 0 where they are of one list.

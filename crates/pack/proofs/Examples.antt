@@ -6,6 +6,7 @@ use lib.IntN.{ℤ, pos, negsuc}
 use Rattle.words.specs.Word.{eqZ, within, before, num, isBelow, minZ, maxZ}
 use Rattle.words.specs.All.{allB, firstB, tab}
 use Rattle.words.specs.Range.{idWord, coordWord, editionOk}
+use Rattle.words.specs.First.{given, first}
 use Rattle.sheet.specs.Limits.{form1}
 use Rattle.sheet.specs.Layout.{rootWord}
 use Rattle.sheet.specs.Points.{fieldsOk, risesOk, pointOk, pointsOk}
@@ -47,5 +48,5 @@ numbers : (packNo form1 2 p o 7 23 ≡ 0)
     × (packNo form1 2 p (pos 1 ∷ pos 1 ∷ []) 7 0 ≡ 6)
     × (packNo form1 2 p (pos 0 ∷ negsuc 0 ∷ []) 7 0 ≡ 6)
     × (packNo form1 2 p o 7 24 ≡ 17)
-unfolding p o eqZ within before num isBelow allB firstB idWord coordWord editionOk form1 fieldsOk risesOk pointOk pointsOk up16 width ground above oneLeft nodesFrom nodesFor placeIn listOk orderListOk sheetSize shapeOk rangeOk packNo
+unfolding p o eqZ within before num isBelow allB firstB idWord coordWord editionOk form1 fieldsOk risesOk pointOk pointsOk up16 width ground above oneLeft nodesFrom nodesFor placeIn listOk orderListOk sheetSize shapeOk rangeOk packNo first given
 numbers = (refl, refl, refl, refl, refl, refl, refl)

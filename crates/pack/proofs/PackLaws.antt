@@ -1,7 +1,7 @@
 -- Laws of what `pack` answers.
 -- Assumes nothing.
-use mathlib.Core.Path.{_≡_, refl}
-use mathlib.Core.Bool.{Bool, true, false, cond, _&&_}
+use mathlib.Core.Path.{_≡_, refl, sym}
+use mathlib.Core.Bool.{true, false, _&&_}
 use mathlib.Core.List.{List}
 use Prim.Native.Nat.{ℕ, _+_, _*_, _/_, _%_, _≤_}
 use native.Mathlib.Omega.{arith}
@@ -11,6 +11,7 @@ use lib.ListN.{length}
 use borrow.Author.Tests.{eqb-true, eq-eqb, ne-eqb, leb-true}
 use Rattle.integers.proofs.Bools.{and-left, and-right, and-both, test-iff}
 use Rattle.words.specs.Range.{editionOk}
+use Rattle.words.proofs.FirstLaws.{none-applies, given-held, answer-given, answer-refused}
 use Rattle.sheet.specs.declared.Limits.{Limits}
 use Rattle.sheet.specs.Points.{pointsOk}
 use Rattle.pack.specs.Tree.{nodesFor}
@@ -68,22 +69,20 @@ pub record Packs (lim : Limits) (n : ℕ) (p o : List ℤ) (ed size : ℕ) : Typ
 pub pack-facts : (lim : Limits) (n : ℕ) (p o : List ℤ) (ed size : ℕ) → packNo lim n p o ed size ≡ 0 → Packs lim n p o ed size
 unfolding packNo
 pack-facts lim n p o ed size e =
-    let f = five (shapeOk n p o) (rangeOk lim n ed) (pointsOk lim p n) (orderListOk o n) (eqb size (sheetSize n)) e in
-    record { shaped = f .0; ranged = f .1; pointed = f .2; ordered = f .3; sized = eqb-true size (sheetSize n) (f .4) }
-  where
-    five : (a b c d s : Bool) → _≡_ {A = ℕ} (cond a (cond b (cond c (cond d (cond s 0 17) 6) 5) 3) 18) 0 → (a ≡ true) × (b ≡ true) × (c ≡ true) × (d ≡ true) × (s ≡ true)
-    five true true true true true e = (refl, refl, refl, refl, refl)
-    five true true true true false e = absurd (omega arith)
-    five true true true false s e = absurd (omega arith)
-    five true true false d s e = absurd (omega arith)
-    five true false c d s e = absurd (omega arith)
-    five false b c d s e = absurd (omega arith)
+    let z = none-applies _ .0 e in
+    record {
+      shaped = given-held (shapeOk n p o) 17 (z 0);
+      ranged = given-held (rangeOk lim n ed) 2 (z 1);
+      pointed = given-held (pointsOk lim p n) 4 (z 2);
+      ordered = given-held (orderListOk o n) 5 (z 3);
+      sized = eqb-true size (sheetSize n) (given-held (eqb size (sheetSize n)) 16 (z 4));
+    }
 
 module _ (lim : Limits) (n : ℕ) (p o : List ℤ) (ed : ℕ) (out : List ℤ) where
   pub out-refused : (packNo lim n p o ed (length out) ≡ 0 → ⊥) → out ≡ packOut lim n p o ed out
   unfolding packOut
-  out-refused h = rw (ne-eqb (packNo lim n p o ed (length out)) 0 h)
+  out-refused ne = sym (answer-refused _ (λ k. out) _ _ refl ne)
 
   pub out-packed : packNo lim n p o ed (length out) ≡ 0 → packed p o n ed ≡ packOut lim n p o ed out
   unfolding packOut
-  out-packed e = rw (eq-eqb (packNo lim n p o ed (length out)) 0 e)
+  out-packed e = sym (answer-given _ (λ k. out) _ e)

@@ -20,6 +20,7 @@ use Rattle.words.proofs.TabLaws.{tab-same}
 use Rattle.words.proofs.RangeLaws.{edition-pos}
 use Rattle.sheet.specs.declared.Limits.{Limits}
 use Rattle.sheet.specs.Limits.{form1}
+use Rattle.words.specs.First.{given, first}
 use Rattle.sheet.specs.Layout.{form, edition, mWord, nWord, root, span, points, nodes, rootWord, countsOk, layoutOk, trailerNo}
 use Rattle.sheet.specs.Points.{fieldsOk, risesOk, pointOk, pointsOk}
 use Rattle.sheet.specs.Places.{spotOf, pointOf, pointsOf}
@@ -104,7 +105,7 @@ module _ (p o : List ℤ) (n ed : ℕ) where
         (ap editionWord edition-is ∙ edition-pos ed ∙ ranged)
 
     trailer-right : trailerNo lim (packed p o n ed) ≡ 0
-    unfolding trailerNo
+    unfolding trailerNo first given
     trailer-right = rw (le-ltb (length (packed p o n ed)) 6 (omega (arith, packed-size p o n ed)), eq-eqZ _ _ form-is, counts-right, layout-right)
 
   points-right : (lim : Limits) → pointsOk lim p n ≡ true → pointsOk lim (packed p o n ed) n ≡ true
@@ -181,7 +182,7 @@ module _ (p o : List ℤ) (n ed : ℕ) where
 
   -- what the packer writes is opened
   pub packed-opens : (lim : Limits) → Roomy lim → n ≤ lim .points → editionOk ed ≡ true → pointsOk lim p n ≡ true → orderListOk o n ≡ true → openNo lim (packed p o n ed) ≡ 0
-  unfolding openNo bodyNo nodesOk
+  unfolding openNo bodyNo nodesOk first given
   packed-opens lim r h e f g =
       let le : n ≤ 4294967296 = omega (arith, r .low) in
       rw (trailer-right lim r h e, points-is, nodes-is, points-right lim f, order-right g, zero-right, table-right (packed p o n ed) n (packed-plan p o n ed) le, boxes-right g le)

@@ -1,11 +1,11 @@
 -- The filter walk's answers.
 -- Assumes nothing.
-use mathlib.Core.Path.{_≡_, ap, _∙_}
+use mathlib.Core.Path.{_≡_, sym, ap, _∙_}
 use mathlib.Core.List.{List}
 use Prim.Native.Nat.{ℕ, _<_, _≤_}
 use native.Mathlib.Omega.{arith}
 use lib.IntN.{ℤ}
-use borrow.Author.Tests.{eq-eqb, ne-eqb}
+use Rattle.words.proofs.FirstLaws.{first-last, answer-given, answer-refused}
 use Rattle.plane.specs.declared.Spot.{Spot}
 use Rattle.sheet.specs.Places.{spotOf}
 use Rattle.bits.specs.Set.{card}
@@ -18,22 +18,22 @@ use Rattle.ring.proofs.HeadLaws.{headed-both, sheets-stop, sheets-pass}
 
 pub filter-refused : (P Q : List ℤ) (j k : ℕ) → filterNo P Q j ≡ k → (k ≡ 0 → ⊥) → unfiltered k ≡ filtered P Q j
 unfolding filtered
-filter-refused P Q j k e ne = rw (e, ne-eqb k 0 ne)
+filter-refused P Q j k e ne = sym (answer-refused _ unfiltered _ k e ne)
 
 pub filter-given : (P Q : List ℤ) (j : ℕ) → filterNo P Q j ≡ 0 → filteredTo (filterKept 16 P (spotOf Q j)) ≡ filtered P Q j
 unfolding filtered
-filter-given P Q j e = rw (eq-eqb (filterNo P Q j) 0 e)
+filter-given P Q j e = sym (answer-given _ unfiltered _ e)
 
 -- from what the check found
 module _ (P Q : List ℤ) (j : ℕ) (h : Heads) (e : h ≡ headsOf P Q) where
   pub filter-sheets : (h .number ≡ 0 → ⊥) → unfiltered (h .number) ≡ filtered P Q j
   unfolding filterNo
-  filter-sheets ne = filter-refused P Q j (h .number) (sheets-stop P Q h (positionNo Q j) e ne) ne
+  filter-sheets ne = filter-refused P Q j (h .number) (sheets-stop P Q h _ e ne) ne
 
   module _ (z : h .number ≡ 0) where
     after : filterNo P Q j ≡ positionNo Q j
     unfolding filterNo
-    after = sheets-pass P Q h (positionNo Q j) e z
+    after = sheets-pass P Q h _ e z ∙ first-last _
 
     pub filter-past : h .nq ≤ j → unfiltered 9 ≡ filtered P Q j
     filter-past past =

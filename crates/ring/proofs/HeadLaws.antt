@@ -1,22 +1,20 @@
 -- What a check finds of one sheet, and of two: its number is the sheets', and with 0 the sheets open and the counts are theirs.
 -- Assumes nothing.
 use mathlib.Core.Path.{_≡_, refl, sym, ap, subst, _∙_}
-use mathlib.Core.Bool.{Bool, true, false, cond}
-use mathlib.Core.List.{List}
+use mathlib.Core.List.{List, [], _∷_}
 use Prim.Native.Nat.{ℕ, _≤_}
-use lib.Dec.{eqb}
 use lib.IntN.{ℤ}
 use lib.ListN.{length}
-use borrow.Author.Tests.{eq-eqb, ne-eqb, eqb-true}
+use Rattle.words.specs.First.{first}
+use Rattle.words.proofs.FirstLaws.{none-applies, first-passes, first-stops, first-last, first-front, answer-given, answer-refused, answer-number}
 use Rattle.sheet.specs.Layout.{points, nodes}
 use Rattle.sheet.specs.Limits.{form1}
-use Rattle.sheet.specs.Open.{Opens}
+use Rattle.sheet.specs.Open.{sheetNo, Opens}
 use Rattle.sheet.proofs.SheetLaws.{open-facts, open-trailer, form1-fair}
-use Rattle.ring.specs.Numbers.{first, sheetNo, sheetsNo}
+use Rattle.ring.specs.Numbers.{sheetsNo}
 use Rattle.ring.specs.Answers.{headOf, headsOf}
 use Rattle.ring.specs.declared.Head.{Head}
 use Rattle.ring.specs.declared.Heads.{Heads}
-use Rattle.ring.proofs.NumberLaws.{first-stops, first-passes, first-none}
 
 -- a sheet has its trailer
 pub long : (w : List ℤ) → sheetNo w ≡ 0 → 6 ≤ length w
@@ -36,19 +34,15 @@ shut k = record { number = k; len = 0; n = 0; m = 0 }
 -- the head of a sheet, and of words that are none
 pub head-found : (w : List ℤ) → sheetNo w ≡ 0 → found w ≡ headOf w
 unfolding headOf
-head-found w e = rw (eq-eqb (sheetNo w) 0 e)
+head-found w e = sym (answer-given (found w) shut _ e)
 
 pub head-shut : (w : List ℤ) (k : ℕ) → sheetNo w ≡ k → (k ≡ 0 → ⊥) → shut k ≡ headOf w
 unfolding headOf
-head-shut w k e ne = rw (e, ne-eqb k 0 ne)
+head-shut w k e ne = sym (answer-refused (found w) shut _ k e ne)
 
 pub head-number : (w : List ℤ) (h : Head) → h ≡ headOf w → h .number ≡ sheetNo w
 unfolding headOf
-head-number w h e = ap (λ (g : Head). g .number) e ∙ number (eqb (sheetNo w) 0) refl
-  where
-    number : (t : Bool) → eqb (sheetNo w) 0 ≡ t → cond {A = Head} t (found w) (shut (sheetNo w)) .number ≡ sheetNo w
-    number true t = sym (eqb-true (sheetNo w) 0 t)
-    number false t = refl
+head-number w h e = ap (λ (g : Head). g .number) e ∙ answer-number (found w) shut (λ g. g .number) refl (λ k. refl) (sheetNo w)
 
 pub record Headed (w : List ℤ) (h : Head) : Type 0 where
   pub opens : sheetNo w ≡ 0
@@ -78,24 +72,24 @@ neither k = record { number = k; np = 0; mp = 0; nq = 0; mq = 0 }
 -- the heads of two sheets, and of words of which one is none
 pub heads-both : (P Q : List ℤ) → sheetsNo P Q ≡ 0 → both P Q ≡ headsOf P Q
 unfolding headsOf
-heads-both P Q e = rw (eq-eqb (sheetsNo P Q) 0 e)
+heads-both P Q e = sym (answer-given (both P Q) neither _ e)
 
 pub heads-neither : (P Q : List ℤ) (k : ℕ) → sheetsNo P Q ≡ k → (k ≡ 0 → ⊥) → neither k ≡ headsOf P Q
 unfolding headsOf
-heads-neither P Q k e ne = rw (e, ne-eqb k 0 ne)
+heads-neither P Q k e ne = sym (answer-refused (both P Q) neither _ k e ne)
 
 module _ (P Q : List ℤ) (a : Head) (e : a ≡ headOf P) where
   pub heads-p : (a .number ≡ 0 → ⊥) → neither (a .number) ≡ headsOf P Q
   unfolding sheetsNo
   heads-p ne =
       let n : a .number ≡ sheetNo P = head-number P a e in
-      heads-neither P Q (a .number) (first-stops (sheetNo P) (sheetNo Q) (λ z. ne (n ∙ z)) ∙ sym n) ne
+      heads-neither P Q (a .number) (first-stops (sheetNo P) _ (λ z. ne (n ∙ z)) ∙ sym n) ne
 
   module _ (z : a .number ≡ 0) (b : Head) (f : b ≡ headOf Q) where
     -- with P open the number is Q's
     second : sheetsNo P Q ≡ b .number
     unfolding sheetsNo
-    second = first-passes (sheetNo P) (sheetNo Q) (headed P a e z .opens) ∙ sym (head-number Q b f)
+    second = first-passes (sheetNo P) _ (headed P a e z .opens) ∙ first-last (sheetNo Q) ∙ sym (head-number Q b f)
 
     pub heads-q : (b .number ≡ 0 → ⊥) → neither (b .number) ≡ headsOf P Q
     heads-q ne = heads-neither P Q (b .number) second ne
@@ -108,16 +102,12 @@ module _ (P Q : List ℤ) (a : Head) (e : a ≡ headOf P) where
 
 pub heads-number : (P Q : List ℤ) (h : Heads) → h ≡ headsOf P Q → h .number ≡ sheetsNo P Q
 unfolding headsOf
-heads-number P Q h e = ap (λ (g : Heads). g .number) e ∙ number (eqb (sheetsNo P Q) 0) refl
-  where
-    number : (t : Bool) → eqb (sheetsNo P Q) 0 ≡ t → cond {A = Heads} t (both P Q) (neither (sheetsNo P Q)) .number ≡ sheetsNo P Q
-    number true t = sym (eqb-true (sheetsNo P Q) 0 t)
-    number false t = refl
+heads-number P Q h e = ap (λ (g : Heads). g .number) e ∙ answer-number (both P Q) neither (λ g. g .number) refl (λ k. refl) (sheetsNo P Q)
 
 -- two sheets that open one by one
 pub both-open : (P Q : List ℤ) → sheetsNo P Q ≡ 0 → (sheetNo P ≡ 0) × (sheetNo Q ≡ 0)
 unfolding sheetsNo
-both-open P Q e = first-none (sheetNo P) (sheetNo Q) e
+both-open P Q e = let z = none-applies _ .0 e in (z 0, z 1)
 
 pub record HeadedBoth (P Q : List ℤ) (h : Heads) : Type 0 where
   pub opens : sheetsNo P Q ≡ 0
@@ -142,10 +132,15 @@ headed-both P Q h e z =
     }
 
 -- the number of a call on two sheets: theirs, and where they open what comes after
-pub sheets-stop : (P Q : List ℤ) (h : Heads) (rest : ℕ) → h ≡ headsOf P Q → (h .number ≡ 0 → ⊥) → first (sheetsNo P Q) rest ≡ h .number
-sheets-stop P Q h rest e ne =
-    let n : h .number ≡ sheetsNo P Q = heads-number P Q h e in
-    first-stops (sheetsNo P Q) rest (λ z. ne (n ∙ z)) ∙ sym n
+pub sheets-open : (P Q : List ℤ) (rest : List ℕ) → sheetsNo P Q ≡ 0 → first (sheetNo P ∷ sheetNo Q ∷ rest) ≡ first rest
+sheets-open P Q rest e = let s = both-open P Q e in first-passes (sheetNo P) _ (s .0) ∙ first-passes (sheetNo Q) rest (s .1)
 
-pub sheets-pass : (P Q : List ℤ) (h : Heads) (rest : ℕ) → h ≡ headsOf P Q → h .number ≡ 0 → first (sheetsNo P Q) rest ≡ rest
-sheets-pass P Q h rest e z = first-passes (sheetsNo P Q) rest (sym (heads-number P Q h e) ∙ z)
+module _ (P Q : List ℤ) (h : Heads) (rest : List ℕ) (e : h ≡ headsOf P Q) where
+  pub sheets-stop : (h .number ≡ 0 → ⊥) → first (sheetNo P ∷ sheetNo Q ∷ rest) ≡ h .number
+  unfolding sheetsNo
+  sheets-stop ne =
+      let n : h .number ≡ sheetsNo P Q = heads-number P Q h e in
+      first-front (sheetNo P ∷ sheetNo Q ∷ []) rest ∙ first-stops (sheetsNo P Q) rest (λ z. ne (n ∙ z)) ∙ sym n
+
+  pub sheets-pass : h .number ≡ 0 → first (sheetNo P ∷ sheetNo Q ∷ rest) ≡ first rest
+  sheets-pass z = sheets-open P Q rest (sym (heads-number P Q h e) ∙ z)

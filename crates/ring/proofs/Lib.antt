@@ -1,5 +1,5 @@
 -- The answers of the calls by their number, and that one input has one answer.
---     NumberLaws    the first number that applies
+--     NumberLaws    the number of a position
 --     HeadLaws      what the check of one sheet, and of two, finds
 --     PointLaws     the point reader
 --     RingLaws      the ring walk

@@ -1,24 +1,23 @@
 -- One input, one answer: from each promise alone. And the number of each answer.
 -- Assumes nothing.
 use mathlib.Core.Path.{_≡_, refl, sym, ap, _∙_}
-use mathlib.Core.Bool.{Bool, true, false, cond}
+use mathlib.Core.Bool.{false}
 use mathlib.Core.List.{List}
-use Prim.Native.Nat.{ℕ, zero, suc}
-use native.Mathlib.Omega.{arith}
-use lib.Dec.{eqb}
+use Prim.Native.Nat.{ℕ}
 use lib.IntN.{ℤ}
-use borrow.Author.Tests.{ne-eqb, eqb-true}
-use Rattle.walk.specs.declared.Answer.{Answer}
+use Rattle.words.proofs.FirstLaws.{answer-number}
 use Rattle.sheet.specs.Places.{spotOf}
+use Rattle.sheet.specs.Open.{sheetNo}
 use Rattle.walk.specs.FilterWalk.{filterKept}
 use Rattle.walk.specs.RingWalk.{pairWalk}
-use Rattle.ring.specs.Numbers.{sheetNo, pointNo, filterNo, ringNo}
-use Rattle.ring.specs.Answers.{headOf, assetOf, pointedBy, pointedNo, pointed, filteredTo, unfiltered, filtered, walkedBy, walkedNo, walkedClear, walked}
+use Rattle.ring.specs.Numbers.{pointNo, filterNo, ringNo}
+use Rattle.ring.specs.Answers.{headOf, assetOf, pointedNo, pointed, filteredTo, unfiltered, filtered, walkedNo, walkedClear, walked}
 use Rattle.ring.specs.declared.Head.{Head}
-use Rattle.ring.specs.declared.Asset.{Asset}
 use Rattle.ring.specs.declared.Pointed.{Pointed}
+use Rattle.ring.specs.declared.Pointed.the-variants.{At, Refused as NoPoint}
 use Rattle.ring.specs.declared.Filtered.{Filtered}
 use Rattle.ring.specs.declared.Walked.{Walked}
+use Rattle.ring.specs.declared.Walked.the-variants.{Done, Refused}
 use Rattle.ring.proofs.RingLaws.{ring-refused}
 
 pub open-once : (w : List ℤ) (r r′ : ℕ) → r ≡ sheetNo w → r′ ≡ sheetNo w → r ≡ r′
@@ -38,23 +37,13 @@ filter-once P Q j r r′ e f = e ∙ sym f
 
 -- ---- the number of each answer
 
-by-point : (k : ℕ) (a : Asset) → pointedNo (pointedBy k a) ≡ k
-unfolding pointedBy
-by-point zero a = refl
-by-point (suc k) a = rw (ne-eqb (suc k) 0 (λ z. omega arith))
-
 pub point-no : (w : List ℤ) (i : ℕ) → pointedNo (pointed w i) ≡ pointNo w i
 unfolding pointed
-point-no w i = by-point (pointNo w i) (assetOf w i)
-
-by-walk : (k : ℕ) (a : Answer) → walkedNo (walkedBy k a) ≡ k
-unfolding walkedBy
-by-walk zero a = refl
-by-walk (suc k) a = rw (ne-eqb (suc k) 0 (λ z. omega arith))
+point-no w i = answer-number (At (assetOf w i)) NoPoint pointedNo refl (λ k. refl) (pointNo w i)
 
 pub ring-no : (P Q : List ℤ) (j i : ℕ) → walkedNo (walked P Q j i) ≡ ringNo P Q j i
 unfolding walked
-ring-no P Q j i = by-walk (ringNo P Q j i) (pairWalk P Q j i)
+ring-no P Q j i = answer-number (Done (pairWalk P Q j i)) Refused walkedNo refl (λ k. refl) (ringNo P Q j i)
 
 -- a refused walk is never clear
 pub refused-not-clear : (P Q : List ℤ) (j i : ℕ) → (ringNo P Q j i ≡ 0 → ⊥) → walkedClear (walked P Q j i) ≡ false
@@ -62,8 +51,4 @@ refused-not-clear P Q j i ne = ap walkedClear (sym (ring-refused P Q j i (ringNo
 
 pub filter-no : (P Q : List ℤ) (j : ℕ) → filtered P Q j .number ≡ filterNo P Q j
 unfolding filtered filteredTo unfiltered
-filter-no P Q j = by (eqb (filterNo P Q j) 0) refl
-  where
-    by : (t : Bool) → eqb (filterNo P Q j) 0 ≡ t → cond {A = Filtered} t (filteredTo (filterKept 16 P (spotOf Q j))) (unfiltered (filterNo P Q j)) .number ≡ filterNo P Q j
-    by true t = sym (eqb-true (filterNo P Q j) 0 t)
-    by false t = refl
+filter-no P Q j = answer-number (filteredTo (filterKept 16 P (spotOf Q j))) unfiltered (λ r. r .number) refl (λ k. refl) (filterNo P Q j)

@@ -7,29 +7,30 @@
 --     own-by-points    sheets with the same points give the same pairs, number and end mark of every page
 -- Assumes nothing.
 use mathlib.Core.Path.{_≡_, refl, sym, ap, _∙_}
-use mathlib.Core.Bool.{Bool, true, false, cond}
-use mathlib.Core.List.{List}
-use Prim.Native.Nat.{ℕ, _≤_}
+use mathlib.Core.Bool.{true}
+use mathlib.Core.List.{List, [], _∷_}
+use Prim.Native.Nat.{ℕ, zero, suc, _≤_}
 use native.Mathlib.Omega.{arith}
-use lib.Dec.{eqb}
 use lib.IntN.{ℤ}
 use lib.ListN.{length}
-use borrow.Author.Tests.{eq-eqb, ne-eqb, eqb-true, le-leb}
+use borrow.Author.Tests.{le-leb}
+use Rattle.words.specs.First.{given, first}
+use Rattle.words.proofs.FirstLaws.{first-passes, first-stops, first-front, answer-given, answer-refused, answer-number}
 use Rattle.words.specs.Range.{lastId}
 use Rattle.words.specs.Word.{num}
 use Rattle.sheet.specs.Layout.{edition, points}
 use Rattle.sheet.specs.Limits.{form1}
 use Rattle.sheet.specs.Places.{pointsOf}
-use Rattle.sheet.specs.Open.{Opens}
+use Rattle.sheet.specs.Open.{sheetNo, Opens}
 use Rattle.sheet.proofs.SheetLaws.{open-facts, form1-fair}
 use Rattle.plane.specs.Point.{Point}
 use Rattle.list.specs.declared.Key.{Key}
 use Rattle.list.specs.declared.Page.{Page}
 use Rattle.list.specs.declared.Source.{Source}
 use Rattle.list.specs.Pairs.{start}
-use Rattle.list.specs.Pages.{thresholdNo, pageOf, followed}
+use Rattle.list.specs.Pages.{thresholdNo, sizeNo, pageOf, followed}
 use Rattle.list.specs.SelfList.{selfList}
-use Rattle.list.proofs.PageLaws.{asked-pages}
+use Rattle.list.proofs.PageLaws.{size-fits, size-taken, asked-pages}
 use Rattle.list.proofs.SelfLaws.{self-keys, self-pages}
 use Rattle.join.specs.declared.Draft.{Draft}
 use Rattle.join.specs.Work.{pageOpened}
@@ -39,38 +40,29 @@ use Rattle.join.proofs.Meaning.{points-rise}
 use Rattle.join.proofs.OwnLaws.{own-pairs, own-opened}
 use Rattle.ring.specs.declared.Head.{Head}
 use Rattle.ring.specs.declared.Paged.{Paged}
-use Rattle.ring.specs.Numbers.{first, sheetNo}
 use Rattle.ring.specs.Answers.{headOf}
-use Rattle.ring.specs.Page.{keyNo, sizeNo, askedNo, pageRefused}
+use Rattle.ring.specs.Page.{keyNo, askedNo, pageRefused}
 use Rattle.ring.specs.Own.{ownNo, ownSource, ownGiven, ownAnswer}
-use Rattle.ring.proofs.NumberLaws.{first-stops, first-passes}
 use Rattle.ring.proofs.HeadLaws.{Headed, headed, head-number, few}
-use Rattle.ring.proofs.PageLaws.{size-fits}
 
 -- a self join is asked of with no t: 9, then 10
-asked-own : (key : Key) (size : ℕ) → askedNo key size 0 ≡ first (keyNo key) (sizeNo size)
+asked-own : (key : Key) (size : ℕ) → askedNo key size 0 ≡ first (keyNo key ∷ sizeNo size ∷ [])
 unfolding askedNo
-asked-own key size = ap (first (keyNo key)) (go (sizeNo size))
+asked-own key size = first-front (keyNo key ∷ sizeNo size ∷ []) (thresholdNo 0 ∷ []) ∙ go (first (keyNo key ∷ sizeNo size ∷ []))
   where
-    none : thresholdNo 0 ≡ 0
-    none = unfold thresholdNo in refl
-
-    go : (k : ℕ) → first k (thresholdNo 0) ≡ k
-    go k = at (eqb k 0) refl
-      where
-        at : (b : Bool) → eqb k 0 ≡ b → cond b (thresholdNo 0) k ≡ k
-        at true e = none ∙ sym (eqb-true k 0 e)
-        at false e = refl
+    go : (k : ℕ) → first (k ∷ thresholdNo 0 ∷ []) ≡ k
+    go zero = unfold first thresholdNo given in refl
+    go (suc k) = unfold first in refl
 
 module _ (S : List ℤ) (key : Key) (size : ℕ) where
   -- refused: its number, and zeros
   pub own-refused : (k : ℕ) → ownNo S key size ≡ k → (k ≡ 0 → ⊥) → ownAnswer S key size ≡ pageRefused k
   unfolding ownAnswer
-  own-refused k e ne = rw (e, ne-eqb k 0 ne)
+  own-refused k e ne = answer-refused _ pageRefused _ k e ne
 
   pub own-answered : ownNo S key size ≡ 0 → ownAnswer S key size ≡ ownGiven S key size
   unfolding ownAnswer
-  own-answered e = rw (eq-eqb (ownNo S key size) 0 e)
+  own-answered e = answer-given _ pageRefused _ e
 
   -- one request, one answer
   pub own-once : (r r′ : Paged) → r ≡ ownAnswer S key size → r′ ≡ ownAnswer S key size → r ≡ r′
@@ -78,30 +70,25 @@ module _ (S : List ℤ) (key : Key) (size : ℕ) where
 
   -- No other request is refused: a sheet that opens, each id of the key at most 2,000,000,000 and a size from 1 to 16 are served.
   pub own-served : sheetNo S ≡ 0 → key .q ≤ lastId → key .p ≤ lastId → 1 ≤ size → size ≤ 16 → ownAnswer S key size ≡ ownGiven S key size
-  unfolding ownNo keyNo sizeNo
-  own-served opens a b c d =
-      own-answered (first-passes (sheetNo S) (first (keyNo key) (sizeNo size)) opens ∙ (rw (le-leb (key .q) lastId a, le-leb (key .p) lastId b, le-leb 1 size c, le-leb size 16 d)))
+  unfolding ownNo keyNo first given
+  own-served opens a b c d = own-answered (rw (opens, le-leb (key .q) lastId a, le-leb (key .p) lastId b, size-taken size c d))
 
   -- the number is the first that applies
   pub own-no : ownAnswer S key size .number ≡ ownNo S key size
   unfolding ownAnswer ownGiven pageRefused
-  own-no = go (eqb (ownNo S key size) 0) refl
-    where
-      go : (b : Bool) → eqb (ownNo S key size) 0 ≡ b → cond b (ownGiven S key size) (pageRefused (ownNo S key size)) .number ≡ ownNo S key size
-      go true e = sym (eqb-true (ownNo S key size) 0 e)
-      go false e = refl
+  own-no = answer-number (ownGiven S key size) pageRefused (λ r. r .number) refl (λ k. refl) (ownNo S key size)
 
   module _ (h : Head) (e : h ≡ headOf S) (r : Paged) where
     pub own-shut : (h .number ≡ 0 → ⊥) → r ≡ pageRefused (h .number) → r ≡ ownAnswer S key size
     unfolding ownNo
     own-shut ne f =
         let n = head-number S h e in
-        f ∙ sym (own-refused (h .number) (first-stops (sheetNo S) (first (keyNo key) (sizeNo size)) (λ z. ne (n ∙ z)) ∙ sym n) ne)
+        f ∙ sym (own-refused (h .number) (first-stops (sheetNo S) _ (λ z. ne (n ∙ z)) ∙ sym n) ne)
 
     module _ (z : h .number ≡ 0) (a : ℕ) (d : a ≡ askedNo key size 0) where
       after : ownNo S key size ≡ a
       unfolding ownNo
-      after = first-passes (sheetNo S) (first (keyNo key) (sizeNo size)) (headed S h e z .opens) ∙ sym (d ∙ asked-own key size)
+      after = first-passes (sheetNo S) _ (headed S h e z .opens) ∙ sym (d ∙ asked-own key size)
 
       pub own-asked : (a ≡ 0 → ⊥) → r ≡ pageRefused a → r ≡ ownAnswer S key size
       own-asked ne f = f ∙ sym (own-refused a after ne)

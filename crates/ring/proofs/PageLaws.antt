@@ -7,15 +7,16 @@
 --     page-by-points    sheets with the same points give the same pairs, number and end mark of every page
 -- Assumes nothing.
 use mathlib.Core.Path.{_≡_, refl, sym, ap, _∙_}
-use mathlib.Core.Bool.{Bool, true, false, cond, not, _&&_}
+use mathlib.Core.Bool.{true, false, not, _&&_}
 use mathlib.Core.List.{List}
 use Prim.Native.Nat.{ℕ, _≤_}
 use native.Mathlib.Omega.{arith}
-use lib.Dec.{eqb, leb}
+use lib.Dec.{leb}
 use lib.IntN.{ℤ}
 use lib.ListN.{length}
-use borrow.Author.Tests.{eq-eqb, ne-eqb, eqb-true, leb-true, le-leb, not-true, not-false}
-use Rattle.integers.proofs.Bools.{and-left, and-right}
+use borrow.Author.Tests.{le-leb}
+use Rattle.words.specs.First.{given, first}
+use Rattle.words.proofs.FirstLaws.{none-applies, first-passes, first-stops, first-last, given-no, answer-given, answer-refused, answer-number}
 use Rattle.words.specs.Range.{lastId}
 use Rattle.words.specs.Word.{num}
 use Rattle.sheet.specs.Layout.{edition, points, nodes}
@@ -27,9 +28,9 @@ use Rattle.list.specs.declared.Key.{Key}
 use Rattle.list.specs.declared.Page.{Page}
 use Rattle.list.specs.declared.Source.{Source}
 use Rattle.list.specs.Pairs.{start}
-use Rattle.list.specs.Pages.{lastThreshold, thresholdNo, pageOf, followed}
+use Rattle.list.specs.Pages.{lastThreshold, thresholdNo, sizeNo, pageOf, followed}
 use Rattle.list.specs.RingList.{thresholdList}
-use Rattle.list.proofs.PageLaws.{asked-pages}
+use Rattle.list.proofs.PageLaws.{size-fits, size-taken, asked-pages}
 use Rattle.list.proofs.RowLaws.{ring-keys}
 use Rattle.list.proofs.ThresholdLaws.{threshold-in}
 use Rattle.join.specs.declared.Draft.{Draft}
@@ -40,40 +41,31 @@ use Rattle.join.specs.Threshold.{walksFor}
 use Rattle.join.proofs.Meaning.{points-rise, page-pairs, page-opened, sheet-pages, list-by-points}
 use Rattle.ring.specs.declared.Heads.{Heads}
 use Rattle.ring.specs.declared.Paged.{Paged}
-use Rattle.ring.specs.Numbers.{first, sheetsNo}
+use Rattle.ring.specs.Numbers.{sheetsNo}
 use Rattle.ring.specs.Answers.{headsOf}
-use Rattle.ring.specs.Page.{keyNo, sizeNo, askedNo, pageNo, sourceOf, pageGiven, pageRefused, pageAnswer}
-use Rattle.ring.proofs.NumberLaws.{first-passes, first-none}
+use Rattle.ring.specs.Page.{keyNo, askedNo, pageNo, sourceOf, pageGiven, pageRefused, pageAnswer}
 use Rattle.ring.proofs.HeadLaws.{HeadedBoth, both-open, sheets-stop, sheets-pass}
 
 -- ---- the numbers of the key, of the size and of the threshold
 
--- a size that is not refused
-pub size-fits : (size : ℕ) → sizeNo size ≡ 0 → (1 ≤ size) × (size ≤ 16)
-unfolding sizeNo
-size-fits size e = go (leb 1 size && leb size 16) refl e
-  where
-    go : (b : Bool) → (leb 1 size && leb size 16) ≡ b → _≡_ {A = ℕ} (cond b 0 10) 0 → (1 ≤ size) × (size ≤ 16)
-    go true f e = (leb-true 1 size (and-left (leb 1 size) (leb size 16) f), leb-true size 16 (and-right (leb 1 size) (leb size 16) f))
-    go false f e = absurd (omega arith)
-
 module _ (key : Key) (size t : ℕ) where
   pub asked-9 : not (leb (key .q) lastId && leb (key .p) lastId) ≡ true → 9 ≡ askedNo key size t
-  unfolding askedNo keyNo
-  asked-9 e = rw (not-true (leb (key .q) lastId && leb (key .p) lastId) e)
+  unfolding askedNo keyNo first given
+  asked-9 e = rw e
 
-  pub asked-10 : not (leb (key .q) lastId && leb (key .p) lastId) ≡ false → not (leb 1 size && leb size 16) ≡ true → 10 ≡ askedNo key size t
-  unfolding askedNo keyNo sizeNo
-  asked-10 e f = rw (not-false (leb (key .q) lastId && leb (key .p) lastId) e, not-true (leb 1 size && leb size 16) f)
+  module _ (e : not (leb (key .q) lastId && leb (key .p) lastId) ≡ false) (k : ℕ) (d : k ≡ sizeNo size) where
+    pub asked-10 : (k ≡ 0 → ⊥) → k ≡ askedNo key size t
+    unfolding askedNo keyNo
+    asked-10 ne = d ∙ sym (first-passes _ _ (given-no _ 9 e) ∙ first-stops (sizeNo size) _ (λ z. ne (d ∙ z)))
 
-  pub asked-21 : not (leb (key .q) lastId && leb (key .p) lastId) ≡ false → not (leb 1 size && leb size 16) ≡ false → (k : ℕ) → k ≡ thresholdNo t → k ≡ askedNo key size t
-  unfolding askedNo keyNo sizeNo
-  asked-21 e f k d = rw (not-false (leb (key .q) lastId && leb (key .p) lastId) e, not-false (leb 1 size && leb size 16) f) d
+    pub asked-21 : k ≡ 0 → (n : ℕ) → n ≡ thresholdNo t → n ≡ askedNo key size t
+    unfolding askedNo keyNo
+    asked-21 z n f = f ∙ sym (first-passes _ _ (given-no _ 9 e) ∙ first-passes (sizeNo size) _ (sym d ∙ z) ∙ first-last _)
 
   -- a request that is not refused has its size from 1 to 16
   pub asked-size : askedNo key size t ≡ 0 → (1 ≤ size) × (size ≤ 16)
   unfolding askedNo
-  asked-size e = size-fits size (first-none (sizeNo size) (thresholdNo t) (first-none (keyNo key) (first (sizeNo size) (thresholdNo t)) e .1) .0)
+  asked-size e = size-fits size (none-applies _ .0 e 1)
 
   pub size-in : {a : ℕ} → a ≡ askedNo key size t → a ≡ 0 → size ≤ 16
   size-in d y = asked-size (sym d ∙ y) .1
@@ -84,12 +76,12 @@ module _ (P Q : List ℤ) (key : Key) (size t : ℕ) where
   -- refused: its number, and zeros
   pub page-refused : (k : ℕ) → pageNo P Q key size t ≡ k → (k ≡ 0 → ⊥) → pageAnswer P Q key size t ≡ pageRefused k
   unfolding pageAnswer
-  page-refused k e ne = rw (e, ne-eqb k 0 ne)
+  page-refused k e ne = answer-refused _ pageRefused _ k e ne
 
   -- with sheets that open, a key and a size in range: the page and its count
   pub page-answered : pageNo P Q key size t ≡ 0 → pageAnswer P Q key size t ≡ pageGiven P Q key size t
   unfolding pageAnswer
-  page-answered e = rw (eq-eqb (pageNo P Q key size t) 0 e)
+  page-answered e = answer-given _ pageRefused _ e
 
   -- one request, one answer
   pub page-once : (r r′ : Paged) → r ≡ pageAnswer P Q key size t → r′ ≡ pageAnswer P Q key size t → r ≡ r′
@@ -97,28 +89,25 @@ module _ (P Q : List ℤ) (key : Key) (size t : ℕ) where
 
   -- No other request is refused: sheets that open, each id of the key at most 2,000,000,000, a size from 1 to 16 and a t up to 1,000 are served.
   pub page-served : sheetsNo P Q ≡ 0 → key .q ≤ lastId → key .p ≤ lastId → 1 ≤ size → size ≤ 16 → t ≤ lastThreshold → pageAnswer P Q key size t ≡ pageGiven P Q key size t
-  unfolding pageNo askedNo keyNo sizeNo thresholdNo
+  unfolding pageNo keyNo thresholdNo first given
   page-served opens a b c d e =
-      page-answered (first-passes (sheetsNo P Q) (first (keyNo key) (first (sizeNo size) (thresholdNo t))) opens ∙ (rw (le-leb (key .q) lastId a, le-leb (key .p) lastId b, le-leb 1 size c, le-leb size 16 d, le-leb t lastThreshold e)))
+      let s = both-open P Q opens in
+      page-answered (rw (s .0, s .1, le-leb (key .q) lastId a, le-leb (key .p) lastId b, size-taken size c d, le-leb t lastThreshold e))
 
   -- the number is the first that applies
   pub page-no : pageAnswer P Q key size t .number ≡ pageNo P Q key size t
   unfolding pageAnswer pageGiven pageRefused
-  page-no = go (eqb (pageNo P Q key size t) 0) refl
-    where
-      go : (b : Bool) → eqb (pageNo P Q key size t) 0 ≡ b → cond b (pageGiven P Q key size t) (pageRefused (pageNo P Q key size t)) .number ≡ pageNo P Q key size t
-      go true e = sym (eqb-true (pageNo P Q key size t) 0 e)
-      go false e = refl
+  page-no = answer-number (pageGiven P Q key size t) pageRefused (λ r. r .number) refl (λ k. refl) (pageNo P Q key size t)
 
   module _ (h : Heads) (e : h ≡ headsOf P Q) (r : Paged) where
     pub page-sheets : (h .number ≡ 0 → ⊥) → r ≡ pageRefused (h .number) → r ≡ pageAnswer P Q key size t
     unfolding pageNo
-    page-sheets ne f = f ∙ sym (page-refused (h .number) (sheets-stop P Q h (askedNo key size t) e ne) ne)
+    page-sheets ne f = f ∙ sym (page-refused (h .number) (sheets-stop P Q h _ e ne) ne)
 
     module _ (z : h .number ≡ 0) (a : ℕ) (d : a ≡ askedNo key size t) where
       after : pageNo P Q key size t ≡ a
-      unfolding pageNo
-      after = sheets-pass P Q h (askedNo key size t) e z ∙ sym d
+      unfolding pageNo askedNo
+      after = sheets-pass P Q h _ e z ∙ sym d
 
       pub page-asked : (a ≡ 0 → ⊥) → r ≡ pageRefused a → r ≡ pageAnswer P Q key size t
       page-asked ne f = f ∙ sym (page-refused a after ne)

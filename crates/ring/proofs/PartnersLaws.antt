@@ -5,14 +5,16 @@
 --     partners-once      one question, one answer
 -- Assumes nothing.
 use mathlib.Core.Path.{_≡_, refl, sym, ap, _∙_}
-use mathlib.Core.Bool.{Bool, true, false, cond, not, _&&_}
+use mathlib.Core.Bool.{true, not}
 use mathlib.Core.List.{List}
 use Prim.Native.Nat.{ℕ, _≤_, _<_}
 use native.Mathlib.Omega.{arith}
-use lib.Dec.{eqb, leb}
+use lib.Dec.{eqb}
 use lib.IntN.{ℤ}
 use lib.ListN.{length}
-use borrow.Author.Tests.{eq-eqb, ne-eqb, eqb-true, lt-ltb, le-ltb, le-leb, not-true, not-false}
+use borrow.Author.Tests.{eq-eqb, eqb-true, lt-ltb, le-ltb, le-leb}
+use Rattle.words.specs.First.{given, first}
+use Rattle.words.proofs.FirstLaws.{first-passes, first-last, given-no, answer-given, answer-refused, answer-number}
 use Rattle.words.specs.All.{firstB}
 use Rattle.words.proofs.AllLaws.{first-hit, first-in}
 use Rattle.plane.specs.Point.{idAt}
@@ -28,21 +30,10 @@ use Rattle.sheet.proofs.FindLaws.{has}
 use Rattle.join.proofs.Meaning.{points-rise}
 use Rattle.ring.specs.declared.Heads.{Heads}
 use Rattle.ring.specs.declared.Partnered.{Partnered}
-use Rattle.ring.specs.Numbers.{first, sheetsNo}
+use Rattle.ring.specs.Numbers.{sheetsNo}
 use Rattle.ring.specs.Answers.{headsOf}
 use Rattle.ring.specs.Partners.{idNo, leastNo, partnersNo, partnersCount, partnersGiven, partnersRefused, partnersAnswer}
-use Rattle.ring.proofs.NumberLaws.{first-passes}
-use Rattle.ring.proofs.HeadLaws.{headed-both, sheets-stop, sheets-pass}
-
--- ---- the number of t
-
-pub least-21 : (t : ℕ) → not (leb 1 t && leb t lastThreshold) ≡ true → 21 ≡ leastNo t
-unfolding leastNo
-least-21 t e = rw (not-true (leb 1 t && leb t lastThreshold) e)
-
-pub least-0 : (t : ℕ) → not (leb 1 t && leb t lastThreshold) ≡ false → 0 ≡ leastNo t
-unfolding leastNo
-least-0 t e = rw (not-false (leb 1 t && leb t lastThreshold) e)
+use Rattle.ring.proofs.HeadLaws.{both-open, headed-both, sheets-stop, sheets-pass}
 
 -- ---- the answers
 
@@ -50,11 +41,11 @@ module _ (P Q : List ℤ) (id t : ℕ) where
   -- refused: its number, and zeros
   pub partners-refused : (k : ℕ) → partnersNo P Q id t ≡ k → (k ≡ 0 → ⊥) → partnersAnswer P Q id t ≡ partnersRefused k
   unfolding partnersAnswer
-  partners-refused k e ne = rw (e, ne-eqb k 0 ne)
+  partners-refused k e ne = answer-refused _ partnersRefused _ k e ne
 
   pub partners-answered : partnersNo P Q id t ≡ 0 → partnersAnswer P Q id t ≡ partnersGiven P Q id t
   unfolding partnersAnswer
-  partners-answered e = rw (eq-eqb (partnersNo P Q id t) 0 e)
+  partners-answered e = answer-given _ partnersRefused _ e
 
   -- one question, one answer
   pub partners-once : (r r′ : Partnered) → r ≡ partnersAnswer P Q id t → r′ ≡ partnersAnswer P Q id t → r ≡ r′
@@ -62,25 +53,21 @@ module _ (P Q : List ℤ) (id t : ℕ) where
 
   -- No other question is refused: sheets that open, the id of a chamber and a t from 1 to 1,000 are served.
   pub partners-served : sheetsNo P Q ≡ 0 → (j : ℕ) → j < length (pointsOf Q) → idAt (pointsOf Q) j ≡ id → 1 ≤ t → t ≤ lastThreshold → partnersAnswer P Q id t ≡ partnersGiven P Q id t
-  unfolding partnersNo idNo leastNo positionOf
+  unfolding partnersNo idNo leastNo positionOf first given
   partners-served opens j h e a b =
-      partners-answered
-      (first-passes (sheetsNo P Q) (first (idNo (pointsOf Q) id) (leastNo t)) opens
-      ∙ (rw (lt-ltb (firstB (length (pointsOf Q)) (has Q id)) (length (pointsOf Q)) (first-in (has Q id) (length (pointsOf Q)) j h (eq-eqb (idAt (pointsOf Q) j) id e)), le-leb 1 t a, le-leb t lastThreshold b)))
+      let s = both-open P Q opens in
+      let known = first-in (has Q id) (length (pointsOf Q)) j h (eq-eqb (idAt (pointsOf Q) j) id e) in
+      partners-answered (rw (s .0, s .1, lt-ltb (firstB (length (pointsOf Q)) (has Q id)) (length (pointsOf Q)) known, le-leb 1 t a, le-leb t lastThreshold b))
 
   -- the number is the first that applies
   pub partners-no : partnersAnswer P Q id t .number ≡ partnersNo P Q id t
   unfolding partnersAnswer partnersGiven partnersRefused
-  partners-no = go (eqb (partnersNo P Q id t) 0) refl
-    where
-      go : (b : Bool) → eqb (partnersNo P Q id t) 0 ≡ b → cond b (partnersGiven P Q id t) (partnersRefused (partnersNo P Q id t)) .number ≡ partnersNo P Q id t
-      go true e = sym (eqb-true (partnersNo P Q id t) 0 e)
-      go false e = refl
+  partners-no = answer-number (partnersGiven P Q id t) partnersRefused (λ r. r .number) refl (λ k. refl) (partnersNo P Q id t)
 
   module _ (h : Heads) (e : h ≡ headsOf P Q) (r : Partnered) where
     pub partners-sheets : (h .number ≡ 0 → ⊥) → r ≡ partnersRefused (h .number) → r ≡ partnersAnswer P Q id t
     unfolding partnersNo
-    partners-sheets ne f = f ∙ sym (partners-refused (h .number) (sheets-stop P Q h (first (idNo (pointsOf Q) id) (leastNo t)) e ne) ne)
+    partners-sheets ne f = f ∙ sym (partners-refused (h .number) (sheets-stop P Q h _ e ne) ne)
 
     module _ (z : h .number ≡ 0) (j : ℕ) (at-j : j ≡ positionOf (pointsOf Q) id) where
       as-many : length (pointsOf Q) ≡ h .nq
@@ -88,17 +75,19 @@ module _ (P Q : List ℤ) (id t : ℕ) where
 
       -- no chamber has the id
       pub partners-unknown : h .nq ≤ j → r ≡ partnersRefused 20 → r ≡ partnersAnswer P Q id t
-      unfolding partnersNo idNo
+      unfolding partnersNo idNo first given
       partners-unknown past f =
-          f
-          ∙ sym (partners-refused 20
-          (sheets-pass P Q h (first (idNo (pointsOf Q) id) (leastNo t)) e z ∙ (rw (le-ltb (positionOf (pointsOf Q) id) (length (pointsOf Q)) (omega (arith, as-many)))))
-          (λ x. omega arith))
+          let s = both-open P Q (headed-both P Q h e z .opens) in
+          f ∙ sym (partners-refused 20 (rw (s .0, s .1, le-ltb (positionOf (pointsOf Q) id) (length (pointsOf Q)) (omega (arith, as-many)))) (λ x. omega arith))
 
       module _ (here : j < h .nq) (k : ℕ) (d : k ≡ leastNo t) where
         after : partnersNo P Q id t ≡ k
         unfolding partnersNo idNo
-        after = sheets-pass P Q h (first (idNo (pointsOf Q) id) (leastNo t)) e z ∙ (rw (lt-ltb (positionOf (pointsOf Q) id) (length (pointsOf Q)) (omega (arith, as-many))) (sym d))
+        after =
+            sheets-pass P Q h _ e z
+            ∙ first-passes _ _ (given-no _ 20 (ap not (lt-ltb (positionOf (pointsOf Q) id) (length (pointsOf Q)) (omega (arith, as-many)))))
+            ∙ first-last _
+            ∙ sym d
 
         pub partners-least : (k ≡ 0 → ⊥) → r ≡ partnersRefused k → r ≡ partnersAnswer P Q id t
         partners-least ne f = f ∙ sym (partners-refused k after ne)

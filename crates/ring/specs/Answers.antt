@@ -1,17 +1,17 @@
 -- What the calls answer. "Every refusal gives only its number [..]. An array or number in a refused answer is all zero."
-use mathlib.Core.Bool.{Bool, false, cond}
+use mathlib.Core.Bool.{Bool, false}
 use mathlib.Core.List.{List}
 use Prim.Native.Nat.{ℕ}
-use lib.Dec.{eqb}
 use lib.IntN.{ℤ}
 use lib.ListN.{length, replicate}
 use Rattle.words.specs.Word.{num}
+use Rattle.words.specs.First.{answer}
 use Rattle.sheet.specs.Layout.{points, nodes}
 use Rattle.sheet.specs.Points.{idAt, xAt, yAt}
-use Rattle.ring.specs.Numbers.{sheetNo, sheetsNo, pointNo, filterNo, ringNo}
+use Rattle.sheet.specs.Open.{sheetNo}
+use Rattle.ring.specs.Numbers.{sheetsNo, pointNo, filterNo, ringNo}
 use Rattle.sheet.specs.Places.{spotOf}
 use Rattle.bits.specs.Set.{card}
-use Rattle.walk.specs.declared.Answer.{Answer}
 use Rattle.walk.specs.FilterWalk.{Kept, filterKept}
 use Rattle.walk.specs.RingWalk.{clear, pairWalk}
 use Rattle.ring.specs.declared.Head.{Head}
@@ -26,29 +26,25 @@ use Rattle.ring.specs.declared.Pointed.the-variants.{At, Refused as NoPo
 -- of words: 0 with the length and the counts, or the number with zeros
 unfoldable pub headOf : List ℤ → Head
 headOf w =
-    cond (eqb (sheetNo w) 0) (record { number = 0; len = length w; n = points w; m = nodes w }) (record { number = sheetNo w; len = 0; n = 0; m = 0 })
+    answer (sheetNo w) (record { number = 0; len = length w; n = points w; m = nodes w }) (λ k. record { number = k; len = 0; n = 0; m = 0 })
 
 -- of two sheets: 0 with the counts of both, or the number with zeros
 unfoldable pub headsOf : List ℤ → List ℤ → Heads
 headsOf P Q =
-    cond (eqb (sheetsNo P Q) 0) (record { number = 0; np = points P; mp = nodes P; nq = points Q; mq = nodes Q })
-    (record { number = sheetsNo P Q; np = 0; mp = 0; nq = 0; mq = 0 })
+    answer (sheetsNo P Q) (record { number = 0; np = points P; mp = nodes P; nq = points Q; mq = nodes Q })
+    (λ k. record { number = k; np = 0; mp = 0; nq = 0; mq = 0 })
 
 -- the record at a position
 unfoldable pub assetOf : List ℤ → ℕ → Asset
 assetOf w i = record { id = num (idAt w i); x = xAt w i; y = yAt w i }
 
--- the point reader's answer by its number: 0 is the record, any other is the refusal of that number
-unfoldable pub pointedBy : ℕ → Asset → Pointed
-pointedBy k a = cond (eqb k 0) (At a) (NoPoint k)
-
--- the number of each case
+-- the point reader's answer: the number of each case
 abbrev pub pointedNo : Pointed → ℕ
 pointedNo (At a) = 0
 pointedNo (NoPoint k) = k
 
 unfoldable pub pointed : List ℤ → ℕ → Pointed
-pointed w i = pointedBy (pointNo w i) (assetOf w i)
+pointed w i = answer (pointNo w i) (At (assetOf w i)) NoPoint
 
 -- the filter walk's answer: "one bit a position in sixteen 64-bit words [..], with the number of bits set and the nodes opened"
 unfoldable pub filteredTo : Kept → Filtered
@@ -60,13 +56,9 @@ unfiltered k = record { number = k; bits = replicate 16 0; count = 0; opened = 0
 
 -- for position j of Q over P
 unfoldable pub filtered : List ℤ → List ℤ → ℕ → Filtered
-filtered P Q j = cond (eqb (filterNo P Q j) 0) (filteredTo (filterKept 16 P (spotOf Q j))) (unfiltered (filterNo P Q j))
+filtered P Q j = answer (filterNo P Q j) (filteredTo (filterKept 16 P (spotOf Q j))) unfiltered
 
--- the ring walk's answer by its number: 0 is the walk's own answer, any other is the refusal of that number
-unfoldable pub walkedBy : ℕ → Answer → Walked
-walkedBy k a = cond (eqb k 0) (Done a) (Refused k)
-
--- the number of each case, and whether it says that the pair is clear: a refused walk never does
+-- the ring walk's answer: the number of each case, and whether it says that the pair is clear: a refused walk never does
 abbrev pub walkedNo : Walked → ℕ
 walkedNo (Done a) = 0
 walkedNo (Refused k) = k
@@ -77,4 +69,4 @@ walkedClear (Refused k) = false
 
 -- q is position j of Q, p is position i of P
 unfoldable pub walked : List ℤ → List ℤ → ℕ → ℕ → Walked
-walked P Q j i = walkedBy (ringNo P Q j i) (pairWalk P Q j i)
+walked P Q j i = answer (ringNo P Q j i) (Done (pairWalk P Q j i)) Refused

@@ -1,40 +1,37 @@
 -- The page request: its number, and its answer.
-use mathlib.Core.Bool.{false, cond, _&&_}
-use mathlib.Core.List.{List}
+use mathlib.Core.Bool.{false, not, _&&_}
+use mathlib.Core.List.{List, [], _∷_}
 use Prim.Native.Nat.{ℕ}
-use lib.Dec.{eqb, leb}
+use lib.Dec.{leb}
 use lib.IntN.{ℤ}
 use lib.ListN.{replicate}
 use Rattle.words.specs.Word.{num}
 use Rattle.words.specs.Range.{lastId}
+use Rattle.words.specs.First.{given, first, answer}
 use Rattle.sheet.specs.Layout.{edition, points}
 use Rattle.sheet.specs.Places.{pointsOf}
+use Rattle.sheet.specs.Open.{sheetNo}
 use Rattle.list.specs.declared.Key.{Key}
 use Rattle.list.specs.declared.Source.{Source}
 use Rattle.list.specs.Pairs.{start, none}
-use Rattle.list.specs.Pages.{thresholdNo, pageOf}
+use Rattle.list.specs.Pages.{thresholdNo, sizeNo, pageOf}
 use Rattle.list.specs.RingList.{thresholdList}
 use Rattle.join.specs.Work.{pageOpened}
 use Rattle.join.specs.Sheets.{walksOf}
 use Rattle.join.specs.Threshold.{walksFor}
 use Rattle.ring.specs.declared.Paged.{Paged}
-use Rattle.ring.specs.Numbers.{first, sheetsNo}
 
 -- 9: "key out of range", "each 0 to 2,000,000,000"
 unfoldable pub keyNo : Key → ℕ
-keyNo key = cond (leb (key .q) lastId && leb (key .p) lastId) 0 9
-
--- 10: "size out of range", "a size 1 to 16"
-unfoldable pub sizeNo : ℕ → ℕ
-sizeNo size = cond (leb 1 size && leb size 16) 0 10
+keyNo key = given (not (leb (key .q) lastId && leb (key .p) lastId)) 9
 
 -- 9, then 10, then 21 "t outside 0 to 1,000 [..] after 10 for a page": what the request itself is refused by
 unfoldable pub askedNo : Key → ℕ → ℕ → ℕ
-askedNo key size t = first (keyNo key) (first (sizeNo size) (thresholdNo t))
+askedNo key size t = first (keyNo key ∷ sizeNo size ∷ thresholdNo t ∷ [])
 
 -- "checks its sheets first [..]: 1 to 8 for P, then for Q"
 unfoldable pub pageNo : List ℤ → List ℤ → Key → ℕ → ℕ → ℕ
-pageNo P Q key size t = first (sheetsNo P Q) (askedNo key size t)
+pageNo P Q key size t = first (sheetNo P ∷ sheetNo Q ∷ keyNo key ∷ sizeNo size ∷ thresholdNo t ∷ [])
 
 -- "The page holds both editions"; "Pages and books now carry t, 0 for the full list" and "say their kind", here a list of two sheets
 unfoldable pub sourceOf : List ℤ → List ℤ → ℕ → Source
@@ -60,4 +57,4 @@ pageRefused k =
 
 -- the answer by its number: 0 is the page, any other is the refusal of that number
 unfoldable pub pageAnswer : List ℤ → List ℤ → Key → ℕ → ℕ → Paged
-pageAnswer P Q key size t = cond (eqb (pageNo P Q key size t) 0) (pageGiven P Q key size t) (pageRefused (pageNo P Q key size t))
+pageAnswer P Q key size t = answer (pageNo P Q key size t) (pageGiven P Q key size t) pageRefused

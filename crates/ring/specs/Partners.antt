@@ -1,31 +1,32 @@
 -- Whether a chamber has at least t partners. "For one q id and a t, give the smaller of t and the number of its pairs in the list, and a yes exactly when that is t."
-use mathlib.Core.Bool.{false, cond, _&&_}
-use mathlib.Core.List.{List}
+use mathlib.Core.Bool.{false, not, _&&_}
+use mathlib.Core.List.{List, [], _∷_}
 use Prim.Native.Nat.{ℕ}
 use lib.Dec.{eqb, leb, ltb}
 use lib.IntN.{ℤ}
 use lib.ListN.{length}
+use Rattle.words.specs.First.{given, first, answer}
 use Rattle.plane.specs.Point.{Point}
 use Rattle.sheet.specs.Places.{pointsOf}
+use Rattle.sheet.specs.Open.{sheetNo}
 use Rattle.list.specs.Pairs.{chamberPairs}
 use Rattle.list.specs.Pages.{lastThreshold}
 use Rattle.list.specs.RingList.{ringList}
 use Rattle.sheet.specs.Find.{positionOf}
 use Rattle.join.specs.Threshold.{smaller}
 use Rattle.ring.specs.declared.Partnered.{Partnered}
-use Rattle.ring.specs.Numbers.{first, sheetsNo}
 
 -- 20: "unknown q id"
 unfoldable pub idNo : List Point → ℕ → ℕ
-idNo Q id = cond (ltb (positionOf Q id) (length Q)) 0 20
+idNo Q id = given (not (ltb (positionOf Q id) (length Q))) 20
 
 -- 21: "t outside 0 to 1,000, or 0 in the single question"
 unfoldable pub leastNo : ℕ → ℕ
-leastNo t = cond (leb 1 t && leb t lastThreshold) 0 21
+leastNo t = given (not (leb 1 t && leb t lastThreshold)) 21
 
 -- the sheets' numbers, then 20, then 21
 unfoldable pub partnersNo : List ℤ → List ℤ → ℕ → ℕ → ℕ
-partnersNo P Q id t = first (sheetsNo P Q) (first (idNo (pointsOf Q) id) (leastNo t))
+partnersNo P Q id t = first (sheetNo P ∷ sheetNo Q ∷ idNo (pointsOf Q) id ∷ leastNo t ∷ [])
 
 -- the smaller of t and the number of the chamber's pairs in the list, and whether that is t
 unfoldable pub partnersCount : List ℤ → List ℤ → ℕ → ℕ → ℕ
@@ -40,4 +41,4 @@ partnersRefused k = record { number = k; count = 0; enough = false }
 
 -- the answer by its number: 0 is the count, any other is the refusal of that number
 unfoldable pub partnersAnswer : List ℤ → List ℤ → ℕ → ℕ → Partnered
-partnersAnswer P Q id t = cond (eqb (partnersNo P Q id t) 0) (partnersGiven P Q id t) (partnersRefused (partnersNo P Q id t))
+partnersAnswer P Q id t = answer (partnersNo P Q id t) (partnersGiven P Q id t) partnersRefused

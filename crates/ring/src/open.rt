@@ -2,7 +2,7 @@
 use crate::Head;
 use crate::Heads;
 ghost use mathlib.Core.Path.{_≡_};
-ghost use Rattle.ring.specs.Numbers.{sheetNo};
+ghost use Rattle.sheet.specs.Open.{sheetNo};
 ghost use Rattle.ring.specs.Answers.{headOf, headsOf};
 
 // The number of the first refusal that applies to the words, 0 where they are a sheet.

@@ -42,8 +42,9 @@ pub(crate) fn asked_no(key: Key, size: usize, threshold: u32) -> u32
     if !((key.q <= 2000000000) & (key.p <= 2000000000)) {
         return 9;
     }
-    if !((1 <= size) & (size <= 16)) {
-        return 10;
+    let no = list::size_no(size);
+    if no != 0 {
+        return no;
     }
     list::threshold_no(threshold)
 }

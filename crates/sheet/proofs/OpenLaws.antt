@@ -1,10 +1,9 @@
 -- What a right trailer says.
 -- Assumes nothing.
-use mathlib.Core.Path.{_≡_, refl}
-use mathlib.Core.Bool.{Bool, true, false, not, cond, _&&_, Bool·beq}
+use mathlib.Core.Path.{_≡_}
+use mathlib.Core.Bool.{true, _&&_, Bool·beq}
 use mathlib.Core.List.{List}
 use Prim.Native.Nat.{ℕ, _+_, _*_, _≤_}
-use native.Mathlib.Omega.{arith}
 use lib.Dec.{ltb, eqb}
 use lib.IntN.{ℤ, pos}
 use lib.ListN.{length}
@@ -13,7 +12,8 @@ use Rattle.words.specs.Word.{within, eqZ}
 use Rattle.words.specs.Range.{editionWord}
 use Rattle.integers.proofs.Bools.{and-left, and-right}
 use Rattle.words.proofs.Signs.{within-num}
-use Rattle.sheet.specs.Layout.{form, nWord, mWord, edition, span, root, points, nodes, rootWord, countsOk, layoutOk, trailerNo}
+use Rattle.words.proofs.FirstLaws.{none-applies, given-failed, given-held}
+use Rattle.sheet.specs.Layout.{nWord, mWord, edition, span, root, points, nodes, rootWord, countsOk, layoutOk, trailerNo}
 use Rattle.sheet.specs.Nodes.{nodesOk, tableOk}
 use Rattle.sheet.specs.declared.Limits.{Limits}
 
@@ -24,28 +24,21 @@ pub record Trailer (lim : Limits) (w : List ℤ) : Type 0 where
   pub edition-in : editionWord (edition w) ≡ true
   pub size : length w ≡ 5 * points w + 7 * nodes w + 6
 
--- no refusal means that all four tests hold
-four : (a b c d : Bool) → _≡_ {A = ℕ} (cond a 1 (cond (not b) 2 (cond (not c) 3 (cond (not d) 4 0)))) 0 → (a ≡ false) × (c ≡ true) × (d ≡ true)
-four true b c d e = absurd (omega arith)
-four false false c d e = absurd (omega arith)
-four false true false d e = absurd (omega arith)
-four false true true false e = absurd (omega arith)
-four false true true true e = (refl, refl, refl)
-
 pub trailer-facts : (lim : Limits) (w : List ℤ) → trailerNo lim w ≡ 0 → Trailer lim w
 unfolding trailerNo countsOk layoutOk
 trailer-facts lim w e =
-    let f = four (ltb (length w) 6) (eqZ (form w) (pos 1)) (countsOk lim w) (layoutOk w) e in
+    let z = none-applies _ .0 e in
+    let counts = given-held (countsOk lim w) 2 (z 2) in
     let a = within (pos 0) (pos (lim .points)) (nWord w) in
     let b = within (pos 0) (pos (lim .nodes)) (mWord w) in
     let c = editionWord (edition w) in
-    let e₁ = and-left (a && b) c (f .1) in
+    let e₁ = and-left (a && b) c counts in
     record {
-      long = ltb-false (length w) 6 (f .0);
+      long = ltb-false (length w) 6 (given-failed (ltb (length w) 6) 0 (z 0));
       n-le = within-num 0 (lim .points) (nWord w) (and-left a b e₁) .1;
       m-le = within-num 0 (lim .nodes) (mWord w) (and-right a b e₁) .1;
-      edition-in = and-right (a && b) c (f .1);
-      size = eqb-true (length w) (5 * points w + 7 * nodes w + 6) (and-right (eqZ (span w) (pos (5 * points w + 7 * nodes w)) && eqZ (root w) (pos (rootWord (nodes w)))) (eqb (length w) (5 * points w + 7 * nodes w + 6)) (f .2));
+      edition-in = and-right (a && b) c counts;
+      size = eqb-true (length w) (5 * points w + 7 * nodes w + 6) (and-right (eqZ (span w) (pos (5 * points w + 7 * nodes w)) && eqZ (root w) (pos (rootWord (nodes w)))) (eqb (length w) (5 * points w + 7 * nodes w + 6)) (given-held (layoutOk w) 3 (z 3)));
     }
 
 pub nodes-table : (w : List ℤ) (n m : ℕ) → nodesOk w n m ≡ true → tableOk w n m ≡ true

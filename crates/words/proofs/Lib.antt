@@ -3,7 +3,9 @@
 --     AllLaws      loops that test every index, or look for the first
 --     TabLaws      a list by its indices, and the loop that writes it
 --     RangeLaws    ids, editions and coordinates: the test of a word, and of its number
+--     FirstLaws    the first number that applies, and the answer by its number
 pub mod Signs
 pub mod AllLaws
 pub mod TabLaws
 pub mod RangeLaws
+pub mod FirstLaws

@@ -2,6 +2,7 @@
 -- slice, for a lifetime that the walk makes. All that the proof knows of `next_key` is that it meets its contract.
 -- Assumes nothing.
 use mathlib.Core.Path.{_≡_, refl, sym, ap, _∙_, subst}
+use native.Mathlib.Omega.{arith}
 use Prim.Native.Nat.{ℕ, _<_, _^_}
 use mathlib.Core.List.{[], _∷_, _++_, List}
 use lib.ListN.{length, take as front, drop as back}
@@ -46,8 +47,9 @@ use denote.Exit.{yes}
 use Rattle.list.specs.declared.Pair.{Pair}
 use Rattle.book.specs.declared.Book.{Book}
 use Rattle.book.specs.declared.Asked.{Asked}
-use Rattle.book.specs.Rules.{asked, lentOf}
-use Rattle.book.proofs.CoreLaws.{lent-room, front-long, array-long}
+use Rattle.book.specs.Rules.{asked}
+use Rattle.list.specs.Lent.{lentOf}
+use Rattle.list.proofs.LentLaws.{lent-room, front-long, array-long}
 use Rattle.list.proofs.LocalRow.{row-out, row-room, row-cut, row-paste}
 use Rattle.list.proofs.PairRows.{word, P, pv, width}
 use Rattle.book.proofs.Rows.{bval, Lent, lent-said}
@@ -134,7 +136,7 @@ module _ {M : Type 1} (𝓤 : URA M) (H : Heap 𝓤) (A : Atoms 𝓤) (W : Given
       qed W (‵ (flft κ fullShare) ∷ ‵ (ShrSlice (named 0) κ P .own (x m b γ) (s m b ∷ [])) ∷ []) ∵ nothing ! $
       move ! (2 ∷ 0 ∷ []) $ fjoin ! $ owned ! B.the-row (Is B.the-row) (LL.makes B.the-type B′.the-plain 𝓤 H A) bk _ bk-is $ fjoin ! $ nothing ! $ move ! (2 ∷ 0 ∷ []) $ join ! $ join ! $ frame ! $ done !
 
-  exits : (r : Asked) → Is N.the-row r (nval r ∷ []) → r ≡ asked bk (front (lentOf len) ys) → ent 𝓤 (emp 𝓤) (Post (nval r))
+  exits : (r : Asked) → Is N.the-row r (nval r ∷ []) → r ≡ asked bk (front (lentOf 64 len) ys) → ent 𝓤 (emp 𝓤) (Post (nval r))
   exits r is e =
       qed W [] ∵ suffices ! _ (ends-at 𝓤 H A first.ended stayed (first.clauses 𝓤 H A mem run) W ((tt, tt, tt, a, vals), tt) (nval r) r (tt, (tt, (tt, tt))) (tt, (tt, (tt, tt)))) $ says ! e $
       owned ! N.the-row (Is N.the-row) (LL.makes N.the-type N′.the-plain 𝓤 H A) r _ is $ nothing ! $ owned ! B.the-row (Is B.the-row) (LL.makes B.the-type B′.the-plain 𝓤 H A) bk _ bk-is $ fjoin ! $
@@ -152,13 +154,13 @@ module _ {M : Type 1} (𝓤 : URA M) (H : Heap 𝓤) (A : Atoms 𝓤) (W : Given
         use0 W (raw (Lent 𝓤 H A mem run .pre to-lent)) goes-lent $
         calls-at ! fm (Lent 𝓤 H A mem run) known-lent to-lent (and-then ! (load ! (from ! (stop !)) (look ! 11 refl)) (no-more !)) (λ u₀.
         use1 W (later (some (λ (r : ℕ). (‵ ftrue ⊛ ‵ (usize .own r (u₀ ∷ []))) ⊛ raw (ensured 𝓤 H A lending.ended (lending.clauses 𝓤 H A mem run) tt (len, tt) tt r)))) (id⊢ 𝓤 _) $ await ! tt $ pick ! (λ m.
-        split ! $ move ! (1 ∷ []) $ use1 W (raw (fact 𝓤 (m ≡ lentOf len))) (lent-said 𝓤 H A mem run len m) $ heard ! (m ≡ lentOf len) (λ m-is. split ! $ drop ! $
+        split ! $ move ! (1 ∷ []) $ use1 W (raw (fact 𝓤 (m ≡ lentOf 64 len))) (lent-said 𝓤 H A mem run len m) $ heard ! (m ≡ lentOf 64 len) (λ m-is. split ! $ drop ! $
         facts ! usize (Is usize) (shows 𝓤 H A usize) m (u₀ ∷ []) (λ is₀.
         land ! (from ! (stop !)) (init ! 4 refl (uint-lawful 𝓤 H A W w64 .typed m _ is₀ .0)) $
         rewrite ! 4 (λ (w : Val). ‵ (fat fullShare word l₅ 0 w)) (ap only (is₀ .0)) refl $
         assigns ! (addr ! (from ! (stop !))) (from ! (stop !)) (init ! 2 refl (tt, tt)) $
         assigns ! (agg ! (and-then ! (load ! (from ! (stop !)) (look ! 2 refl)) (and-then ! (load ! (from ! (stop !)) (look ! 4 refl)) (no-more !)))) (from ! (stop !)) (init ! 0 refl (tt, (tt, (record { fits = is₀ .1 }, tt)))) $
-        rewrite ! 0 (λ (k : ℕ). ‵ (fat fullShare slice l₇ 0 (sliceVal (l₄, 0) k))) (sym (front-long ys len m long m-is)) refl $
+        rewrite ! 0 (λ (k : ℕ). ‵ (fat fullShare slice l₇ 0 (sliceVal (l₄, 0) k))) (sym (front-long 64 len m m-is ys long)) refl $
         -- the first m slots are lent as a slice, for a lifetime made here
         move ! (6 ∷ 16 ∷ []) $ use2 W (‵ (row P fullShare ys l₄ 0)) (row-out 𝓤 H A W P 64 tt ys (array-val ys) l₄) $
         use1 W (‵ (row P fullShare (front m ys) l₄ 0) ⊛ ‵ (row P fullShare (back m ys) l₄ (place width 0 m))) (row-cut 𝓤 H A W P m ys l₄ 0) $ split ! $
@@ -177,17 +179,17 @@ module _ {M : Type 1} (𝓤 : URA M) (H : Heap 𝓤) (A : Atoms 𝓤) (W : Given
         rewrite ! 16 (λ (w : Val). ‵ (fat fullShare N′.mir l₀ 0 w)) (ap only (LL.tells N.the-type N′.the-laws r _ is)) refl $
         split ! $ lft-end ! tt $ move ! (0 ∷ 2 ∷ []) $ lent-back ! tt $ fsplit ! $ drop ! $ move ! (0 ∷ 2 ∷ []) $
         -- [the first; the others; true; _7; …]
-        rewrite ! 1 (λ (k : ℕ). ‵ (row P fullShare (back m ys) l₄ (place width 0 k))) (sym (front-long ys len m long m-is)) refl $
+        rewrite ! 1 (λ (k : ℕ). ‵ (row P fullShare (back m ys) l₄ (place width 0 k))) (sym (front-long 64 len m m-is ys long)) refl $
         use2 W (‵ (row P fullShare (front m ys ++ back m ys) l₄ 0)) (row-paste 𝓤 H A W P (front m ys) (back m ys) l₄ 0) $
-        use1 W (‵ (froom (tyArray T′.mir 64) l₄ 0)) (row-room 𝓤 H A W P 64 (front m ys ++ back m ys) l₄ (array-long ys len m (front m ys) long m-is refl)) $ move ! (1 ∷ []) $ drop ! $
+        use1 W (‵ (froom (tyArray T′.mir 64) l₄ 0)) (row-room 𝓤 H A W P 64 (front m ys ++ back m ys) l₄ (array-long 64 len m m-is ys long (front m ys) refl)) $ move ! (1 ∷ []) $ drop ! $
         -- [room for _4; _7; …; _5; …; what frees _4; _3; …; _0; …]
         returns ! (look ! 14 refl) $ forget ! 1 refl $ forget ! 3 refl $ forget ! 5 refl $ forget ! 8 refl $ forget ! 10 refl $ forget ! 12 refl $ forget ! 14 refl $
         move ! (14 ∷ 15 ∷ []) $ free1 ! $ move ! (12 ∷ 13 ∷ []) $ free1 ! $ move ! (10 ∷ 11 ∷ []) $ free1 ! $ move ! (8 ∷ 9 ∷ []) $ free1 ! $ move ! (0 ∷ 7 ∷ []) $ free1 ! $
         move ! (4 ∷ 5 ∷ []) $ free1 ! $ move ! (2 ∷ 3 ∷ []) $ free1 ! $ free1 ! $ free0 ! $
         by ! (exits r (subst (Is N.the-row r) (LL.tells N.the-type N′.the-laws r _ is) is) (e ∙ ap (λ (k : ℕ). asked bk (front k ys)) m-is))))))))))))))))))))
       where
-        room : (m : ℕ) → m ≡ lentOf len → Room P (length (front m ys))
-        room m e = subst (Room P) (sym (front-long ys len m long e)) (lent-room len m e)
+        room : (m : ℕ) → m ≡ lentOf 64 len → Room P (length (front m ys))
+        room m e = subst (Room P) (sym (front-long 64 len m e ys long)) (lent-room 64 len m e (omega arith))
 
 module _ {M : Type 1} (𝓤 : URA M) (H : Heap 𝓤) (A : Atoms 𝓤) (W : Given 𝓤 H A) (mem : Memory → SProp 𝓤) (run : Routine → Fun 𝓤) where
   walks : (C : Calls 𝓤 H) (Λ : Loops 𝓤 H) → FmC 𝓤 H (W .laws) C → Triple 𝓤 (C #book·lent-of) (Lent 𝓤 H A mem run) → Triple 𝓤 (C #book·next-key) (Asks 𝓤 H A mem run) → Walks 𝓤 H A first.ended stayed (WpFn 𝓤 H C Λ code.function) (first.clauses 𝓤 H A mem run)

@@ -3,6 +3,7 @@
 -- All that the proof knows of `take` is that it meets its contract.
 -- Assumes nothing.
 use mathlib.Core.Path.{_≡_, refl, sym, ap, _∙_, subst}
+use native.Mathlib.Omega.{arith}
 use Prim.Native.Nat.{ℕ, _<_, _^_}
 use mathlib.Core.List.{[], _∷_, _++_, List}
 use lib.ListN.{length, take as front, drop as back}
@@ -49,8 +50,10 @@ use Rattle.list.specs.declared.Page.{Page}
 use Rattle.book.specs.declared.Book.{Book}
 use Rattle.book.specs.declared.Taken.{Taken}
 use Rattle.book.specs.declared.TakenArray.{TakenArray}
-use Rattle.book.specs.Rules.{taken, takenSlots, lentOf, withSlots, takenArray}
-use Rattle.book.proofs.CoreLaws.{lent-room, front-long, array-long, array-is}
+use Rattle.book.specs.Rules.{taken, takenSlots, withSlots, takenArray}
+use Rattle.book.proofs.CoreLaws.{array-is}
+use Rattle.list.specs.Lent.{lentOf}
+use Rattle.list.proofs.LentLaws.{lent-room, front-long, array-long}
 use Rattle.list.proofs.LocalRow.{row-out, row-in, row-cut, row-paste}
 use Rattle.list.proofs.PairRows.{word, P, pv, gval, width}
 use Rattle.book.proofs.Rows.{bval, Lent, lent-said}
@@ -179,13 +182,13 @@ module _ {M : Type 1} (𝓤 : URA M) (H : Heap 𝓤) (A : Atoms 𝓤) (W : Given
         use0 W (raw (Lent 𝓤 H A mem run .pre to-lent)) goes-lent $
         calls-at ! fm (Lent 𝓤 H A mem run) known-lent to-lent (and-then ! (load ! (from ! (stop !)) (look ! 17 refl)) (no-more !)) (λ u₀.
         use1 W (later (some (λ (r : ℕ). (‵ ftrue ⊛ ‵ (usize .own r (u₀ ∷ []))) ⊛ raw (ensured 𝓤 H A lending.ended (lending.clauses 𝓤 H A mem run) tt (len, tt) tt r)))) (id⊢ 𝓤 _) $ await ! tt $ pick ! (λ m.
-        split ! $ move ! (1 ∷ []) $ use1 W (raw (fact 𝓤 (m ≡ lentOf len))) (lent-said 𝓤 H A mem run len m) $ heard ! (m ≡ lentOf len) (λ m-is. split ! $ drop ! $
+        split ! $ move ! (1 ∷ []) $ use1 W (raw (fact 𝓤 (m ≡ lentOf 64 len))) (lent-said 𝓤 H A mem run len m) $ heard ! (m ≡ lentOf 64 len) (λ m-is. split ! $ drop ! $
         facts ! usize (Is usize) (shows 𝓤 H A usize) m (u₀ ∷ []) (λ is₀.
         land ! (from ! (stop !)) (init ! 8 refl (uint-lawful 𝓤 H A W w64 .typed m _ is₀ .0)) $
         rewrite ! 8 (λ (w : Val). ‵ (fat fullShare word l₆ 0 w)) (ap only (is₀ .0)) refl $
         assigns ! (addr ! (from ! (stop !))) (from ! (stop !)) (init ! 4 refl (tt, tt)) $
         assigns ! (agg ! (and-then ! (load ! (from ! (stop !)) (look ! 4 refl)) (and-then ! (load ! (from ! (stop !)) (look ! 8 refl)) (no-more !)))) (from ! (stop !)) (init ! 2 refl (tt, (tt, (record { fits = is₀ .1 }, tt)))) $
-        rewrite ! 2 (λ (k : ℕ). ‵ (fat fullShare slice l₉ 0 (sliceVal (l₅, 0) k))) (sym (front-long ys len m long m-is)) refl $
+        rewrite ! 2 (λ (k : ℕ). ‵ (fat fullShare slice l₉ 0 (sliceVal (l₅, 0) k))) (sym (front-long 64 len m m-is ys long)) refl $
         -- the first m slots are lent as a slice, for a lifetime made here
         move ! (10 ∷ 22 ∷ []) $ use2 W (‵ (row P fullShare ys l₅ 0)) (row-out 𝓤 H A W P 64 tt ys (array-val ys) l₅) $
         use1 W (‵ (row P fullShare (front m ys) l₅ 0) ⊛ ‵ (row P fullShare (back m ys) l₅ (place width 0 m))) (row-cut 𝓤 H A W P m ys l₅ 0) $ split ! $ use1 W (‵ (cells (memOf P) (front m ys) l₅ 0)) (whole-in 𝓤 H A W P (front m ys) l₅ 0) $
@@ -206,9 +209,9 @@ module _ {M : Type 1} (𝓤 : URA M) (H : Heap 𝓤) (A : Atoms 𝓤) (W : Given
         split ! $ lft-end ! tt $ move ! (0 ∷ 4 ∷ 2 ∷ []) $ use3 W (later (‵ (Arr (memOf P) (length (front m ys)) .lies (zs .1 .0) l₅ 0))) (slice-back 𝓤 H A W P (ν ∷ []) γ (zs .1 .0) (length (front m ys)) l₅ 0) $ await ! tt $ fsplit ! $ drop ! $
         use1 W (‵ (row P fullShare (zs .1 .0) l₅ 0)) (whole-out 𝓤 H A W P (zs .1 .0) l₅ 0) $ move ! (1 ∷ 2 ∷ []) $ drop ! $ drop ! $
         -- [the first, as they are now; the others; _10; …]
-        rewrite ! 1 (λ (k : ℕ). ‵ (row P fullShare (back m ys) l₅ (place width 0 k))) (sym (l ∙ front-long ys len m long m-is)) refl $
+        rewrite ! 1 (λ (k : ℕ). ‵ (row P fullShare (back m ys) l₅ (place width 0 k))) (sym (l ∙ front-long 64 len m m-is ys long)) refl $
         use2 W (‵ (row P fullShare (zs .1 .0 ++ back m ys) l₅ 0)) (row-paste 𝓤 H A W P (zs .1 .0) (back m ys) l₅ 0) $
-        use1 W (some (λ (w : Val). ‵ (fat fullShare (tyArray T′.mir 64) l₅ 0 w) ⊛ ‵ (Row .own (zs .1 .0 ++ back m ys) (w ∷ [])))) (row-in 𝓤 H A W P 64 (zs .1 .0 ++ back m ys) l₅ (array-long ys len m (zs .1 .0) long m-is l)) $ pick ! (λ w. split ! $ move ! (1 ∷ []) $
+        use1 W (some (λ (w : Val). ‵ (fat fullShare (tyArray T′.mir 64) l₅ 0 w) ⊛ ‵ (Row .own (zs .1 .0 ++ back m ys) (w ∷ [])))) (row-in 𝓤 H A W P 64 (zs .1 .0 ++ back m ys) l₅ (array-long 64 len m m-is ys long (zs .1 .0) l)) $ pick ! (λ w. split ! $ move ! (1 ∷ []) $
         facts ! Row (Is Row) (shows 𝓤 H A Row) (zs .1 .0 ++ back m ys) (w ∷ []) (λ ris.
         rewrite ! 0 (λ (v : Val). ‵ (fat fullShare (tyArray T′.mir 64) l₅ 0 v)) (ap only (array-tells P pv (LL.tells T.the-type T′.the-laws) 64 (zs .1 .0 ++ back m ys) _ ris)) refl $
         -- [_5; _10; …; _6; …; what frees _5; _4; …; room for _0; …]
@@ -225,8 +228,8 @@ module _ {M : Type 1} (𝓤 : URA M) (H : Heap 𝓤) (A : Atoms 𝓤) (W : Given
         move ! (8 ∷ 9 ∷ []) $ free1 ! $ move ! (6 ∷ 7 ∷ []) $ free1 ! $ move ! (4 ∷ 5 ∷ []) $ free1 ! $ move ! (2 ∷ 3 ∷ []) $ free1 ! $ free1 ! $ free0 ! $
         by ! (exits t (subst (Is N.the-row t) (LL.tells N.the-type N′.the-laws t _ is₁) is₁) (array-is ys len bk g m r (zs .1 .0) t m-is (e .0) (e .1) t-is)))))))))))))))))))))))))))))))
       where
-        room : (m : ℕ) → m ≡ lentOf len → Room P (length (front m ys))
-        room m e = subst (Room P) (sym (front-long ys len m long e)) (lent-room len m e)
+        room : (m : ℕ) → m ≡ lentOf 64 len → Room P (length (front m ys))
+        room m e = subst (Room P) (sym (front-long 64 len m e ys long)) (lent-room 64 len m e (omega arith))
 
         told : (l : List Pair) (w : Val) → Is Row l (w ∷ []) → Is Row l (av l)
         told l w is = subst (Is Row l) (array-tells P pv (LL.tells T.the-type T′.the-laws) 64 l _ is) is

@@ -1,25 +1,26 @@
 -- `list::source_no` meets its contract. Assumes nothing.
 use borrow.Author.Tests.{eq-eqb, ne-eqb}
+use Rattle.words.specs.First.{given, first}
 use Rattle.list.specs.Pages.{sourceNo}
 use Rattle.list.proofs.source_no.Statement.{statement}
 use Rattle.list.proofs.source_no.Tie as tie
 
 returns : tie.Need-returns
-unfolding sourceNo
+unfolding sourceNo first given
 returns c = rw (c .if1 .taken)
 
 returns-2 : tie.Need-returns-2
-unfolding sourceNo
+unfolding sourceNo first given
 returns-2 c = rw (c .before .before .before .before .before .if1 .left, c .if2 .taken)
 
 returns-3 : tie.Need-returns-3
-unfolding sourceNo
+unfolding sourceNo first given
 returns-3 c =
     let e = c .before .before .before in
     rw (e .before .before .before .before .before .if1 .left, e .if2 .left, ne-eqb _ _ (c .if3 .taken))
 
 returns-4 : tie.Need-returns-4
-unfolding sourceNo
+unfolding sourceNo first given
 returns-4 c =
     let e = c .before .before .before in
     rw (e .before .before .before .before .before .if1 .left, e .if2 .left, eq-eqb _ _ (c .if3 .left))

@@ -1,5 +1,6 @@
 use native.Mathlib.Omega.{arith}
 use Rattle.integers.proofs.Bools.{passed, failed}
+use Rattle.words.specs.First.{given, first}
 use Rattle.pack.specs.Pack.{packNo}
 use Rattle.pack.proofs.TableLaws.{plan-few}
 use Rattle.pack.proofs.PackLaws.{shape-points, shape-order, range-few, size-fits, size-differs}
@@ -11,21 +12,21 @@ shape-ok-requires : tie.Need-shape-ok-requires
 shape-ok-requires c κs = search needs
 
 returns : tie.Need-returns
-unfolding packNo
+unfolding packNo first given
 returns c = rw (failed (c .before .shape-ok .ensures) (c .if1 .taken))
 
 range-ok-requires : tie.Need-range-ok-requires
 range-ok-requires c κs = search needs
 
 returns-2 : tie.Need-returns-2
-unfolding packNo
+unfolding packNo first given
 returns-2 c = rw (passed (c .before .before .before .shape-ok .ensures) (c .before .before .if1 .left), failed (c .before .range-ok .ensures) (c .if2 .taken))
 
 points-ok-requires : tie.Need-points-ok-requires
 points-ok-requires c κs = omega (arith, c .before .before .before .before .before .pre .0 .points-le, range-few (c .before .before .before .before .before .args .lim) (c .before .before .before .before .before .args .n) (c .before .before .before .before .before .args .edition) (passed (c .before .range-ok .ensures) (c .if2 .left)), shape-points _ _ _ (passed (c .before .before .before .shape-ok .ensures) (c .before .before .if1 .left)))
 
 returns-3 : tie.Need-returns-3
-unfolding packNo
+unfolding packNo first given
 returns-3 c = rw (passed (c .before .before .before .before .before .shape-ok .ensures) (c .before .before .before .before .if1 .left), passed (c .before .before .before .range-ok .ensures) (c .before .before .if2 .left), failed (c .before .points-ok .ensures) (c .if3 .taken))
 
 each-once-requires : tie.Need-each-once-requires
@@ -39,7 +40,7 @@ same-length : tie.Need-same-length
 same-length c = search needs
 
 returns-4 : tie.Need-returns-4
-unfolding packNo
+unfolding packNo first given
 returns-4 c =
     let u = c .before .before .before .before .before in
     let a = passed (u .before .before .before .before .before .shape-ok .ensures) (u .before .before .before .before .if1 .left) in
@@ -66,7 +67,7 @@ same-length-2 : tie.Need-same-length-2
 same-length-2 c = search needs
 
 returns-5 : tie.Need-returns-5
-unfolding packNo
+unfolding packNo first given
 returns-5 c =
     let u = c .before .before .before .before .before .before .before in
     let a = passed (u .before .before .before .before .before .shape-ok .ensures) (u .before .before .before .before .if1 .left) in
@@ -78,7 +79,7 @@ same-length-3 : tie.Need-same-length-3
 same-length-3 c = search needs
 
 returns-6 : tie.Need-returns-6
-unfolding packNo
+unfolding packNo first given
 returns-6 c =
     let u = c .before .before .before .before .before .before .before in
     let a = passed (u .before .before .before .before .before .shape-ok .ensures) (u .before .before .before .before .if1 .left) in

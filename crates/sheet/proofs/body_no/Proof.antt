@@ -1,5 +1,6 @@
 use mathlib.Core.Path.{_∙_}
 use Rattle.integers.proofs.Bools.{passed, failed}
+use Rattle.words.specs.First.{given, first}
 use Rattle.sheet.specs.Open.{bodyNo}
 use Rattle.sheet.proofs.BoxLaws.{boxes-tight}
 use Rattle.sheet.proofs.OpenLaws.{nodes-table}
@@ -11,7 +12,7 @@ points-ok-requires : tie.Need-points-ok-requires
 points-ok-requires c κs = search needs
 
 returns : tie.Need-returns
-unfolding bodyNo
+unfolding bodyNo first given
 returns c =
     rw (failed (c .before .points-ok .ensures) (c .if1 .taken))
 
@@ -19,7 +20,7 @@ order-ok-requires : tie.Need-order-ok-requires
 order-ok-requires c κs = search needs
 
 returns-2 : tie.Need-returns-2
-unfolding bodyNo
+unfolding bodyNo first given
 returns-2 c =
     rw (passed (c .before .before .before .points-ok .ensures) (c .before .before .if1 .left), failed (c .before .order-ok .ensures) (c .if2 .taken))
 
@@ -27,7 +28,7 @@ nodes-ok-requires : tie.Need-nodes-ok-requires
 nodes-ok-requires c κs = search needs
 
 returns-3 : tie.Need-returns-3
-unfolding bodyNo
+unfolding bodyNo first given
 returns-3 c =
     rw (passed (c .before .before .before .before .before .points-ok .ensures) (c .before .before .before .before .if1 .left), passed (c .before .before .before .order-ok .ensures) (c .before .before .if2 .left), failed (c .before .nodes-ok .ensures) (c .if3 .taken))
 
@@ -38,13 +39,13 @@ boxes-ok-requires c κs =
     (search needs, search needs, search needs, od, nodes-table _ _ _ nd)
 
 returns-4 : tie.Need-returns-4
-unfolding bodyNo
+unfolding bodyNo first given
 returns-4 c =
     let nd = passed (c .before .before .before .nodes-ok .ensures) (c .before .before .if3 .left) in
     rw (passed (c .before .before .before .before .before .before .before .points-ok .ensures) (c .before .before .before .before .before .before .if1 .left), passed (c .before .before .before .before .before .order-ok .ensures) (c .before .before .before .before .if2 .left), nd, failed (c .before .boxes-ok .ensures ∙ boxes-tight _ _ _ (nodes-table _ _ _ nd)) (c .if4 .taken))
 
 returns-5 : tie.Need-returns-5
-unfolding bodyNo
+unfolding bodyNo first given
 returns-5 c =
     let nd = passed (c .before .before .before .nodes-ok .ensures) (c .before .before .if3 .left) in
     rw (passed (c .before .before .before .before .before .before .before .points-ok .ensures) (c .before .before .before .before .before .before .if1 .left), passed (c .before .before .before .before .before .order-ok .ensures) (c .before .before .before .before .if2 .left), nd, passed (c .before .boxes-ok .ensures ∙ boxes-tight _ _ _ (nodes-table _ _ _ nd)) (c .if4 .left))

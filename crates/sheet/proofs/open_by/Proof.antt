@@ -1,6 +1,6 @@
 use mathlib.Core.Path.{_∙_, sym}
 use native.Mathlib.Omega.{arith}
-use borrow.Author.Tests.{eq-eqb, ne-eqb}
+use Rattle.words.proofs.FirstLaws.{first-passes, first-stops, first-last}
 use Rattle.sheet.specs.Open.{openNo}
 use Rattle.sheet.proofs.OpenLaws.{trailer-facts}
 use borrow.Author.Needs.{needs}
@@ -14,7 +14,7 @@ trailer-no-requires c κs = search needs
 -- src/lib.rt:46:9
 returns : tie.Need-returns
 unfolding openNo
-returns c = rw (← c .before .trailer-no .ensures, ne-eqb (c .before .trailer-no .result) 0 (c .if1 .taken))
+returns c = let e = c .before .trailer-no .ensures in e ∙ sym (first-stops _ _ (λ z. c .if1 .taken (e ∙ z)))
 
 -- src/lib.rt:49:30
 sub-num-at : tie.Need-sub-num-at
@@ -48,7 +48,7 @@ returns-2 : tie.Need-returns-2
 unfolding openNo
 returns-2 c =
     let a = c .before .before .before in
-    rw (eq-eqb _ _ (sym (a .before .trailer-no .ensures) ∙ a .if1 .left), ← c .before .before .num-at .ensures .0, ← c .before .num-at2 .ensures .0) (c .body-no .ensures)
+    rw (first-passes _ _ (sym (a .before .trailer-no .ensures) ∙ a .if1 .left), first-last, ← c .before .before .num-at .ensures .0, ← c .before .num-at2 .ensures .0) (c .body-no .ensures)
 
 pub open-by-spec : {M : Type 1} → statement M
 open-by-spec =

@@ -1,7 +1,8 @@
+-- `list::lent_of` meets its contract. Assumes nothing.
 use borrow.Author.Tests.{lt-ltb, le-ltb}
-use Rattle.book.specs.Rules.{lentOf}
-use Rattle.book.proofs.lent_of.Statement.{statement}
-use Rattle.book.proofs.lent_of.Tie as tie
+use Rattle.list.specs.Lent.{lentOf}
+use Rattle.list.proofs.lent_of.Statement.{statement}
+use Rattle.list.proofs.lent_of.Tie as tie
 
 returns : tie.Need-returns
 unfolding lentOf
