@@ -44,7 +44,7 @@ module _ (s : Source) (a b : Bool) (ea : a ≡ editionOk (s .«p_edition»)) (eb
     unfolding begunFor beginNo first given answer
     begin-own f = rw (both ∙ e, f)
 
-    module _ (f : ownWithT s ≡ false) (n : ℕ) (d : n ≡ thresholdNo (s .threshold)) where
+    module _ (f : ownWithT s ≡ false) (n : ℕ) (d : n ≡ thresholdNo (s .terms .threshold)) where
       number-is : beginNo s ≡ n
       unfolding beginNo first given
       number-is = rw (both ∙ e, f) (first-last _ ∙ sym d)

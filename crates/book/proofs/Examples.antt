@@ -19,18 +19,18 @@ use Rattle.book.specs.Rules.{beginNo, begunBook, begunFor, lastKey, next
 
 -- editions 7 and 9, whose list is (5, 1), (5, 2), (6, 2)
 abbrev ours : Source
-ours = record { «p_edition» = 7; «q_edition» = 9; threshold = 0; own = false }
+ours = record { «p_edition» = 7; «q_edition» = 9; terms = record { threshold = 0; own = false } }
 
 abbrev others : Source
-others = record { «p_edition» = 8; «q_edition» = 9; threshold = 2; own = false }
+others = record { «p_edition» = 8; «q_edition» = 9; terms = record { threshold = 2; own = false } }
 
 -- the same editions, of another t
 abbrev less : Source
-less = record { «p_edition» = 7; «q_edition» = 9; threshold = 2; own = false }
+less = record { «p_edition» = 7; «q_edition» = 9; terms = record { threshold = 2; own = false } }
 
 -- a self join
 abbrev alone : Source
-alone = record { «p_edition» = 7; «q_edition» = 7; threshold = 0; own = true }
+alone = record { «p_edition» = 7; «q_edition» = 7; terms = record { threshold = 0; own = true } }
 
 abbrev at : ℕ → ℕ → Pair
 at q p = record { q = q; p = p; size = 16 }
@@ -55,11 +55,11 @@ begins : begunFor ours ≡ begun.Open (book 0 false)
 unfolding begunFor beginNo first given answer begunBook editionOk thresholdNo
 begins = refl
 
-no-edition : begunFor (record { «p_edition» = 7; «q_edition» = 0; threshold = 1001; own = false }) ≡ begun.Refused 3
+no-edition : begunFor (record { «p_edition» = 7; «q_edition» = 0; terms = record { threshold = 1001; own = false } }) ≡ begun.Refused 3
 unfolding begunFor beginNo first given answer editionOk
 no-edition = refl
 
-no-threshold : begunFor (record { «p_edition» = 7; «q_edition» = 9; threshold = 1001; own = false }) ≡ begun.Refused 21
+no-threshold : begunFor (record { «p_edition» = 7; «q_edition» = 9; terms = record { threshold = 1001; own = false } }) ≡ begun.Refused 21
 unfolding begunFor beginNo first given answer editionOk thresholdNo
 no-threshold = refl
 
@@ -68,11 +68,11 @@ begins-own : begunFor alone ≡ begun.Open (record { held = 0; closed = false; s
 unfolding begunFor beginNo first given answer begunBook editionOk thresholdNo
 begins-own = refl
 
-no-two : begunFor (record { «p_edition» = 7; «q_edition» = 9; threshold = 2; own = true }) ≡ begun.Refused 3
+no-two : begunFor (record { «p_edition» = 7; «q_edition» = 9; terms = record { threshold = 2; own = true } }) ≡ begun.Refused 3
 unfolding begunFor beginNo first given answer editionOk
 no-two = refl
 
-no-t : begunFor (record { «p_edition» = 7; «q_edition» = 7; threshold = 2; own = true }) ≡ begun.Refused 21
+no-t : begunFor (record { «p_edition» = 7; «q_edition» = 7; terms = record { threshold = 2; own = true } }) ≡ begun.Refused 21
 unfolding begunFor beginNo first given answer editionOk
 no-t = refl
 

@@ -22,18 +22,16 @@ use Rattle.list.specs.declared.Source.{Source}
 use Rattle.list.specs.declared.Page.{Page}
 use Rattle.list.specs.Pairs.{start, keyOf, follows, ascends, after, lastOr}
 use Rattle.list.specs.Pages.{lastThreshold, thresholdNo, sourceNo, shown, pageOf, pagePairs}
-use Rattle.list.specs.RingList.{thresholdList}
-use Rattle.list.specs.SelfList.{selfList}
+use Rattle.list.specs.RingList.{Sound}
+use Rattle.list.specs.Terms.{listFor}
 use Rattle.list.proofs.Order.{asc-left, after-asc, after-last}
 use Rattle.list.proofs.PageLaws.{page-shows, shown-count, length-padded, end-mark}
 use Rattle.list.proofs.SourceLaws.{source-same}
-use Rattle.list.proofs.RowLaws.{ring-ids, ring-sizes}
-use Rattle.list.proofs.ThresholdLaws.{threshold-in, threshold-ascends}
-use Rattle.list.proofs.SelfLaws.{self-ascends, self-ids, self-sizes}
+use Rattle.list.proofs.TermsLaws.{for-ascends, for-ids, for-sizes}
 use Rattle.book.specs.declared.Book.{Book}
 use Rattle.book.specs.declared.Begun.the-variants as begun
 use Rattle.book.specs.Rules.{oneSheet, ownWithT, beginNo, begunBook, begunFor, lastKey, pairOk, pairsOk, pageMost, pageBad, takeNo, advanced, taken, takenSlots}
-use Rattle.book.specs.World.{World, listOf, Honest, Reached, began, took, lent, ownPage, served}
+use Rattle.book.specs.World.{World, pumpsOf, chambersOf, listOf, Honest, Reached, began, took, lent, ownPage, served}
 use Rattle.book.proofs.TakeLaws.{Passed, passed, taken-book, taken-slots, refused-book, refused-slots, or-zero, no-refusal, same-length, closed-no, same-book-source}
 use Rattle.book.proofs.SliceLaws.{last-held}
 
@@ -237,9 +235,9 @@ begun-is s b e = by-begun (beginNo s) (begunBook s) b e .1
 
 -- what a book can be begun for: a t up to 1,000, and a self join only of one edition and with no t
 pub record Fair (s : Source) : Type 0 where
-  pub t-most : s .threshold ≤ lastThreshold
-  pub one-edition : s .own ≡ true → s .«p_edition» ≡ s .«q_edition»
-  pub no-t : s .own ≡ true → s .threshold ≡ 0
+  pub t-most : s .terms .threshold ≤ lastThreshold
+  pub one-edition : s .terms .own ≡ true → s .«p_edition» ≡ s .«q_edition»
+  pub no-t : s .terms .own ≡ true → s .terms .threshold ≡ 0
 
 begun-in : (s : Source) (b : Book) → begunFor s ≡ begun.Open b → Fair s
 unfolding begunFor beginNo thresholdNo
@@ -247,56 +245,42 @@ begun-in s b e =
     let both = editionOk (s .«p_edition») && editionOk (s .«q_edition») in
     let z = none-applies _ .0 (by-begun _ (begunBook s) b e .0) in
     record {
-      t-most = leb-true (s .threshold) lastThreshold (given-held (leb (s .threshold) lastThreshold) 20 (z 2));
+      t-most = leb-true (s .terms .threshold) lastThreshold (given-held (leb (s .terms .threshold) lastThreshold) 20 (z 2));
       one-edition = λ o. eqb-true (s .«p_edition») (s .«q_edition») (sym (ap (λ (x : Bool). not x || eqb (s .«p_edition») (s .«q_edition»)) o) ∙ and-right both (oneSheet s) (given-held (both && oneSheet s) 2 (z 0)));
-      no-t = λ o. eqb-true (s .threshold) 0 (not-false (eqb (s .threshold) 0) (sym (ap (λ (x : Bool). x && not (eqb (s .threshold) 0)) o) ∙ given-failed (ownWithT s) 20 (z 1)));
+      no-t = λ o. eqb-true (s .terms .threshold) 0 (not-false (eqb (s .terms .threshold) 0) (sym (ap (λ (x : Bool). x && not (eqb (s .terms .threshold) 0)) o) ∙ given-failed (ownWithT s) 20 (z 1)));
     }
 
 module _ (w : World) where
-  list-asc : (s : Source) → ascends start (listOf w s) ≡ true
-  list-asc s = go (s .own)
+  -- the points in either place are such as sheets hold
+  pumps-fine : (s : Source) → Sound (pumpsOf w s)
+  pumps-fine s = go (s .terms .terms .own)
     where
-      go : (o : Bool) → ascends start (cond o (selfList (w .assets (s .«q_edition»))) (thresholdList (s .threshold) (w .pumps (s .«p_edition»)) (w .chambers (s .«q_edition»)))) ≡ true
-      go true = self-ascends (w .assets (s .«q_edition»)) (w .assets-sound (s .«q_edition») .rising)
-      go false = threshold-ascends (w .pumps (s .«p_edition»)) (w .chambers (s .«q_edition»)) (w .pumps-sound (s .«p_edition») .rising) (w .chambers-sound (s .«q_edition») .rising) (s .threshold)
+      go : (o : Bool) → Sound (cond o (w .assets (s .«q_edition»)) (w .pumps (s .«p_edition»)))
+      go true = w .assets-sound (s .«q_edition»)
+      go false = w .pumps-sound (s .«p_edition»)
+
+  chambers-fine : (s : Source) → Sound (chambersOf w s)
+  chambers-fine s = go (s .terms .terms .own)
+    where
+      go : (o : Bool) → Sound (cond o (w .assets (s .«q_edition»)) (w .chambers (s .«q_edition»)))
+      go true = w .assets-sound (s .«q_edition»)
+      go false = w .chambers-sound (s .«q_edition»)
+
+  list-asc : (s : Source) → ascends start (listOf w s) ≡ true
+  list-asc s = for-ascends (s .terms) (pumpsOf w s) (chambersOf w s) (pumps-fine s .rising) (chambers-fine s .rising)
 
   list-ok : (s : Source) → pairsOk (listOf w s) ≡ true
-  list-ok s = go (s .own)
-    where
-      go : (o : Bool) → pairsOk (cond o (selfList (w .assets (s .«q_edition»))) (thresholdList (s .threshold) (w .pumps (s .«p_edition»)) (w .chambers (s .«q_edition»)))) ≡ true
-      go true =
-          let S = w .assets (s .«q_edition») in
-          let o = w .assets-sound (s .«q_edition») in
-          ok-of (selfList S) (λ v m. let z = self-ids S (o .rising) v m in pair-ok v (z .0) (z .1) (self-sizes S o v m))
-      go false =
-          let P = w .pumps (s .«p_edition») in
-          let Q = w .chambers (s .«q_edition») in
-          let sp = w .pumps-sound (s .«p_edition») in
-          let sq = w .chambers-sound (s .«q_edition») in
-          ok-of (thresholdList (s .threshold) P Q)
-          (λ v m.
-          let n = threshold-in P Q (sp .rising) (sq .rising) (s .threshold) v m in
-          let z = ring-ids P Q (sp .rising) (sq .rising) v n in
-          pair-ok v (z .0) (z .1) (ring-sizes P Q sp sq v n))
+  list-ok s =
+      let P = pumpsOf w s in
+      let Q = chambersOf w s in
+      let sp = pumps-fine s in
+      let sq = chambers-fine s in
+      ok-of (listOf w s) (λ v m. let z = for-ids (s .terms) P Q (sp .rising) (sq .rising) v m in pair-ok v (z .0) (z .1) (for-sizes (s .terms) P Q sp sq v m))
 
-  -- the list of a source by its kind
-  pub two-list : (s : Source) → s .own ≡ false → listOf w s ≡ thresholdList (s .threshold) (w .pumps (s .«p_edition»)) (w .chambers (s .«q_edition»))
-  two-list s o = rw o
-
-  pub own-list : (s : Source) → s .own ≡ true → listOf w s ≡ selfList (w .assets (s .«q_edition»))
-  own-list s o = rw o
-
-  -- what a page request answers on two sheets with these points is honest, where the points are those of their editions
-  pub honest-from : (s : Source) (k : Key) (size : ℕ) (P Q : List Point) (g : Page) → s .own ≡ false → 0 < size → size ≤ 16 → w .pumps (s .«p_edition») ≡ P → w .chambers (s .«q_edition») ≡ Q
-      → g ≡ pageOf s (thresholdList (s .threshold) P Q) k size → Honest w g
-  honest-from s k size P Q g o some most p q e =
-      record { of = s; after = k; size = size; some = some; most = most; is = e ∙ sym (ap (λ (l : List Pair). pageOf s l k size) (two-list s o) ∙ ap₂ (λ (x y : List Point). pageOf s (thresholdList (s .threshold) x y) k size) p q) }
-
-  -- and so is what a self join's answers
-  pub honest-own : (s : Source) (k : Key) (size : ℕ) (S : List Point) (g : Page) → s .own ≡ true → 0 < size → size ≤ 16 → w .assets (s .«q_edition») ≡ S
-      → g ≡ pageOf s (selfList S) k size → Honest w g
-  honest-own s k size S g o some most p e =
-      record { of = s; after = k; size = size; some = some; most = most; is = e ∙ sym (ap (λ (l : List Pair). pageOf s l k size) (own-list s o ∙ ap selfList p)) }
+  -- what a page request answers on sheets with these points is honest, where the points are those of their editions
+  pub honest-from : (s : Source) (k : Key) (size : ℕ) (P Q : List Point) (g : Page) → 0 < size → size ≤ 16 → pumpsOf w s ≡ P → chambersOf w s ≡ Q → g ≡ pageOf s (listFor (s .terms) P Q) k size → Honest w g
+  honest-from s k size P Q g some most p q e =
+      record { of = s; after = k; size = size; some = some; most = most; is = e ∙ sym (ap₂ (λ (x y : List Point). pageOf s (listFor (s .terms) x y) k size) p q) }
 
   -- the list of a book
   abbrev pub bookList : Book → List Pair

@@ -28,11 +28,11 @@ use Rattle.book.specs.declared.TakenArray.{TakenArray}
 
 -- a self join is of one sheet: "3 for a self join of two editions"
 abbrev pub oneSheet : Source → Bool
-oneSheet s = not (s .own) || eqb (s .«p_edition») (s .«q_edition»)
+oneSheet s = not (s .terms .own) || eqb (s .«p_edition») (s .«q_edition»)
 
 -- a self join has no t
 abbrev pub ownWithT : Source → Bool
-ownWithT s = s .own && not (eqb (s .threshold) 0)
+ownWithT s = s .terms .own && not (eqb (s .terms .threshold) 0)
 
 -- 3: an edition out of range, or a self join of two editions; then 21 "t outside 0 to 1,000 [..] after [..] 3 for begin", and for a self join "21 with a t"
 unfoldable pub beginNo : Source → ℕ
@@ -40,7 +40,7 @@ beginNo s =
     first
     (given (not (editionOk (s .«p_edition») && editionOk (s .«q_edition») && oneSheet s)) 3
     ∷ given (ownWithT s) 21
-    ∷ thresholdNo (s .threshold)
+    ∷ thresholdNo (s .terms .threshold)
     ∷ [])
 
 -- "A book is begun for two editions with nothing held, open, key (0, 0)." "Pages and books now carry t" and "say their kind": it is begun for these too.

@@ -10,8 +10,8 @@ use Rattle.list.specs.declared.Pair.{Pair}
 use Rattle.list.specs.declared.Source.{Source}
 use Rattle.list.specs.declared.Page.{Page}
 use Rattle.list.specs.Pages.{pageOf}
-use Rattle.list.specs.RingList.{thresholdList, Sound}
-use Rattle.list.specs.SelfList.{selfList}
+use Rattle.list.specs.RingList.{Sound}
+use Rattle.list.specs.Terms.{listFor}
 use Rattle.book.specs.declared.Book.{Book}
 use Rattle.book.specs.declared.Begun.the-variants as begun
 use Rattle.book.specs.Rules.{begunFor, lastKey, taken, takenSlots}
@@ -27,9 +27,16 @@ pub record World : Type 0 where
   pub assets-sound : (e : ℕ) → Sound (assets e)
 
 module _ (w : World) where
-  -- the list of a page or a book: of a self join that of its edition, else that of its two editions and its t
+  -- the points in the two places of a page or a book: of a self join those of its one edition in both
+  abbrev pub pumpsOf : Source → List Point
+  pumpsOf s = cond (s .terms .own) (w .assets (s .«q_edition»)) (w .pumps (s .«p_edition»))
+
+  abbrev pub chambersOf : Source → List Point
+  chambersOf s = cond (s .terms .own) (w .assets (s .«q_edition»)) (w .chambers (s .«q_edition»))
+
+  -- its list: that of its terms, of these points
   abbrev pub listOf : Source → List Pair
-  listOf s = cond (s .own) (selfList (w .assets (s .«q_edition»))) (thresholdList (s .threshold) (w .pumps (s .«p_edition»)) (w .chambers (s .«q_edition»)))
+  listOf s = listFor (s .terms) (pumpsOf s) (chambersOf s)
 
   -- a page that answers some request on two sheets of this world, or on one of a self join
   pub record Honest (g : Page) : Type 0 where

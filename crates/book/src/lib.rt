@@ -194,13 +194,13 @@ impl Book {
     {
         if !(words::is_edition(source.p_edition)
             & words::is_edition(source.q_edition)
-            & (!source.own | (source.p_edition == source.q_edition))) {
+            & (!source.terms.own | (source.p_edition == source.q_edition))) {
             return Begun::Refused(3);
         }
-        if source.own & !(source.threshold == 0) {
+        if source.terms.own & !(source.terms.threshold == 0) {
             return Begun::Refused(21);
         }
-        let no = list::threshold_no(source.threshold);
+        let no = list::threshold_no(source.terms.threshold);
         if no != 0 {
             return Begun::Refused(no);
         }
