@@ -253,14 +253,14 @@ begun-in s b e =
 module _ (w : World) where
   -- the points in either place are such as sheets hold
   pumps-fine : (s : Source) → Sound (pumpsOf w s)
-  pumps-fine s = go (s .terms .terms .own)
+  pumps-fine s = go (s .terms .own)
     where
       go : (o : Bool) → Sound (cond o (w .assets (s .«q_edition»)) (w .pumps (s .«p_edition»)))
       go true = w .assets-sound (s .«q_edition»)
       go false = w .pumps-sound (s .«p_edition»)
 
   chambers-fine : (s : Source) → Sound (chambersOf w s)
-  chambers-fine s = go (s .terms .terms .own)
+  chambers-fine s = go (s .terms .own)
     where
       go : (o : Bool) → Sound (cond o (w .assets (s .«q_edition»)) (w .chambers (s .«q_edition»)))
       go true = w .assets-sound (s .«q_edition»)
