@@ -35,6 +35,14 @@ pub struct Source {
     pub terms: Terms,
 }
 
+// What a page request asks for: the pairs strictly after a key, how many of them, and of which list.
+#[repr(C)]
+pub struct Request {
+    pub key: Key,
+    pub size: usize,
+    pub threshold: u32,
+}
+
 // One page of a list: the pairs that follow a key, how many they are, and whether none follows them.
 #[repr(C)]
 pub struct Page {

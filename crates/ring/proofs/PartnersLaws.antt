@@ -23,7 +23,7 @@ use Rattle.sheet.proofs.PointsLaws.{length-points}
 use Rattle.list.specs.Pairs.{chamberPairs}
 use Rattle.list.specs.Pages.{lastThreshold}
 use Rattle.list.specs.RingList.{ringList, partnersOf}
-use Rattle.list.proofs.ThresholdLaws.{partners-listed}
+use Rattle.list.proofs.TermsLaws.{partners-listed}
 use Rattle.sheet.specs.Find.{positionOf}
 use Rattle.join.specs.Threshold.{smaller}
 use Rattle.sheet.proofs.FindLaws.{has}

@@ -13,11 +13,13 @@ use Rattle.sheet.specs.Places.{pointsOf}
 use Rattle.sheet.specs.Open.{sheetNo}
 use Rattle.list.specs.declared.Key.{Key}
 use Rattle.list.specs.declared.Source.{Source}
+use Rattle.list.specs.declared.Terms.{Terms}
+use Rattle.list.specs.declared.Request.{Request}
 use Rattle.list.specs.Pairs.{start, none}
 use Rattle.list.specs.Pages.{thresholdNo, sizeNo, pageOf}
-use Rattle.list.specs.RingList.{thresholdList}
+use Rattle.list.specs.Terms.{full, withT, listFor}
 use Rattle.join.specs.Work.{pageOpened}
-use Rattle.join.specs.Sheets.{walksOf}
+use Rattle.join.specs.Sheets.{walksBy}
 use Rattle.join.specs.Threshold.{walksFor}
 use Rattle.ring.specs.declared.Paged.{Paged}
 
@@ -30,20 +32,20 @@ unfoldable pub askedNo : Key → ℕ → ℕ → ℕ
 askedNo key size t = first (keyNo key ∷ sizeNo size ∷ thresholdNo t ∷ [])
 
 -- "checks its sheets first [..]: 1 to 8 for P, then for Q"
-unfoldable pub pageNo : List ℤ → List ℤ → Key → ℕ → ℕ → ℕ
-pageNo P Q key size t = first (sheetNo P ∷ sheetNo Q ∷ keyNo key ∷ sizeNo size ∷ thresholdNo t ∷ [])
+unfoldable pub pageNo : List ℤ → List ℤ → Request → ℕ
+pageNo P Q a = first (sheetNo P ∷ sheetNo Q ∷ keyNo (a .key) ∷ sizeNo (a .size) ∷ thresholdNo (a .threshold) ∷ [])
 
--- "The page holds both editions"; "Pages and books now carry t, 0 for the full list" and "say their kind", here a list of two sheets
-unfoldable pub sourceOf : List ℤ → List ℤ → ℕ → Source
-sourceOf P Q t = record { «p_edition» = num (edition P); «q_edition» = num (edition Q); threshold = t; own = false }
+-- "The page holds both editions"; "Pages and books now carry t, 0 for the full list" and "say their kind"
+unfoldable pub sourceOf : List ℤ → List ℤ → Terms → Source
+sourceOf P Q a = record { «p_edition» = num (edition P); «q_edition» = num (edition Q); terms = a }
 
--- the page of t's list, from the points alone, and beside it the count of the walks, the kept sets on sixteen words
-unfoldable pub pageGiven : List ℤ → List ℤ → Key → ℕ → ℕ → Paged
-pageGiven P Q key size t =
+-- the page of the terms' list, from the points alone, and beside it the count of the walks, the kept sets on sixteen words
+unfoldable pub pageGiven : Terms → List ℤ → List ℤ → Key → ℕ → Paged
+pageGiven a P Q key size =
     record {
       number = 0;
-      opened = pageOpened (walksFor (walksOf 16 P Q) (points P) t) key size (points P) (points Q);
-      page = pageOf (sourceOf P Q t) (thresholdList t (pointsOf P) (pointsOf Q)) key size;
+      opened = pageOpened (walksFor (walksBy a 16 P Q) (points P) (a .threshold)) key size (points P) (points Q);
+      page = pageOf (sourceOf P Q a) (listFor a (pointsOf P) (pointsOf Q)) key size;
     }
 
 -- "Every refusal gives only its number [..]. An array or number in a refused answer is all zero"
@@ -52,9 +54,13 @@ pageRefused k =
     record {
       number = k;
       opened = 0;
-      page = record { source = record { «p_edition» = 0; «q_edition» = 0; threshold = 0; own = false }; key = start; count = 0; end = false; pairs = replicate 16 none };
+      page = record { source = record { «p_edition» = 0; «q_edition» = 0; terms = full }; key = start; count = 0; end = false; pairs = replicate 16 none };
     }
 
+-- what a request's list is told by: it is of two sheets
+abbrev pub termsOf : Request → Terms
+termsOf a = withT (a .threshold)
+
 -- the answer by its number: 0 is the page, any other is the refusal of that number
-unfoldable pub pageAnswer : List ℤ → List ℤ → Key → ℕ → ℕ → Paged
-pageAnswer P Q key size t = answer (pageNo P Q key size t) (pageGiven P Q key size t) pageRefused
+unfoldable pub pageAnswer : List ℤ → List ℤ → Request → Paged
+pageAnswer P Q a = answer (pageNo P Q a) (pageGiven (termsOf a) P Q (a .key) (a .size)) pageRefused

@@ -1,12 +1,17 @@
 // The page request.
 use crate::Paged;
+use join::Ask;
 use list::Key;
 use list::Page;
 use list::Pair;
+use list::Request;
 use list::Source;
+use list::Terms;
+use sheet::Size;
 ghost use mathlib.Core.Path.{_≡_};
 ghost use Prim.Native.Nat.{_≤_};
 ghost use Rattle.sheet.specs.Open.{Opens};
+ghost use Rattle.join.specs.Sheets.{Alone};
 ghost use Rattle.ring.specs.Page.{askedNo, sourceOf, pageGiven, pageRefused, pageAnswer};
 
 // A refused request: its number, and zeros.
@@ -20,8 +25,10 @@ pub(crate) fn refused(number: u32) -> Paged
             source: Source {
                 p_edition: 0,
                 q_edition: 0,
-                threshold: 0,
-                own: false,
+                terms: Terms {
+                    threshold: 0,
+                    own: false,
+                },
             },
             key: Key { q: 0, p: 0 },
             count: 0,
@@ -49,44 +56,27 @@ pub(crate) fn asked_no(key: Key, size: usize, threshold: u32) -> u32
     list::threshold_no(threshold)
 }
 
-// The editions of two sheets that open, and the threshold.
-fn source_of(
-    p: &[i32],
-    np: usize,
-    mp: usize,
-    q: &[i32],
-    nq: usize,
-    mq: usize,
-    threshold: u32,
-) -> Source
-    requires { ⌜ Opens (now p) np mp × Opens (now q) nq mq ⌝ }
-    ensures { λ r. ⌜ r ≡ sourceOf (now (p .entry)) (now (q .entry)) threshold ⌝ }
+// The editions of two sheets that open, and the terms.
+fn source_of(p: &[i32], hp: Size, q: &[i32], hq: Size, terms: Terms) -> Source
+    requires { ⌜ Opens (now p) (hp .n) (hp .m) × Opens (now q) (hq .n) (hq .m) ⌝ }
+    ensures { λ r. ⌜ r ≡ sourceOf (now (p .entry)) (now (q .entry)) terms ⌝ }
 {
     Source {
         p_edition: words::num_at(p, p.len() - 2) as u32,
         q_edition: words::num_at(q, q.len() - 2) as u32,
-        threshold: threshold,
-        own: false,
+        terms: terms,
     }
 }
 
-// The page that two sheets that open give, of at most 1,024 pump houses.
-fn given(
-    p: &[i32],
-    np: usize,
-    mp: usize,
-    q: &[i32],
-    nq: usize,
-    mq: usize,
-    key: Key,
-    size: usize,
-    threshold: u32,
-) -> Paged
-    requires { ⌜ Opens (now p) np mp × Opens (now q) nq mq × (np ≤ 1024) × (size ≤ 16) ⌝ }
-    ensures { λ r. ⌜ r ≡ pageGiven (now (p .entry)) (now (q .entry)) key size threshold ⌝ }
+// The page that two sheets that open give, or one in both places, of at most 1,024 pump houses.
+pub(crate) fn given(p: &[i32], hp: Size, q: &[i32], hq: Size, ask: Ask) -> Paged
+    requires { ⌜ Opens (now p) (hp .n) (hp .m) × Opens (now q) (hq .n) (hq .m) × (hp .n ≤ 1024) × (ask .size ≤ 16) × Alone (ask .terms) (now p) (now q) ⌝ }
+    ensures { λ r. ⌜ r ≡ pageGiven (ask .terms) (now (p .entry)) (now (q .entry)) (ask .key) (ask .size) ⌝ }
 {
-    let d = join::page_made(p, np, mp, q, nq, mq, key, size, threshold as usize);
-    let source = source_of(p, np, mp, q, nq, mq, threshold);
+    let key = ask.key;
+    let terms = ask.terms;
+    let d = join::page_made(p, hp, q, hq, ask);
+    let source = source_of(p, hp, q, hq, terms);
     let page = join::page_from(source, key, d);
     Paged {
         number: 0,
@@ -97,16 +87,28 @@ fn given(
 
 // The first `size` ring pairs strictly after the key, of chambers with at least so many as the threshold says (0: of all), and the nodes opened to find them.
 // Refused by 1 to 8 of P, then of Q, then by 9 for the key, then by 10 for the size, then by 21 for the threshold.
-pub fn page(p: &[i32], q: &[i32], key: Key, size: usize, threshold: u32) -> Paged
-    ensures { λ r. ⌜ r ≡ pageAnswer (now (p .entry)) (now (q .entry)) key size threshold ⌝ }
+pub fn page(p: &[i32], q: &[i32], request: Request) -> Paged
+    ensures { λ r. ⌜ r ≡ pageAnswer (now (p .entry)) (now (q .entry)) request ⌝ }
 {
     let h = crate::open::heads_of(p, q);
     if h.number != 0 {
         return refused(h.number);
     }
-    let asked = asked_no(key, size, threshold);
+    let key = request.key;
+    let asked = asked_no(key, request.size, request.threshold);
     if asked != 0 {
         return refused(asked);
     }
-    given(p, h.np, h.mp, q, h.nq, h.mq, key, size, threshold)
+    let hp = Size { n: h.np, m: h.mp };
+    let hq = Size { n: h.nq, m: h.mq };
+    let terms = Terms {
+        threshold: request.threshold,
+        own: false,
+    };
+    let ask = Ask {
+        key: key,
+        size: request.size,
+        terms: terms,
+    };
+    given(p, hp, q, hq, ask)
 }

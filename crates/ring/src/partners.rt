@@ -1,5 +1,6 @@
 // Whether a chamber has at least t partners.
 use crate::Partnered;
+use sheet::Size;
 ghost use mathlib.Core.Path.{_≡_};
 ghost use Rattle.ring.specs.Partners.{leastNo, partnersRefused, partnersAnswer};
 
@@ -42,7 +43,9 @@ pub fn partners(p: &[i32], q: &[i32], id: u32, t: u32) -> Partnered
         return refused(no);
     }
     let mut bits = [0u64; 16];
-    let count = join::partners_to(p, h.np, h.mp, q, h.nq, h.mq, j, t as usize, &mut bits);
+    let hp = Size { n: h.np, m: h.mp };
+    let hq = Size { n: h.nq, m: h.mq };
+    let count = join::partners_to(p, hp, q, hq, j, t as usize, &mut bits);
     Partnered {
         number: 0,
         count: count,

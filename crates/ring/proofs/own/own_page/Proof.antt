@@ -1,7 +1,7 @@
 -- `ring::own::own_page` meets its contract, number by number. Assumes nothing.
 use Rattle.ring.proofs.HeadLaws.{headed}
 use Rattle.ring.proofs.PageLaws.{size-in}
-use Rattle.ring.proofs.OwnLaws.{own-shut, own-asked, own-made, points-fit}
+use Rattle.ring.proofs.OwnLaws.{own-shut, own-asked, own-made, points-fit, of-one}
 use borrow.Author.Needs.{needs}
 use Rattle.ring.proofs.own.own_page.Statement.{statement}
 use Rattle.ring.proofs.own.own_page.Tie as tie
@@ -31,7 +31,7 @@ given-requires c κs =
     let a = c .before in
     let h = a .before .before .before .head-of in
     let o = headed _ _ (h .ensures) (a .before .if1 .left) in
-    (o .facts, points-fit _ _ o, size-in _ _ _ (a .asked-no .ensures) (c .if2 .left))
+    (o .facts, o .facts, points-fit _ _ o, size-in _ _ _ (a .asked-no .ensures) (c .if2 .left), of-one _)
 
 returns-3 : tie.Need-returns-3
 returns-3 c =

@@ -16,8 +16,8 @@ page-from-requires c κs = search needs
 returns : tie.Need-returns
 returns c =
     let m = c .before .before in
-    let p = m .before .pre in
-    page-given (p .0) (p .1) (p .2) _ _ _ (p .3) _ (m .page-made .ensures) _ (c .before .source-of .ensures) _ (c .page-from .ensures)
+    let p = m .before .before .before .pre in
+    page-given (p .0) (p .1) (p .2) _ (p .4) _ _ (p .3) _ (m .page-made .ensures) _ (c .before .source-of .ensures) _ (c .page-from .ensures)
 
 pub given-spec : {M : Type 1} → statement M
 given-spec = tie.close (tie.spec page-made-requires source-of-requires page-from-requires returns)

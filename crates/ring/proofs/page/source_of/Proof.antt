@@ -10,8 +10,8 @@ sub-num-at c = search needs
 num-at-requires : tie.Need-num-at-requires
 num-at-requires c κs = search needs
 
-cast-t11 : tie.Need-cast-t11
-cast-t11 c = search needs
+cast-t9 : tie.Need-cast-t9
+cast-t9 c = search needs
 
 sub-num-at-2 : tie.Need-sub-num-at-2
 sub-num-at-2 c = search needs
@@ -19,8 +19,8 @@ sub-num-at-2 c = search needs
 num-at-requires-2 : tie.Need-num-at-requires-2
 num-at-requires-2 c κs = search needs
 
-cast-t15 : tie.Need-cast-t15
-cast-t15 c = search needs
+cast-t13 : tie.Need-cast-t13
+cast-t13 c = search needs
 
 returns : tie.Need-returns
 returns c = source-read _ _ _ _ _ (c .before .num-at .ensures .0) (c .num-at2 .ensures .0)
@@ -28,4 +28,4 @@ returns c = source-read _ _ _ _ _ (c .before .num-at .ensures .0) (c .num-at2 .e
 pub source-of-spec : {M : Type 1} → statement M
 source-of-spec =
     tie.close
-    (tie.spec sub-num-at num-at-requires cast-t11 sub-num-at-2 num-at-requires-2 cast-t15 returns)
+    (tie.spec sub-num-at num-at-requires cast-t9 sub-num-at-2 num-at-requires-2 cast-t13 returns)
