@@ -1,10 +1,11 @@
 -- What crosses to C: of each answer that is an enum, the struct of numbers, its number of refusal first.
 -- "Every refusal gives only its number [..]. An array or number in a refused answer is all zero."
 -- The answers of open, filter walk, page, of the question for partners and of take are structs of numbers already, and cross as they are.
-use mathlib.Core.Bool.{false, cond}
+use mathlib.Core.Bool.{false}
 use Prim.Native.Nat.{ℕ}
 use lib.IntN.{ℤ, pos, _+ℤ_}
 use lib.Ieee.{Float, binary64, ofBits}
+use Rattle.words.specs.First.{answer}
 use Rattle.list.specs.Pairs.{start}
 use Rattle.walk.specs.declared.Hit.{Hit}
 use Rattle.walk.specs.declared.Hit.the-variants.{Clear, Point, Side}
@@ -19,7 +20,7 @@ use Rattle.book.specs.declared.Next.{Next}
 use Rattle.book.specs.declared.Next.the-variants as next
 use Rattle.book.specs.declared.Asked.{Asked}
 use Rattle.marker.specs.Half.{halfOf}
-use Rattle.marker.specs.Mark.{onMap}
+use Rattle.marker.specs.Mark.{markNo}
 use Rattle.marker.specs.declared.Marked.{Marked}
 use Rattle.marker.specs.declared.Marked.the-variants as marked
 use Rattle.ffi.specs.declared.PointAnswer.{PointAnswer}
@@ -70,4 +71,4 @@ markOver (marked.Refused k) = record { number = k; x = zeroFloat; y = zeroFloat 
 -- the one answer that the marker's promise admits: the halves of the sums, or 5
 unfoldable pub markedAt : ℤ → ℤ → ℤ → ℤ → Marked
 markedAt ax ay bx by =
-    cond (onMap ax ay bx by) (marked.At (record { x = halfOf (ax +ℤ bx); y = halfOf (ay +ℤ by) })) (marked.Refused 5)
+    answer (markNo ax ay bx by) (marked.At (record { x = halfOf (ax +ℤ bx); y = halfOf (ay +ℤ by) })) marked.Refused

@@ -1,16 +1,16 @@
 -- The answers of the calls, by their numbers; and the lent numbers after them.
 -- Assumes nothing.
 use mathlib.Core.Path.{_≡_, refl, sym, ap, _∙_}
-use mathlib.Core.Bool.{Bool, true, false, cond, not, _&&_}
 use mathlib.Core.List.{List, [], _∷_, _++_, map, append-assoc}
 use Prim.Native.Nat.{ℕ, suc, _+_, _-_, _≤_, _<_}
 use native.Mathlib.Omega.{arith}
 use native.Mathlib.Numerals.{add-one}
-use lib.Dec.{leb}
 use lib.IntN.{ℤ, pos}
 use lib.ListN.{length, getD, take, set, replicate, length-map, length-take, List·getD-append}
 use lib.Seq.{take-suc, take-all, set-at, length-take-le, getD-take}
-use borrow.Author.Tests.{leb-true, eq-eqb, ne-eqb, lt-ltb, le-ltb, not-true, not-false}
+use borrow.Author.Tests.{lt-ltb, le-ltb}
+use Rattle.words.specs.First.{given}
+use Rattle.words.proofs.FirstLaws.{first-passes, first-stops, first-last, answer-given, answer-refused}
 use Rattle.plane.specs.declared.Spot.{Spot}
 use Rattle.plane.specs.Rule.{size}
 use Rattle.words.specs.Word.{num}
@@ -26,33 +26,13 @@ use Rattle.near.specs.Room.{wiped, padded}
 use Rattle.near.specs.Claims.{distanceTo}
 use Rattle.near.proofs.OrderLaws.{order-small}
 use Rattle.ring.specs.declared.Filtered.{Filtered}
-use Rattle.ring.specs.Page.{sizeNo}
+use Rattle.list.specs.Pages.{sizeNo}
 use Rattle.ring.specs.Answers.{filteredTo, unfiltered}
-use Rattle.ring.proofs.NumberLaws.{first-stops, first-passes}
 use Rattle.nearest.specs.declared.Near.{Near}
 use Rattle.nearest.specs.declared.Found.{Found}
 use Rattle.nearest.specs.declared.Chamber.{Chamber}
 use Rattle.nearest.specs.Nearest.{waitNo, chamberNo, nearestNo, nearFilterNo, standsAt, chamberFound, noPoint, nearAt, sixteen, nearestAt, nearestRefused, nearestAnswer, nearFiltered, waitedBy}
-use Rattle.nearest.proofs.ChamberLaws.{chamber-number, Placed, placed-facts}
-
--- ---- the size
-
-pub size-10 : (k : ℕ) → not (leb 1 k && leb k 16) ≡ true → 10 ≡ sizeNo k
-unfolding sizeNo
-size-10 k e = rw (not-true (leb 1 k && leb k 16) e)
-
-pub size-0 : (k : ℕ) → not (leb 1 k && leb k 16) ≡ false → 0 ≡ sizeNo k
-unfolding sizeNo
-size-0 k e = rw (not-false (leb 1 k && leb k 16) e)
-
-pub size-most : (k j : ℕ) → j ≡ sizeNo k → j ≡ 0 → k ≤ 16
-unfolding sizeNo
-size-most k j e z = go (leb 1 k) (leb k 16) refl (sym e ∙ z)
-  where
-    go : (s t : Bool) → leb k 16 ≡ t → _≡_ {A = ℕ} (cond (s && t) 0 10) 0 → k ≤ 16
-    go true true u f = leb-true k 16 u
-    go true false u f = absurd (omega (arith, f))
-    go false t u f = absurd (omega (arith, f))
+use Rattle.nearest.proofs.ChamberLaws.{chamber-number, chamber-front, Placed, placed-facts}
 
 -- ---- the pump houses, one by one
 
@@ -125,14 +105,14 @@ module _ (P Q : List ℤ) (id k : ℕ) (ws : List ℕ) where
 
   nearest-refused : (i : ℕ) → no ≡ i → (i ≡ 0 → ⊥) → (r : Found) → r ≡ nearestRefused i → Answered r ws
   unfolding nearestAnswer waitedBy
-  nearest-refused i e ne r f = (f ∙ (rw (e, ne-eqb i 0 ne)), rw (e, ne-eqb i 0 ne))
+  nearest-refused i e ne r f = (f ∙ sym (answer-refused _ nearestRefused _ i e ne), sym (answer-refused _ (λ n. ws) _ i e ne))
 
   module _ (c : Chamber) (e : c ≡ chamberFound P Q id) where
     pub nearest-chamber : (c .number ≡ 0 → ⊥) → (r : Found) → r ≡ nearestRefused (c .number) → Answered r ws
     unfolding nearestNo
     nearest-chamber ne r f =
         let n = chamber-number P Q id c e in
-        nearest-refused (c .number) (first-stops (chamberNo P Q id) _ (λ x. ne (n ∙ x)) ∙ sym n) ne r f
+        nearest-refused (c .number) (chamber-front P Q id _ ∙ first-stops (chamberNo P Q id) _ (λ x. ne (n ∙ x)) ∙ sym n) ne r f
 
     module _ (z : c .number ≡ 0) (j : ℕ) (g : j ≡ sizeNo k) where
       at : Placed P Q id c
@@ -140,23 +120,23 @@ module _ (P Q : List ℤ) (id k : ℕ) (ws : List ℕ) where
 
       pub nearest-size : (j ≡ 0 → ⊥) → (r : Found) → r ≡ nearestRefused j → Answered r ws
       unfolding nearestNo
-      nearest-size ne r f = nearest-refused j (first-passes (chamberNo P Q id) _ (at .no) ∙ first-stops (sizeNo k) _ (λ x. ne (g ∙ x)) ∙ sym g) ne r f
+      nearest-size ne r f = nearest-refused j (chamber-front P Q id _ ∙ first-passes (chamberNo P Q id) _ (at .no) ∙ first-stops (sizeNo k) _ (λ x. ne (g ∙ x)) ∙ sym g) ne r f
 
       module _ (y : j ≡ 0) where
         passes : no ≡ waitNo P (length ws)
         unfolding nearestNo
-        passes = first-passes (chamberNo P Q id) _ (at .no) ∙ first-passes (sizeNo k) _ (sym g ∙ y)
+        passes = chamber-front P Q id _ ∙ first-passes (chamberNo P Q id) _ (at .no) ∙ first-passes (sizeNo k) _ (sym g ∙ y) ∙ first-last _
 
         pub nearest-room : length ws < c .n + c .m → (r : Found) → r ≡ nearestRefused 25 → Answered r ws
-        unfolding waitNo
+        unfolding waitNo given
         nearest-room h r f = nearest-refused 25 (passes ∙ (rw (lt-ltb (length ws) (points P + nodes P) (omega (arith, at .n-is, at .m-is))))) (λ x. omega arith) r f
 
         pub nearest-given : c .n + c .m ≤ length ws → (r : Found) (q : Spot) (ws′ : List ℕ) → q ≡ c .at → r ≡ nearestAt P q k → ws′ ≡ wiped (c .n + c .m) ws → Answered r ws′
-        unfolding waitNo nearestAnswer waitedBy
+        unfolding waitNo given nearestAnswer waitedBy
         nearest-given h r q ws′ i f d =
             let v : no ≡ 0 = passes ∙ (rw (le-ltb (length ws) (points P + nodes P) (omega (arith, at .n-is, at .m-is)))) in
             let s : c .n + c .m ≡ points P + nodes P = omega (arith, at .n-is, at .m-is) in
-            (f ∙ ap (λ (x : Spot). nearestAt P x k) (i ∙ at .at-is) ∙ (rw (eq-eqb no 0 v)), d ∙ ap (λ (x : ℕ). wiped x ws) s ∙ (rw (eq-eqb no 0 v)))
+            (f ∙ ap (λ (x : Spot). nearestAt P x k) (i ∙ at .at-is) ∙ sym (answer-given _ nearestRefused _ v), d ∙ ap (λ (x : ℕ). wiped x ws) s ∙ sym (answer-given _ (λ n. ws) _ v))
 
 -- ---- near_filter
 
@@ -169,14 +149,14 @@ module _ (P Q : List ℤ) (id : ℕ) (ws : List ℕ) where
 
   filter-refused : (i : ℕ) → filter-no ≡ i → (i ≡ 0 → ⊥) → (r : Filtered) → r ≡ unfiltered i → Filters r ws
   unfolding nearFiltered waitedBy
-  filter-refused i e ne r f = (f ∙ (rw (e, ne-eqb i 0 ne)), rw (e, ne-eqb i 0 ne))
+  filter-refused i e ne r f = (f ∙ sym (answer-refused _ unfiltered _ i e ne), sym (answer-refused _ (λ n. ws) _ i e ne))
 
   module _ (c : Chamber) (e : c ≡ chamberFound P Q id) where
     pub filter-chamber : (c .number ≡ 0 → ⊥) → (r : Filtered) → r ≡ unfiltered (c .number) → Filters r ws
     unfolding nearFilterNo
     filter-chamber ne r f =
         let n = chamber-number P Q id c e in
-        filter-refused (c .number) (first-stops (chamberNo P Q id) _ (λ x. ne (n ∙ x)) ∙ sym n) ne r f
+        filter-refused (c .number) (chamber-front P Q id _ ∙ first-stops (chamberNo P Q id) _ (λ x. ne (n ∙ x)) ∙ sym n) ne r f
 
     module _ (z : c .number ≡ 0) where
       filter-at : Placed P Q id c
@@ -184,14 +164,14 @@ module _ (P Q : List ℤ) (id : ℕ) (ws : List ℕ) where
 
       filter-passes : filter-no ≡ waitNo P (length ws)
       unfolding nearFilterNo
-      filter-passes = first-passes (chamberNo P Q id) _ (filter-at .no)
+      filter-passes = chamber-front P Q id _ ∙ first-passes (chamberNo P Q id) _ (filter-at .no) ∙ first-last _
 
       pub filter-room : length ws < c .n + c .m → (r : Filtered) → r ≡ unfiltered 25 → Filters r ws
-      unfolding waitNo
+      unfolding waitNo given
       filter-room h r f = filter-refused 25 (filter-passes ∙ (rw (lt-ltb (length ws) (points P + nodes P) (omega (arith, filter-at .n-is, filter-at .m-is))))) (λ x. omega arith) r f
 
       pub filter-given : c .n + c .m ≤ length ws → (q : Spot) (b : List ℕ) (count opened : ℕ) (ws′ : List ℕ) → q ≡ c .at → b ≡ nearKept 16 P q .bits → opened ≡ nearKept 16 P q .opened → count ≡ card b → ws′ ≡ wiped (c .n + c .m) ws → Filters (record { number = 0; bits = b; count = count; opened = opened }) ws′
-      unfolding waitNo nearFiltered waitedBy filteredTo
+      unfolding waitNo given nearFiltered waitedBy filteredTo
       filter-given h q b count opened ws′ i eb eo ec d =
           let v : filter-no ≡ 0 = filter-passes ∙ (rw (le-ltb (length ws) (points P + nodes P) (omega (arith, filter-at .n-is, filter-at .m-is)))) in
           let s : c .n + c .m ≡ points P + nodes P = omega (arith, filter-at .n-is, filter-at .m-is) in
@@ -199,4 +179,4 @@ module _ (P Q : List ℤ) (id : ℕ) (ws : List ℕ) where
           let x : b ≡ nearKept 16 P (standsAt Q id) .bits = eb ∙ ap (λ (f : Kept). f .bits) k in
           let y : opened ≡ nearKept 16 P (standsAt Q id) .opened = eo ∙ ap (λ (f : Kept). f .opened) k in
           let u : count ≡ card (nearKept 16 P (standsAt Q id) .bits) = ec ∙ ap card x in
-          ((λ t. record { number = 0; bits = x t; count = u t; opened = y t }) ∙ (rw (eq-eqb filter-no 0 v)), d ∙ ap (λ (a : ℕ). wiped a ws) s ∙ (rw (eq-eqb filter-no 0 v)))
+          ((λ t. record { number = 0; bits = x t; count = u t; opened = y t }) ∙ sym (answer-given _ unfiltered _ v), d ∙ ap (λ (a : ℕ). wiped a ws) s ∙ sym (answer-given _ (λ n. ws) _ v))

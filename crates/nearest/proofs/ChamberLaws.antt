@@ -4,27 +4,27 @@
 --     Placed, placed-facts      what a call may rely on where the number is 0
 -- Assumes nothing.
 use mathlib.Core.Path.{_≡_, refl, sym, ap, subst, _∙_}
-use mathlib.Core.Bool.{Bool, true, false, cond}
-use mathlib.Core.List.{List}
+use mathlib.Core.List.{List, [], _∷_}
 use Prim.Native.Nat.{ℕ, _≤_, _<_}
 use native.Mathlib.Omega.{arith}
-use lib.Dec.{eqb, ltb}
+use lib.Dec.{ltb}
 use lib.IntN.{ℤ}
 use lib.ListN.{length}
-use borrow.Author.Tests.{eq-eqb, ne-eqb, eqb-true, lt-ltb, le-ltb, ltb-true}
+use borrow.Author.Tests.{lt-ltb, le-ltb, ltb-true}
+use Rattle.words.specs.First.{given, first}
+use Rattle.words.proofs.FirstLaws.{none-applies, first-front, first-last, given-held, answer-given, answer-refused, answer-number}
 use Rattle.plane.specs.declared.Spot.{Spot}
 use Rattle.plane.specs.Rule.{SpotIn}
 use Rattle.sheet.specs.Layout.{points, nodes}
 use Rattle.sheet.specs.Places.{spotOf, pointsOf}
-use Rattle.sheet.specs.Open.{Opens}
+use Rattle.sheet.specs.Open.{sheetNo, Opens}
 use Rattle.sheet.proofs.PointsLaws.{length-points}
 use Rattle.sheet.proofs.SheetLaws.{own}
 use Rattle.sheet.proofs.RangeLaws.{spot-in}
 use Rattle.ring.specs.Numbers.{sheetsNo}
 use Rattle.ring.specs.Answers.{headOf, headsOf}
 use Rattle.ring.specs.declared.Head.{Head}
-use Rattle.ring.proofs.NumberLaws.{first-passes}
-use Rattle.ring.proofs.HeadLaws.{headed, heads-p, heads-q, heads-open, heads-number, headed-both, sheets-stop}
+use Rattle.ring.proofs.HeadLaws.{headed, heads-p, heads-q, heads-open, heads-number, sheets-both, headed-both, sheets-open, sheets-stop}
 use Rattle.nearest.specs.declared.Chamber.{Chamber}
 use Rattle.nearest.specs.Nearest.{chamberNo, standsAt, unplacedAt, chamberFound}
 use Rattle.sheet.specs.Find.{positionOf}
@@ -38,28 +38,25 @@ here P Q id = record { number = 0; n = points P; m = nodes P; at = standsAt Q id
 module _ (P Q : List ℤ) (id : ℕ) where
   chamber-refused : (k : ℕ) → chamberNo P Q id ≡ k → (k ≡ 0 → ⊥) → unplacedAt k ≡ chamberFound P Q id
   unfolding chamberFound
-  chamber-refused k e ne = rw (e, ne-eqb k 0 ne)
+  chamber-refused k e ne = sym (answer-refused (here P Q id) unplacedAt _ k e ne)
 
   chamber-here : chamberNo P Q id ≡ 0 → here P Q id ≡ chamberFound P Q id
   unfolding chamberFound
-  chamber-here e = rw (eq-eqb (chamberNo P Q id) 0 e)
+  chamber-here e = sym (answer-given (here P Q id) unplacedAt _ e)
 
   pub chamber-number : (c : Chamber) → c ≡ chamberFound P Q id → c .number ≡ chamberNo P Q id
   unfolding chamberFound unplacedAt
-  chamber-number c e = ap (λ (g : Chamber). g .number) e ∙ number (eqb (chamberNo P Q id) 0) refl
-    where
-      number : (t : Bool) → eqb (chamberNo P Q id) 0 ≡ t → cond {A = Chamber} t (here P Q id) (unplacedAt (chamberNo P Q id)) .number ≡ chamberNo P Q id
-      number true t = sym (eqb-true (chamberNo P Q id) 0 t)
-      number false t = refl
+  chamber-number c e = ap (λ (g : Chamber). g .number) e ∙ answer-number (here P Q id) unplacedAt (λ g. g .number) refl (λ k. refl) (chamberNo P Q id)
+
+  -- the number of a call for a chamber: its number, and where that is 0 what comes after
+  pub chamber-front : (rest : List ℕ) → first (sheetNo P ∷ sheetNo Q ∷ idNo (pointsOf Q) id ∷ rest) ≡ first (chamberNo P Q id ∷ rest)
+  unfolding chamberNo
+  chamber-front rest = first-front (sheetNo P ∷ sheetNo Q ∷ idNo (pointsOf Q) id ∷ []) rest
 
   -- a known id is that of a chamber
   known : idNo (pointsOf Q) id ≡ 0 → positionOf (pointsOf Q) id < length (pointsOf Q)
   unfolding idNo
-  known e = go (ltb (positionOf (pointsOf Q) id) (length (pointsOf Q))) refl e
-    where
-      go : (t : Bool) → ltb (positionOf (pointsOf Q) id) (length (pointsOf Q)) ≡ t → _≡_ {A = ℕ} (cond t 0 20) 0 → positionOf (pointsOf Q) id < length (pointsOf Q)
-      go true t f = ltb-true (positionOf (pointsOf Q) id) (length (pointsOf Q)) t
-      go false t f = absurd (omega (arith, f))
+  known e = let j = positionOf (pointsOf Q) id in let n = length (pointsOf Q) in ltb-true j n (given-held (ltb j n) 19 e)
 
   pub record Placed (c : Chamber) : Type 0 where
     pub no : chamberNo P Q id ≡ 0
@@ -75,10 +72,10 @@ module _ (P Q : List ℤ) (id : ℕ) where
   placed-facts c e z =
       let no : chamberNo P Q id ≡ 0 = sym (chamber-number c e) ∙ z in
       let f : c ≡ here P Q id = e ∙ sym (chamber-here no) in
-      let s : sheetsNo P Q ≡ 0 = both (eqb (sheetsNo P Q) 0) refl no in
+      let each = none-applies _ .0 no in
+      let s : sheetsNo P Q ≡ 0 = sheets-both P Q (each 0) (each 1) in
       let o = headed-both P Q (headsOf P Q) refl (heads-number P Q (headsOf P Q) refl ∙ s) in
-      let k : idNo (pointsOf Q) id ≡ 0 = sym (first-passes (sheetsNo P Q) (idNo (pointsOf Q) id) s) ∙ no in
-      let j : positionOf (pointsOf Q) id < headsOf P Q .nq = omega (arith, known k, length-points Q, o .nq-is) in
+      let j : positionOf (pointsOf Q) id < headsOf P Q .nq = omega (arith, known (each 2), length-points Q, o .nq-is) in
       record {
         no = no;
         n-is = ap (λ (g : Chamber). g .n) f;
@@ -88,10 +85,6 @@ module _ (P Q : List ℤ) (id : ℕ) where
         opens = subst (λ (g : Chamber). Opens P (g .n) (g .m)) (sym f) (own (o .p-facts));
         within = subst (λ (g : Chamber). SpotIn (g .at)) (sym f) (spot-in (o .q-facts) (positionOf (pointsOf Q) id) j);
       }
-    where
-      both : (t : Bool) → eqb (sheetsNo P Q) 0 ≡ t → cond t (idNo (pointsOf Q) id) (sheetsNo P Q) ≡ 0 → sheetsNo P Q ≡ 0
-      both true t y = eqb-true (sheetsNo P Q) 0 t
-      both false t y = y
 
   module _ (a : Head) (e : a ≡ headOf P) where
     pub placed-p : (a .number ≡ 0 → ⊥) → (c : Chamber) → c ≡ unplacedAt (a .number) → c ≡ chamberFound P Q id
@@ -111,14 +104,14 @@ module _ (P Q : List ℤ) (id : ℕ) where
         many = length-points Q ∙ sym (headed Q b f y .n-is)
 
         pub placed-unknown : b .n ≤ j → (c : Chamber) → c ≡ unplacedAt 20 → c ≡ chamberFound P Q id
-        unfolding chamberNo idNo
+        unfolding chamberNo idNo given
         placed-unknown h c r =
-            r ∙ chamber-refused 20 (first-passes (sheetsNo P Q) _ open-both ∙ (rw (le-ltb (positionOf (pointsOf Q) id) (length (pointsOf Q)) (omega (arith, many))))) (λ x. omega arith)
+            r ∙ chamber-refused 20 (sheets-open P Q _ open-both ∙ first-last _ ∙ (rw (le-ltb (positionOf (pointsOf Q) id) (length (pointsOf Q)) (omega (arith, many))))) (λ x. omega arith)
 
         pub placed-here : j < b .n → (s : Spot) → s ≡ spotOf Q j → record { number = 0; n = a .n; m = a .m; at = s } ≡ chamberFound P Q id
-        unfolding chamberNo idNo standsAt
+        unfolding chamberNo idNo given standsAt
         placed-here h s at-j =
             let p = headed P a e z in
             let v : s ≡ standsAt Q id = at-j ∙ ap (spotOf Q) g in
             (λ t. record { number = 0; n = p .n-is t; m = p .m-is t; at = v t })
-            ∙ chamber-here (first-passes (sheetsNo P Q) _ open-both ∙ (rw (lt-ltb (positionOf (pointsOf Q) id) (length (pointsOf Q)) (omega (arith, many)))))
+            ∙ chamber-here (sheets-open P Q _ open-both ∙ first-last _ ∙ (rw (lt-ltb (positionOf (pointsOf Q) id) (length (pointsOf Q)) (omega (arith, many)))))

@@ -9,15 +9,16 @@
 --     nearest-once, near-filter-once      one input, one answer, one final state
 -- Assumes nothing.
 use mathlib.Core.Path.{_≡_, refl, sym, ap, _∙_}
-use mathlib.Core.Bool.{Bool, true, false, cond, _&&_}
+use mathlib.Core.Bool.{_&&_}
 use mathlib.Core.List.{List, [], _∷_, map}
 use Prim.Native.Nat.{ℕ, zero, suc, min, _+_, _-_, _*_, _≤_, _<_}
 use native.Mathlib.Omega.{arith}
-use lib.Dec.{eqb}
 use lib.IntN.{ℤ}
 use lib.ListN.{length, getD, take, drop, replicate, length-map, length-take, List·getD-append}
 use lib.Seq.{drop-at, getD-take}
-use borrow.Author.Tests.{eq-eqb, ne-eqb, eqb-true, lt-ltb, le-ltb, le-leb}
+use borrow.Author.Tests.{eq-eqb, eqb-true, lt-ltb, le-ltb}
+use Rattle.words.specs.First.{given}
+use Rattle.words.proofs.FirstLaws.{first-passes, first-last, answer-given, answer-refused, answer-number}
 use Rattle.words.specs.All.{firstB}
 use Rattle.words.proofs.AllLaws.{first-in, first-hit}
 use Rattle.plane.specs.declared.Spot.{Spot}
@@ -36,12 +37,14 @@ use Rattle.near.specs.Room.{wiped}
 use Rattle.near.proofs.Meaning.{near-all, near-exact}
 use Rattle.ring.specs.declared.Filtered.{Filtered}
 use Rattle.ring.specs.Numbers.{sheetsNo}
-use Rattle.ring.specs.Page.{sizeNo}
+use Rattle.list.specs.Pages.{sizeNo}
+use Rattle.list.proofs.PageLaws.{size-taken}
 use Rattle.ring.specs.Answers.{filteredTo, unfiltered}
-use Rattle.ring.proofs.NumberLaws.{first-passes}
+use Rattle.ring.proofs.HeadLaws.{sheets-open}
 use Rattle.nearest.specs.declared.Near.{Near}
 use Rattle.nearest.specs.declared.Found.{Found}
 use Rattle.nearest.specs.Nearest.{waitNo, chamberNo, nearestNo, nearFilterNo, standsAt, noPoint, nearAt, sixteen, nearestAt, nearestRefused, nearestAnswer, nearFiltered, waitedBy}
+use Rattle.nearest.proofs.ChamberLaws.{chamber-front}
 use Rattle.sheet.specs.Find.{positionOf}
 use Rattle.ring.specs.Partners.{idNo}
 use Rattle.sheet.proofs.FindLaws.{has}
@@ -51,72 +54,61 @@ use Rattle.sheet.proofs.FindLaws.{has}
 -- what was lent, by the number of the call
 pub waited-refused : (k : ℕ) (P : List ℤ) (ws : List ℕ) → (k ≡ 0 → ⊥) → waitedBy k P ws ≡ ws
 unfolding waitedBy
-waited-refused k P ws ne = rw (ne-eqb k 0 ne)
+waited-refused k P ws ne = answer-refused _ (λ n. ws) k k refl ne
 
 pub waited-given : (k : ℕ) (P : List ℤ) (ws : List ℕ) → k ≡ 0 → waitedBy k P ws ≡ wiped (points P + nodes P) ws
 unfolding waitedBy
-waited-given k P ws e = rw (eq-eqb k 0 e)
+waited-given k P ws e = answer-given _ (λ n. ws) k e
 
 module _ (P Q : List ℤ) (id k len : ℕ) where
   pub nearest-refused : (i : ℕ) → nearestNo P Q id k len ≡ i → (i ≡ 0 → ⊥) → nearestAnswer P Q id k len ≡ nearestRefused i
   unfolding nearestAnswer
-  nearest-refused i e ne = rw (e, ne-eqb i 0 ne)
+  nearest-refused i e ne = answer-refused _ nearestRefused _ i e ne
 
   pub nearest-given : nearestNo P Q id k len ≡ 0 → nearestAnswer P Q id k len ≡ nearestAt P (standsAt Q id) k
   unfolding nearestAnswer
-  nearest-given e = rw (eq-eqb (nearestNo P Q id k len) 0 e)
+  nearest-given e = answer-given _ nearestRefused _ e
 
   pub nearest-no : nearestAnswer P Q id k len .number ≡ nearestNo P Q id k len
   unfolding nearestAnswer nearestAt nearestRefused
-  nearest-no = go (eqb (nearestNo P Q id k len) 0) refl
-    where
-      go : (t : Bool) → eqb (nearestNo P Q id k len) 0 ≡ t → cond t (nearestAt P (standsAt Q id) k) (nearestRefused (nearestNo P Q id k len)) .number ≡ nearestNo P Q id k len
-      go true e = sym (eqb-true (nearestNo P Q id k len) 0 e)
-      go false e = refl
+  nearest-no = answer-number (nearestAt P (standsAt Q id) k) nearestRefused (λ r. r .number) refl (λ i. refl) (nearestNo P Q id k len)
 
 module _ (P Q : List ℤ) (id len : ℕ) where
   pub near-filter-refused : (i : ℕ) → nearFilterNo P Q id len ≡ i → (i ≡ 0 → ⊥) → nearFiltered P Q id len ≡ unfiltered i
   unfolding nearFiltered
-  near-filter-refused i e ne = rw (e, ne-eqb i 0 ne)
+  near-filter-refused i e ne = answer-refused _ unfiltered _ i e ne
 
   pub near-filter-given : nearFilterNo P Q id len ≡ 0 → nearFiltered P Q id len ≡ filteredTo (nearKept 16 P (standsAt Q id))
   unfolding nearFiltered
-  near-filter-given e = rw (eq-eqb (nearFilterNo P Q id len) 0 e)
+  near-filter-given e = answer-given _ unfiltered _ e
 
   pub near-filter-no : nearFiltered P Q id len .number ≡ nearFilterNo P Q id len
   unfolding nearFiltered filteredTo unfiltered
-  near-filter-no = go (eqb (nearFilterNo P Q id len) 0) refl
-    where
-      go : (t : Bool) → eqb (nearFilterNo P Q id len) 0 ≡ t → cond t (filteredTo (nearKept 16 P (standsAt Q id))) (unfiltered (nearFilterNo P Q id len)) .number ≡ nearFilterNo P Q id len
-      go true e = sym (eqb-true (nearFilterNo P Q id len) 0 e)
-      go false e = refl
+  near-filter-no = answer-number (filteredTo (nearKept 16 P (standsAt Q id))) unfiltered (λ r. r .number) refl (λ i. refl) (nearFilterNo P Q id len)
 
 -- ---- what is served
 
-size-in : (k : ℕ) → 1 ≤ k → k ≤ 16 → sizeNo k ≡ 0
-unfolding sizeNo
-size-in k some most = rw (le-leb 1 k some, le-leb k 16 most)
-
 module _ (P Q : List ℤ) (id len : ℕ) (opens : sheetsNo P Q ≡ 0) (j : ℕ) (j-in : j < points Q) (named : idAt (pointsOf Q) j ≡ id) (room : points P + nodes P ≤ len) where
   known : idNo (pointsOf Q) id ≡ 0
-  unfolding idNo positionOf
+  unfolding idNo positionOf given
   known = rw (lt-ltb (firstB (length (pointsOf Q)) (has Q id)) (length (pointsOf Q)) (first-in (has Q id) (length (pointsOf Q)) j (omega (arith, length-points Q)) (eq-eqb (idAt (pointsOf Q) j) id named)))
 
   enough : waitNo P len ≡ 0
-  unfolding waitNo
+  unfolding waitNo given
   enough = rw (le-ltb len (points P + nodes P) room)
 
   chamber : chamberNo P Q id ≡ 0
   unfolding chamberNo
-  chamber = first-passes (sheetsNo P Q) (idNo (pointsOf Q) id) opens ∙ known
+  chamber = sheets-open P Q _ opens ∙ first-last _ ∙ known
 
   pub near-filter-served : nearFilterNo P Q id len ≡ 0
   unfolding nearFilterNo
-  near-filter-served = first-passes (chamberNo P Q id) (waitNo P len) chamber ∙ enough
+  near-filter-served = chamber-front P Q id _ ∙ first-passes (chamberNo P Q id) _ chamber ∙ first-last _ ∙ enough
 
   pub nearest-served : (k : ℕ) → 1 ≤ k → k ≤ 16 → nearestNo P Q id k len ≡ 0
   unfolding nearestNo
-  nearest-served k some most = first-passes (chamberNo P Q id) _ chamber ∙ first-passes (sizeNo k) (waitNo P len) (size-in k some most) ∙ enough
+  nearest-served k some most =
+      chamber-front P Q id _ ∙ first-passes (chamberNo P Q id) _ chamber ∙ first-passes (sizeNo k) _ (size-taken k some most) ∙ first-last _ ∙ enough
 
 -- ---- the chamber
 

@@ -1,23 +1,23 @@
 -- Nearest first, for a single chamber: the numbers of the calls, their answers, and the lent numbers after them.
 -- "Give the pump houses one after another in that order, up to a size of 16. Then use the same walk as a second filter [..]. Waiting boxes and points stand in a lent slice of at
 -- least n + m entries, the first n + m zero after an answer, the rest untouched. Refusals: 20, 10 (the filter has no size), then 25 slice shorter than that."
-use mathlib.Core.Bool.{cond}
-use mathlib.Core.List.{List, _++_, map}
+use mathlib.Core.List.{List, [], _∷_, _++_, map}
 use Prim.Native.Nat.{ℕ, _+_, _-_}
-use lib.Dec.{eqb, ltb}
+use lib.Dec.{ltb}
 use lib.IntN.{ℤ, pos}
 use lib.ListN.{length, take, replicate}
+use Rattle.words.specs.First.{given, first, answer}
 use Rattle.plane.specs.declared.Spot.{Spot}
 use Rattle.plane.specs.Rule.{spot}
 use Rattle.plane.specs.Point.{idAt}
 use Rattle.sheet.specs.Layout.{points, nodes}
 use Rattle.sheet.specs.Places.{spotOf, pointsOf}
+use Rattle.sheet.specs.Open.{sheetNo}
+use Rattle.list.specs.Pages.{sizeNo}
 use Rattle.near.specs.NearWalk.{nearOrder, nearKept}
 use Rattle.near.specs.Room.{wiped}
 use Rattle.near.specs.Claims.{distanceTo}
 use Rattle.ring.specs.declared.Filtered.{Filtered}
-use Rattle.ring.specs.Numbers.{first, sheetsNo}
-use Rattle.ring.specs.Page.{sizeNo}
 use Rattle.sheet.specs.Find.{positionOf}
 use Rattle.ring.specs.Partners.{idNo}
 use Rattle.ring.specs.Answers.{filteredTo, unfiltered}
@@ -29,19 +29,19 @@ use Rattle.nearest.specs.declared.Chamber.{Chamber}
 
 -- "25 slice shorter than that": fewer numbers are lent than P has points and nodes
 unfoldable pub waitNo : List ℤ → ℕ → ℕ
-waitNo P len = cond (ltb len (points P + nodes P)) 25 0
+waitNo P len = given (ltb len (points P + nodes P)) 25
 
 -- the sheets' numbers, P's first, then 20
 unfoldable pub chamberNo : List ℤ → List ℤ → ℕ → ℕ
-chamberNo P Q id = first (sheetsNo P Q) (idNo (pointsOf Q) id)
+chamberNo P Q id = first (sheetNo P ∷ sheetNo Q ∷ idNo (pointsOf Q) id ∷ [])
 
 -- then 10 for the size, then 25
 unfoldable pub nearestNo : List ℤ → List ℤ → ℕ → ℕ → ℕ → ℕ
-nearestNo P Q id size len = first (chamberNo P Q id) (first (sizeNo size) (waitNo P len))
+nearestNo P Q id size len = first (sheetNo P ∷ sheetNo Q ∷ idNo (pointsOf Q) id ∷ sizeNo size ∷ waitNo P len ∷ [])
 
 -- "the filter has no size"
 unfoldable pub nearFilterNo : List ℤ → List ℤ → ℕ → ℕ → ℕ
-nearFilterNo P Q id len = first (chamberNo P Q id) (waitNo P len)
+nearFilterNo P Q id len = first (sheetNo P ∷ sheetNo Q ∷ idNo (pointsOf Q) id ∷ waitNo P len ∷ [])
 
 -- ---- answers
 
@@ -55,8 +55,7 @@ unplacedAt k = record { number = k; n = 0; m = 0; at = spot (pos 0) (pos 0) }
 -- what is found of two sheets and an id: 0, the points and nodes of P and where the chamber stands; or the number and zeros
 unfoldable pub chamberFound : List ℤ → List ℤ → ℕ → Chamber
 chamberFound P Q id =
-    cond (eqb (chamberNo P Q id) 0) (record { number = 0; n = points P; m = nodes P; at = standsAt Q id })
-    (unplacedAt (chamberNo P Q id))
+    answer (chamberNo P Q id) (record { number = 0; n = points P; m = nodes P; at = standsAt Q id }) unplacedAt
 
 abbrev pub noPoint : Near
 noPoint = record { id = 0; distance = 0 }
@@ -80,14 +79,12 @@ nearestRefused k = record { number = k; count = 0; points = replicate 16 noPoint
 
 -- the answer by its number: 0 is the pump houses, any other is the refusal of that number
 unfoldable pub nearestAnswer : List ℤ → List ℤ → ℕ → ℕ → ℕ → Found
-nearestAnswer P Q id size len =
-    cond (eqb (nearestNo P Q id size len) 0) (nearestAt P (standsAt Q id) size) (nearestRefused (nearestNo P Q id size len))
+nearestAnswer P Q id size len = answer (nearestNo P Q id size len) (nearestAt P (standsAt Q id) size) nearestRefused
 
 -- the kept set on sixteen words, the number of bits set and the nodes opened; or the refusal
 unfoldable pub nearFiltered : List ℤ → List ℤ → ℕ → ℕ → Filtered
-nearFiltered P Q id len =
-    cond (eqb (nearFilterNo P Q id len) 0) (filteredTo (nearKept 16 P (standsAt Q id))) (unfiltered (nearFilterNo P Q id len))
+nearFiltered P Q id len = answer (nearFilterNo P Q id len) (filteredTo (nearKept 16 P (standsAt Q id))) unfiltered
 
 -- ---- the lent numbers after a call by its number: "the first n + m zero after an answer, the rest untouched"; a refusal "leaves lent memory [..] as they stood"
 unfoldable pub waitedBy : ℕ → List ℤ → List ℕ → List ℕ
-waitedBy k P ws = cond (eqb k 0) (wiped (points P + nodes P) ws) ws
+waitedBy k P ws = answer k (wiped (points P + nodes P) ws) (λ n. ws)

@@ -9,7 +9,6 @@ ghost use Rattle.plane.specs.Rule.{SpotIn};
 ghost use Rattle.sheet.specs.Open.{Opens};
 ghost use Rattle.near.specs.Room.{wiped};
 ghost use Rattle.ring.specs.Answers.{unfiltered};
-ghost use Rattle.ring.specs.Page.{sizeNo};
 ghost use Rattle.nearest.specs.Nearest.{nearestNo, nearFilterNo, unplacedAt, chamberFound, nearAt, nearestAt, nearestRefused, nearestAnswer, nearFiltered, waitedBy};
 
 // A pump house: its id and its squared distance to the chamber.
@@ -94,16 +93,6 @@ fn placed(p: &[i32], q: &[i32], id: u32) -> Chamber
     }
 }
 
-// 10 where the size is not 1 to 16, else 0.
-fn size_no(size: usize) -> u32
-    ensures { λ r. ⌜ r ≡ sizeNo size ⌝ }
-{
-    if !((1 <= size) & (size <= 16)) {
-        return 10;
-    }
-    0
-}
-
 // The pump house at position i: its id and its squared distance to q.
 fn near_at(p: &[i32], n: usize, m: usize, q: Spot, i: usize) -> Near
     requires { ⌜ Opens (now p) n m × SpotIn q × (i < n) ⌝ }
@@ -148,7 +137,7 @@ pub fn nearest(p: &[i32], q: &[i32], id: u32, size: usize, waiting: &mut [u64]) 
     if c.number != 0 {
         return refused(c.number);
     }
-    let no = size_no(size);
+    let no = list::size_no(size);
     if no != 0 {
         return refused(no);
     }

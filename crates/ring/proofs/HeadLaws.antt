@@ -109,6 +109,10 @@ pub both-open : (P Q : List ℤ) → sheetsNo P Q ≡ 0 → (sheetNo P ≡ 0) ×
 unfolding sheetsNo
 both-open P Q e = let z = none-applies _ .0 e in (z 0, z 1)
 
+pub sheets-both : (P Q : List ℤ) → sheetNo P ≡ 0 → sheetNo Q ≡ 0 → sheetsNo P Q ≡ 0
+unfolding sheetsNo
+sheets-both P Q p q = first-passes (sheetNo P) _ p ∙ first-last (sheetNo Q) ∙ q
+
 pub record HeadedBoth (P Q : List ℤ) (h : Heads) : Type 0 where
   pub opens : sheetsNo P Q ≡ 0
   pub np-is : h .np ≡ points P

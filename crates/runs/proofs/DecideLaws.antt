@@ -8,7 +8,7 @@
 --     next-asked       what the reader of a run asks
 -- Assumes nothing.
 use mathlib.Core.Path.{_≡_, refl, sym, ap, subst, _∙_}
-use mathlib.Core.Bool.{Bool, true, false, cond, _&&_}
+use mathlib.Core.Bool.{Bool, true, false, cond, not, _&&_}
 use mathlib.Core.List.{List, []}
 use Prim.Native.Nat.{ℕ, _≤_, _<_}
 use native.Mathlib.Omega.{arith}
@@ -16,6 +16,9 @@ use lib.Dec.{eqb, ltb}
 use lib.IntN.{ℤ}
 use lib.ListN.{length}
 use borrow.Author.Tests.{eq-eqb, ne-eqb, lt-ltb, le-ltb, ltb-true, eqb-true}
+use Rattle.integers.proofs.Bools.{and-left, and-right}
+use Rattle.words.specs.First.{given}
+use Rattle.words.proofs.FirstLaws.{first-passes, first-stops, first-last, given-held, answer-given, answer-refused}
 use Rattle.sheet.specs.Layout.{points, nodes}
 use Rattle.sheet.specs.Limits.{form1}
 use Rattle.sheet.specs.Nodes.{levelOf}
@@ -27,8 +30,7 @@ use Rattle.leaf.proofs.RunCode.{run-left}
 use Rattle.ring.specs.Numbers.{sheetsNo}
 use Rattle.ring.specs.Answers.{headOf, headsOf}
 use Rattle.ring.specs.declared.Head.{Head}
-use Rattle.ring.proofs.NumberLaws.{first-stops, first-passes}
-use Rattle.ring.proofs.HeadLaws.{headed, heads-p, heads-q, heads-open, heads-number, headed-both, sheets-stop}
+use Rattle.ring.proofs.HeadLaws.{headed, heads-p, heads-q, heads-open, heads-number, headed-both, sheets-open, sheets-stop}
 use Rattle.runs.specs.declared.Run.{Run}
 use Rattle.runs.specs.Run.{leafNo, roomNo, runNo, runGiven, runRefused, runAnswer}
 use Rattle.runs.specs.Ready.{Ready}
@@ -36,7 +38,7 @@ use Rattle.runs.specs.Ready.{Ready}
 -- ---- the leaf
 
 pub leaf-past : (Q : List ℤ) (m v : ℕ) → nodes Q ≡ m → m ≤ v → 19 ≡ leafNo Q v
-unfolding leafNo
+unfolding leafNo given
 leaf-past Q m v e h = rw (e, le-ltb v m h)
 
 -- the level that was read is the leaf's
@@ -45,36 +47,35 @@ module _ (Q : List ℤ) (v : ℕ) {n m : ℕ} (o : Opens Q n m) {l : ℕ} (e : l
   level = e ∙ ap (λ (k : ℕ). levelOf Q k v) (sym (o .n-is))
 
   pub leaf-inner : (l ≡ 0 → ⊥) → 19 ≡ leafNo Q v
-  unfolding leafNo
+  unfolding leafNo given
   leaf-inner ne = rw (ne-eqb (levelOf Q (points Q) v) 0 (λ z. ne (level ∙ z))) (go (ltb v (nodes Q)))
     where
-      go : (t : Bool) → _≡_ {A = ℕ} 19 (cond (t && false) 0 19)
+      go : (t : Bool) → _≡_ {A = ℕ} 19 (cond (not (t && false)) 19 0)
       go true = refl
       go false = refl
 
   pub leaf-here : v < m → l ≡ 0 → 0 ≡ leafNo Q v
-  unfolding leafNo
+  unfolding leafNo given
   leaf-here h z = rw (lt-ltb v (nodes Q) (subst (λ (k : ℕ). v < k) (sym (o .m-is)) h), eq-eqb (levelOf Q (points Q) v) 0 (sym level ∙ z))
 
 pub leaf-is : (Q : List ℤ) (v : ℕ) → leafNo Q v ≡ 0 → (v < nodes Q) × (levelOf Q (points Q) v ≡ 0)
 unfolding leafNo
-leaf-is Q v e = go (ltb v (nodes Q)) refl (eqb (levelOf Q (points Q) v) 0) refl e
-  where
-    go : (s : Bool) → ltb v (nodes Q) ≡ s → (t : Bool) → eqb (levelOf Q (points Q) v) 0 ≡ t → _≡_ {A = ℕ} (cond (s && t) 0 19) 0 → (v < nodes Q) × (levelOf Q (points Q) v ≡ 0)
-    go true i true j f = (ltb-true v (nodes Q) i, eqb-true (levelOf Q (points Q) v) 0 j)
-    go true i false j f = absurd (omega (arith, f))
-    go false i t j f = absurd (omega (arith, f))
+leaf-is Q v e =
+    let a = ltb v (nodes Q) in
+    let b = eqb (levelOf Q (points Q) v) 0 in
+    let f = given-held (a && b) 18 e in
+    (ltb-true v (nodes Q) (and-left a b f), eqb-true (levelOf Q (points Q) v) 0 (and-right a b f))
 
 -- ---- the number
 
 -- with two sheets that open and a leaf of Q, the room for the pairs decides
 pub run-passes : (P Q : List ℤ) (v len : ℕ) → sheetsNo P Q ≡ 0 → leafNo Q v ≡ 0 → runNo P Q v len ≡ roomNo (leafList P Q v) len
 unfolding runNo
-run-passes P Q v len s l = first-passes (sheetsNo P Q) _ s ∙ first-passes (leafNo Q v) _ l
+run-passes P Q v len s l = sheets-open P Q _ s ∙ first-passes (leafNo Q v) _ l ∙ first-last _
 
 pub refused-is : (P Q : List ℤ) (v len : ℕ) (b : List ℕ) (r : Run) (k : ℕ) → runNo P Q v len ≡ k → (k ≡ 0 → ⊥) → r ≡ runRefused k → (r ≡ runAnswer P Q v len) × (r .number ≡ 0 → Ready P Q v b)
 unfolding runAnswer runRefused
-refused-is P Q v len b r k n ne x = (x ∙ rw (n, ne-eqb k 0 ne), λ z. absurd (ne (sym (ap (λ (w : Run). w .number) x) ∙ z)))
+refused-is P Q v len b r k n ne x = (x ∙ sym (answer-refused _ runRefused _ k n ne), λ z. absurd (ne (sym (ap (λ (w : Run). w .number) x) ∙ z)))
 
 module _ (P Q : List ℤ) (v len : ℕ) (a : Head) (e : a ≡ headOf P) where
   pub number-p : (a .number ≡ 0 → ⊥) → runNo P Q v len ≡ a .number
@@ -92,7 +93,7 @@ module _ (P Q : List ℤ) (v len : ℕ) (a : Head) (e : a ≡ headOf P) where
 
       pub number-leaf : (k ≡ 0 → ⊥) → runNo P Q v len ≡ k
       unfolding runNo
-      number-leaf ne = first-passes (sheetsNo P Q) _ both ∙ first-stops (leafNo Q v) _ (λ x. ne (g ∙ x)) ∙ sym g
+      number-leaf ne = sheets-open P Q _ both ∙ first-stops (leafNo Q v) _ (λ x. ne (g ∙ x)) ∙ sym g
 
       module _ (x : k ≡ 0) where
         -- ---- made
@@ -118,17 +119,17 @@ module _ (P Q : List ℤ) (v len : ℕ) (a : Head) (e : a ≡ headOf P) where
 
         module _ (count : ℕ) (count-is : count ≡ length (leafList P Q v)) where
           pub number-room : len < count → runNo P Q v len ≡ 16
-          unfolding roomNo
+          unfolding roomNo given
           number-room h = passes ∙ rw (lt-ltb len (length (leafList P Q v)) (subst (λ (c : ℕ). len < c) count-is h))
 
           pub given-is : count ≤ len → (opened : ℕ) → opened ≡ leafOpened 16 P Q v → (w : List ℕ) → RunSet P Q v 16 w
               → (_≡_ {A = Run} (record { number = 0; count = count; opened = opened }) (runAnswer P Q v len)) × (_≡_ {A = ℕ} 0 0 → Ready P Q v w)
-          unfolding roomNo runAnswer runGiven
+          unfolding roomNo given runAnswer runGiven
           given-is h opened opened-is w set =
               let n : runNo P Q v len ≡ 0 = passes ∙ rw (le-ltb len (length (leafList P Q v)) (subst (λ (c : ℕ). c ≤ len) count-is h)) in
               let p-opens = open-facts form1 form1-fair P (headed P a e z .opens) in
               let q-opens = open-facts form1 form1-fair Q (headed Q b f y .opens) in (
-                (λ t. record { number = 0; count = count-is t; opened = opened-is t }) ∙ rw n,
+                (λ t. record { number = 0; count = count-is t; opened = opened-is t }) ∙ sym (answer-given _ runRefused _ n),
                 λ t. record { p-opens = p-opens; q-opens = q-opens; few = few; here = here .0; level = here .1; run = set; all = run-left 16 P Q p-opens q-opens few v (here .0) (here .1) w set },
               )
 

@@ -15,7 +15,9 @@ use lib.Dec.{eqb, ltb}
 use lib.IntN.{ℤ}
 use lib.ListN.{length, take, drop, length-append, length-drop}
 use lib.Seq.{take-append-seam, drop-append-seam}
-use borrow.Author.Tests.{eq-eqb, ne-eqb, eqb-true, eqb-false, lt-ltb, le-ltb, ltb-true}
+use borrow.Author.Tests.{eqb-true, eqb-false, lt-ltb, le-ltb, ltb-true}
+use Rattle.words.specs.First.{given}
+use Rattle.words.proofs.FirstLaws.{answer-given, answer-refused}
 use Rattle.list.specs.declared.Pair.{Pair}
 use Rattle.leaf.specs.LeafRun.{leafList}
 use Rattle.ring.specs.Numbers.{sheetsNo}
@@ -27,11 +29,11 @@ use Rattle.runs.proofs.DecideLaws.{run-passes}
 
 module _ (P Q : List ℤ) (v len : ℕ) (sheets : sheetsNo P Q ≡ 0) (leaf : leafNo Q v ≡ 0) where
   pub run-served : length (leafList P Q v) ≤ len → runNo P Q v len ≡ 0
-  unfolding roomNo
+  unfolding roomNo given
   run-served h = run-passes P Q v len sheets leaf ∙ rw (le-ltb len (length (leafList P Q v)) h)
 
   pub run-sixteen : (runNo P Q v len ≡ 16) ↔ (len < length (leafList P Q v))
-  unfolding roomNo
+  unfolding roomNo given
   run-sixteen = (
     λ e. outnumber (ltb len (length (leafList P Q v))) refl (sym (run-passes P Q v len sheets leaf) ∙ e),
     λ h. run-passes P Q v len sheets leaf ∙ rw (lt-ltb len (length (leafList P Q v)) h),
@@ -46,7 +48,7 @@ module _ (P Q : List ℤ) (v len : ℕ) (sheets : sheetsNo P Q ≡ 0) (leaf : le
 module _ (P Q : List ℤ) (v : ℕ) (s : List Pair) where
   slots-given : runNo P Q v (length s) ≡ 0 → runSlots P Q v s ≡ leafList P Q v ++ drop (length (leafList P Q v)) s
   unfolding runSlots
-  slots-given z = rw (eq-eqb (runNo P Q v (length s)) 0 z)
+  slots-given z = answer-given _ (λ k. s) _ z
 
   -- the pairs stand in the first slots ..
   pub run-first : runNo P Q v (length s) ≡ 0 → take (length (leafList P Q v)) (runSlots P Q v s) ≡ leafList P Q v
@@ -59,7 +61,7 @@ module _ (P Q : List ℤ) (v : ℕ) (s : List Pair) where
   -- a refusal "leaves lent memory [..] as they stood"
   pub run-refused : (runNo P Q v (length s) ≡ 0 → ⊥) → runSlots P Q v s ≡ s
   unfolding runSlots
-  run-refused ne = rw (ne-eqb (runNo P Q v (length s)) 0 ne)
+  run-refused ne = answer-refused _ (λ k. s) _ _ refl ne
 
   pub run-long : length (runSlots P Q v s) ≡ length s
   run-long = go (eqb (runNo P Q v (length s)) 0) refl

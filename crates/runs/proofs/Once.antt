@@ -1,13 +1,11 @@
 -- One input, one answer and one final state of the slots: from the promise alone. And the number that the answer has.
 -- Assumes nothing.
 use mathlib.Core.Path.{_≡_, refl, sym, _∙_}
-use mathlib.Core.Bool.{Bool, true, false, cond}
 use mathlib.Core.List.{List}
 use Prim.Native.Nat.{ℕ}
-use lib.Dec.{eqb}
 use lib.IntN.{ℤ}
 use lib.ListN.{length}
-use borrow.Author.Tests.{eqb-true}
+use Rattle.words.proofs.FirstLaws.{answer-number}
 use Rattle.list.specs.declared.Pair.{Pair}
 use Rattle.runs.specs.declared.Run.{Run}
 use Rattle.runs.specs.declared.RunArray.{RunArray}
@@ -22,8 +20,4 @@ run-array-once P Q v s len r r′ x y = x ∙ sym y
 
 pub run-no : (P Q : List ℤ) (v len : ℕ) → runAnswer P Q v len .number ≡ runNo P Q v len
 unfolding runAnswer runGiven runRefused
-run-no P Q v len = by (eqb (runNo P Q v len) 0) refl
-  where
-    by : (t : Bool) → eqb (runNo P Q v len) 0 ≡ t → cond {A = Run} t (runGiven P Q v) (runRefused (runNo P Q v len)) .number ≡ runNo P Q v len
-    by true t = sym (eqb-true (runNo P Q v len) 0 t)
-    by false t = refl
+run-no P Q v len = answer-number (runGiven P Q v) runRefused (λ r. r .number) refl (λ k. refl) (runNo P Q v len)

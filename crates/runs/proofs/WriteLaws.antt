@@ -5,7 +5,7 @@
 --     run-stored, run-slots    a pair that is stored is of the list, and has a slot; after the last store the slots are what the definition says
 -- Assumes nothing.
 use mathlib.Core.Path.{_≡_, refl, sym, ap, subst, _∙_}
-use mathlib.Core.Bool.{Bool, true, false, cond}
+use mathlib.Core.Bool.{Bool, true, false}
 use mathlib.Core.List.{List, [], _∷_, _++_}
 use Prim.Native.Nat.{ℕ, zero, suc, _+_, _≤_, _<_}
 use native.Mathlib.Omega.{arith}
@@ -18,9 +18,9 @@ use borrow.Author.Tests.{eqb-true, eqb-false, ltb-false}
 use Rattle.list.specs.declared.Pair.{Pair}
 use Rattle.list.specs.Pairs.{none}
 use Rattle.leaf.specs.LeafRun.{leafList}
-use Rattle.ring.specs.Numbers.{first, sheetsNo}
+use Rattle.words.proofs.FirstLaws.{none-applies, given-failed, answer-given, answer-refused}
 use Rattle.runs.specs.declared.Run.{Run}
-use Rattle.runs.specs.Run.{leafNo, roomNo, runNo, runGiven, runRefused, runAnswer, runSlots}
+use Rattle.runs.specs.Run.{roomNo, runNo, runGiven, runRefused, runAnswer, runSlots}
 
 -- ---- one store after the other
 
@@ -59,19 +59,10 @@ next-is l t u v k e f h = (ap (λ (x : List Pair). getD x 0 none) same, ap (λ (
 
 -- ---- what the answer says
 
-fits-of : (a b n len : ℕ) → first a (first b (cond (ltb len n) 16 0)) ≡ 0 → n ≤ len
-fits-of a b n len e = go (eqb a 0) refl (eqb b 0) refl (ltb len n) refl e
-  where
-    go : (x : Bool) → eqb a 0 ≡ x → (y : Bool) → eqb b 0 ≡ y → (z : Bool) → ltb len n ≡ z → cond x (cond y (cond z 16 0) b) a ≡ 0 → n ≤ len
-    go true i true j true k f = absurd (omega arith)
-    go true i true j false k f = ltb-false len n k
-    go true i false j z k f = absurd (eqb-false b 0 j f)
-    go false i y j z k f = absurd (eqb-false a 0 i f)
-
 -- a run that is given has a slot for each pair
 pub run-fits : (P Q : List ℤ) (v len : ℕ) → runNo P Q v len ≡ 0 → length (leafList P Q v) ≤ len
 unfolding runNo roomNo
-run-fits P Q v len z = fits-of (sheetsNo P Q) (leafNo Q v) (length (leafList P Q v)) len z
+run-fits P Q v len z = let n = length (leafList P Q v) in ltb-false len n (given-failed (ltb len n) 15 (none-applies _ .0 z 3))
 
 module _ (P Q : List ℤ) (v : ℕ) (s : List Pair) (r : Run) (e : r ≡ runAnswer P Q v (length s)) where
   -- a pair that is stored is of the list, and has a slot
@@ -81,11 +72,12 @@ module _ (P Q : List ℤ) (v : ℕ) (s : List Pair) (r : Run) (e : r ≡ runAnsw
     where
       go : (t : Bool) → eqb (runNo P Q v (length s)) 0 ≡ t → (r .number ≡ 0) × (k < length (leafList P Q v)) × (k < length s)
       go true t =
-          let f : r ≡ runGiven P Q v = e ∙ ap (λ (b : Bool). cond b (runGiven P Q v) (runRefused (runNo P Q v (length s)))) t in
+          let z = eqb-true (runNo P Q v (length s)) 0 t in
+          let f : r ≡ runGiven P Q v = e ∙ answer-given _ runRefused _ z in
           let i : k < length (leafList P Q v) = subst (λ (w : Run). k < w .count) f h in
-          (ap (λ (w : Run). w .number) f, i, omega (arith, run-fits P Q v (length s) (eqb-true (runNo P Q v (length s)) 0 t)))
+          (ap (λ (w : Run). w .number) f, i, omega (arith, run-fits P Q v (length s) z))
       go false t =
-          let f : r ≡ runRefused (runNo P Q v (length s)) = e ∙ ap (λ (b : Bool). cond b (runGiven P Q v) (runRefused (runNo P Q v (length s)))) t in
+          let f = e ∙ answer-refused _ runRefused _ _ refl (eqb-false (runNo P Q v (length s)) 0 t) in
           absurd (not-suc-le-zero (subst (λ (w : Run). k < w .count) f h))
 
   -- after the last store the slots are what the definition says
@@ -95,9 +87,10 @@ module _ (P Q : List ℤ) (v : ℕ) (s : List Pair) (r : Run) (e : r ≡ runAnsw
     where
       go : (t : Bool) → eqb (runNo P Q v (length s)) 0 ≡ t → written s (leafList P Q v) (r .count) ≡ runSlots P Q v s
       go true t =
-          let f : r ≡ runGiven P Q v = e ∙ ap (λ (b : Bool). cond b (runGiven P Q v) (runRefused (runNo P Q v (length s)))) t in
-          ap (λ (w : Run). written s (leafList P Q v) (w .count)) f ∙ written-all s (leafList P Q v) (run-fits P Q v (length s) (eqb-true (runNo P Q v (length s)) 0 t))
-          ∙ ap (λ (b : Bool). cond b (leafList P Q v ++ drop (length (leafList P Q v)) s) s) (sym t)
+          let z = eqb-true (runNo P Q v (length s)) 0 t in
+          ap (λ (w : Run). written s (leafList P Q v) (w .count)) (e ∙ answer-given _ runRefused _ z)
+          ∙ written-all s (leafList P Q v) (run-fits P Q v (length s) z)
+          ∙ sym (answer-given _ (λ k. s) _ z)
       go false t =
-          let f : r ≡ runRefused (runNo P Q v (length s)) = e ∙ ap (λ (b : Bool). cond b (runGiven P Q v) (runRefused (runNo P Q v (length s)))) t in
-          ap (λ (w : Run). written s (leafList P Q v) (w .count)) f ∙ ap (λ (b : Bool). cond b (leafList P Q v ++ drop (length (leafList P Q v)) s) s) (sym t)
+          let ne = eqb-false (runNo P Q v (length s)) 0 t in
+          ap (λ (w : Run). written s (leafList P Q v) (w .count)) (e ∙ answer-refused _ runRefused _ _ refl ne) ∙ sym (answer-refused _ (λ k. s) _ _ refl ne)

@@ -5,8 +5,9 @@ ghost use mathlib.Core.Path.{_≡_};
 ghost use mathlib.Core.List.{[], _∷_};
 ghost use lib.ListN.{length};
 ghost use Rattle.sheet.specs.Open.{Opens};
+ghost use Rattle.list.specs.Lent.{lentOf};
 ghost use Rattle.leaf.specs.LeafRun.{leftFrom};
-ghost use Rattle.runs.specs.Run.{leafNo, runRefused, runAnswer, runSlots, lentOf, withSlots, runArray};
+ghost use Rattle.runs.specs.Run.{leafNo, runRefused, runAnswer, runSlots, withSlots, runArray};
 ghost use Rattle.runs.specs.Ready.{Ready};
 
 // What a leaf run answers: 0, how many pairs it stored and the nodes opened; or the number of refusal and zeros.
@@ -110,12 +111,9 @@ pub struct RunArray {
 
 // How many of 256 slots are lent.
 fn lent_of(len: usize) -> usize
-    ensures { λ r. ⌜ r ≡ lentOf len ⌝ }
+    ensures { λ r. ⌜ r ≡ lentOf 256 len ⌝ }
 {
-    if 256 < len {
-        return 256;
-    }
-    len
+    list::lent_of(256, len)
 }
 
 fn with_slots(slots: [Pair; 256], run: Run) -> RunArray

@@ -1,23 +1,21 @@
 -- The shortest circles of two sheets: the number of the call, and its answer.
-use mathlib.Core.Bool.{cond}
-use mathlib.Core.List.{List}
+use mathlib.Core.List.{List, [], _∷_}
 use Prim.Native.Nat.{ℕ}
-use lib.Dec.{eqb}
 use lib.IntN.{ℤ}
 use lib.ListN.{length, replicate}
+use Rattle.words.specs.First.{first, answer}
 use Rattle.sheet.specs.Places.{pointsOf}
+use Rattle.sheet.specs.Open.{sheetNo}
 use Rattle.list.specs.declared.Pair.{Pair}
 use Rattle.list.specs.Pairs.{none}
-use Rattle.list.specs.Pages.{padded}
+use Rattle.list.specs.Pages.{sizeNo, padded}
 use Rattle.list.specs.RingList.{ringList}
-use Rattle.ring.specs.Numbers.{first, sheetsNo}
-use Rattle.ring.specs.Page.{sizeNo}
 use Rattle.shortest.specs.declared.Shortlist.{Shortlist}
 use Rattle.shortest.specs.Order.{shortestOf}
 
 -- "Refusals: 10 for k", "k from 1 to 16", after the sheets' own: "1 to 8 for P, then for Q"
 unfoldable pub shortNo : List ℤ → List ℤ → ℕ → ℕ
-shortNo P Q k = first (sheetsNo P Q) (sizeNo k)
+shortNo P Q k = first (sheetNo P ∷ sheetNo Q ∷ sizeNo k ∷ [])
 
 -- the ring pairs of two sheets
 abbrev pub pairsOf : List ℤ → List ℤ → List Pair
@@ -38,4 +36,4 @@ shortRefused n = record { number = n; count = 0; pairs = replicate 16 none }
 
 -- the answer by its number: 0 is the shortest pairs, any other is the refusal of that number
 unfoldable pub shortAnswer : List ℤ → List ℤ → ℕ → Shortlist
-shortAnswer P Q k = cond (eqb (shortNo P Q k) 0) (shortGiven P Q k) (shortRefused (shortNo P Q k))
+shortAnswer P Q k = answer (shortNo P Q k) (shortGiven P Q k) shortRefused

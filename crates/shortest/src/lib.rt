@@ -146,8 +146,9 @@ pub fn shortest(p: &[i32], q: &[i32], k: usize) -> Shortlist
     if b.number != 0 {
         return refused(b.number);
     }
-    if !((1 <= k) & (k <= 16)) {
-        return refused(10);
+    let no = list::size_no(k);
+    if no != 0 {
+        return refused(no);
     }
     given(p, a.n, a.m, q, b.n, b.m, k)
 }

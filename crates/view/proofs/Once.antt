@@ -1,17 +1,14 @@
 -- One input, one answer: from each promise alone. What two answers of `open` share is all that a view shows: the number, the words covered and where they
 -- stand, the counts. And what the readers make of a view is settled by the words that it covers: its own counts say nothing.
 -- Assumes nothing.
-use mathlib.Core.Path.{_≡_, sym, ap, _∙_}
-use mathlib.Core.Logic.{⊎-elim}
+use mathlib.Core.Path.{_≡_, refl, sym, ap, _∙_}
 use mathlib.Core.List.{List, []}
 use Prim.Native.Nat.{ℕ}
 use lib.IntN.{ℤ}
-use lib.Dec.{eqb}
-use borrow.Author.Tests.{eq-eqb, ne-eqb, eqb-true}
 use denote.Ref.{RefT, now}
-use Rattle.integers.proofs.Bools.{decide}
+use Rattle.words.proofs.FirstLaws.{answer-given, answer-refused, answer-number}
 use Rattle.sheet.specs.Layout.{points, nodes}
-use Rattle.ring.specs.Numbers.{sheetNo}
+use Rattle.sheet.specs.Open.{sheetNo}
 use Rattle.ring.specs.Answers.{pointed, filtered, walked}
 use Rattle.list.specs.declared.Key.{Key}
 use Rattle.ring.specs.Page.{pageAnswer}
@@ -32,17 +29,17 @@ open-once s r r′ e f = e ∙ sym f
 -- its number is the sheet's
 pub open-no : (s : RefT (List ℤ)) (r : Opened) → shown r ≡ openOf s → r .number ≡ sheetNo (now s)
 unfolding openOf
-open-no s r e = ap (λ (x : Shown). x .number) e ∙ ⊎-elim (λ t. rw t (sym (eqb-true (sheetNo (now s)) 0 t))) (λ t. rw t) (decide (eqb (sheetNo (now s)) 0))
+open-no s r e = ap (λ (x : Shown). x .number) e ∙ answer-number _ _ (λ (x : Shown). x .number) refl (λ k. refl) (sheetNo (now s))
 
 -- opened: the caller's own words, all of them, from where they stand
 pub open-shows : (s : RefT (List ℤ)) (r : Opened) → shown r ≡ openOf s → sheetNo (now s) ≡ 0 → shown r ≡ record { number = 0; start = s .ptr; covers = now s; n = points (now s); m = nodes (now s) }
 unfolding openOf
-open-shows s r e z = e ∙ rw (eq-eqb (sheetNo (now s)) 0 z)
+open-shows s r e z = e ∙ answer-given _ _ _ z
 
 -- refused: no words, and zeros
 pub open-refused : (s : RefT (List ℤ)) (r : Opened) → shown r ≡ openOf s → (sheetNo (now s) ≡ 0 → ⊥) → shown r ≡ record { number = sheetNo (now s); start = s .ptr; covers = []; n = 0; m = 0 }
 unfolding openOf
-open-refused s r e ne = e ∙ rw (ne-eqb (sheetNo (now s)) 0 ne)
+open-refused s r e ne = e ∙ answer-refused _ _ _ _ refl ne
 
 -- the readers: two views of the same words, whatever they claim, get one answer
 pub point-once : (d d′ : Sheet) (i : ℕ) (r r′ : Pointed) → now (d .words) ≡ now (d′ .words) → r ≡ pointed (now (d .words)) i → r′ ≡ pointed (now (d′ .words)) i → r ≡ r′

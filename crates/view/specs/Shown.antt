@@ -1,12 +1,11 @@
 -- What an opened view shows: its number, which words it covers and where they stand, and its counts.
-use mathlib.Core.Bool.{cond}
 use mathlib.Core.List.{List, []}
 use Prim.Native.Nat.{ℕ}
-use lib.Dec.{eqb}
 use lib.IntN.{ℤ}
 use denote.Ref.{RefT, now}
+use Rattle.words.specs.First.{answer}
 use Rattle.sheet.specs.Layout.{points, nodes}
-use Rattle.ring.specs.Numbers.{sheetNo}
+use Rattle.sheet.specs.Open.{sheetNo}
 use Rattle.view.specs.declared.Opened.{Opened}
 
 -- `start` is the place in memory of the first word
@@ -24,5 +23,5 @@ shown o = record { number = o .number; start = o .sheet .words .ptr; covers = no
 -- that are handed in, which are exactly the sheet's, with the sheet's counts. Refused, "a view there covers no words", and zeros stand beside it.
 unfoldable pub openOf : RefT (List ℤ) → Shown
 openOf s =
-    cond (eqb (sheetNo (now s)) 0) (record { number = 0; start = s .ptr; covers = now s; n = points (now s); m = nodes (now s) })
-    (record { number = sheetNo (now s); start = s .ptr; covers = []; n = 0; m = 0 })
+    answer (sheetNo (now s)) (record { number = 0; start = s .ptr; covers = now s; n = points (now s); m = nodes (now s) })
+    (λ k. record { number = k; start = s .ptr; covers = []; n = 0; m = 0 })

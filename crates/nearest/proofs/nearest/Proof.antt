@@ -1,8 +1,9 @@
 -- `nearest::nearest` meets its contract, number by number. Assumes nothing.
-use mathlib.Core.Path.{refl}
+use mathlib.Core.Path.{refl, sym, _∙_}
 use native.Mathlib.Omega.{arith}
+use Rattle.list.proofs.PageLaws.{size-fits}
 use Rattle.nearest.proofs.ChamberLaws.{placed-facts}
-use Rattle.nearest.proofs.AnswerLaws.{size-most, nearest-chamber, nearest-size, nearest-room, nearest-given}
+use Rattle.nearest.proofs.AnswerLaws.{nearest-chamber, nearest-size, nearest-room, nearest-given}
 use borrow.Author.Needs.{needs}
 use Rattle.nearest.proofs.nearest.Statement.{statement}
 use Rattle.nearest.proofs.nearest.Tie as tie
@@ -39,7 +40,7 @@ returns-3 c = nearest-room _ _ _ _ _ _ (c .before .before .before .before .befor
 given-requires : tie.Need-given-requires
 given-requires c κs =
     let o = placed-facts _ _ _ _ (c .before .before .before .before .before .before .before .before .placed .ensures) (c .before .before .before .before .before .before .if1 .left) in
-    (o .opens, o .within, size-most _ _ (c .before .before .before .before .before .size-no .ensures) (c .before .before .before .before .if2 .left), c .before .before .if3 .left)
+    (o .opens, o .within, size-fits _ (sym (c .before .before .before .before .before .size-no .ensures) ∙ c .before .before .before .before .if2 .left) .1, c .before .before .if3 .left)
 
 same-length : tie.Need-same-length
 same-length c = search needs

@@ -3,6 +3,7 @@
 -- All that the proof knows of `leaf_run` is that it meets its contract.
 -- Assumes nothing.
 use mathlib.Core.Path.{_≡_, refl, sym, ap, _∙_, subst}
+use native.Mathlib.Omega.{arith}
 use Prim.Native.Nat.{ℕ, _<_, _^_}
 use mathlib.Core.List.{[], _∷_, _++_, List}
 use lib.IntN.{ℤ}
@@ -48,13 +49,15 @@ use denote.Triple.Walked.{says, Stays, stay-none, stay-none-slice, walkOf, goes-
 use denote.Exit.{yes}
 use Rattle.list.specs.declared.Pair.{Pair}
 use Rattle.list.proofs.PairRows.{word, P, pv, width}
+use Rattle.list.specs.Lent.{lentOf}
+use Rattle.list.proofs.LentLaws.{lent-room, front-long, array-long}
 use Rattle.list.proofs.LocalRow.{row-out, row-in, row-cut, row-paste}
 use Rattle.list.proofs.Pair as T
 use Rattle.list.proofs.Pair.Laws as T′
 use Rattle.runs.specs.declared.Run.{Run}
 use Rattle.runs.specs.declared.RunArray.{RunArray}
-use Rattle.runs.specs.Run.{runAnswer, runSlots, lentOf, withSlots, runArray}
-use Rattle.runs.proofs.ArrayLaws.{lent-room, front-long, array-long, array-is}
+use Rattle.runs.specs.Run.{runAnswer, runSlots, withSlots, runArray}
+use Rattle.runs.proofs.ArrayLaws.{array-is}
 use Rattle.runs.proofs.Run as R
 use Rattle.runs.proofs.Run.Laws as R′
 use Rattle.runs.proofs.RunArray as N
@@ -109,8 +112,8 @@ module _ {M : Type 1} (𝓤 : URA M) (H : Heap 𝓤) (A : Atoms 𝓤) (mem : Mem
   With = tripleOf 𝓤 H A making.signature (making.spec 𝓤 H A mem run)
 
   -- of a covered callee's `ensured`, the clause alone
-  lent-said : (len r : ℕ) → ent 𝓤 (ensured 𝓤 H A lending.ended (lending.clauses 𝓤 H A mem run) tt (len, tt) tt r) (fact 𝓤 (r ≡ lentOf len))
-  lent-said len r = exE 𝓤 _ (λ ws. snd∗ 𝓤 (sem 𝓤 H A (lasts lending.ended tt (len, tt) ws)) (fact 𝓤 (r ≡ lentOf len)))
+  lent-said : (len r : ℕ) → ent 𝓤 (ensured 𝓤 H A lending.ended (lending.clauses 𝓤 H A mem run) tt (len, tt) tt r) (fact 𝓤 (r ≡ lentOf 256 len))
+  lent-said len r = exE 𝓤 _ (λ ws. snd∗ 𝓤 (sem 𝓤 H A (lasts lending.ended tt (len, tt) ws)) (fact 𝓤 (r ≡ lentOf 256 len)))
 
   with-said : (l : List Pair) (t : Run) (r : RunArray) → ent 𝓤 (ensured 𝓤 H A making.ended (making.clauses 𝓤 H A mem run) tt (l, (t, tt)) tt r) (fact 𝓤 (r ≡ withSlots l t))
   with-said l t r = exE 𝓤 _ (λ ws. snd∗ 𝓤 (sem 𝓤 H A (lasts making.ended tt (l, (t, tt)) ws)) (fact 𝓤 (r ≡ withSlots l t)))
@@ -218,12 +221,12 @@ module _ {M : Type 1} (𝓤 : URA M) (H : Heap 𝓤) (A : Atoms 𝓤) (W : Given
           use0 W (raw (Lent 𝓤 H A mem run .pre to-lent)) goes-lent $
           calls-at ! fm (Lent 𝓤 H A mem run) known-lent to-lent (and-then ! (load ! (from ! (stop !)) (look ! 13 refl)) (no-more !)) (λ u₀.
           use1 W (later (some (λ (r : ℕ). (‵ ftrue ⊛ ‵ (usize .own r (u₀ ∷ []))) ⊛ raw (ensured 𝓤 H A lending.ended (lending.clauses 𝓤 H A mem run) tt (len, tt) tt r)))) (id⊢ 𝓤 _) $ await ! tt $ pick ! (λ m.
-          split ! $ move ! (1 ∷ []) $ use1 W (raw (fact 𝓤 (m ≡ lentOf len))) (lent-said 𝓤 H A mem run len m) $ heard ! (m ≡ lentOf len) (λ m-is. split ! $ drop ! $
+          split ! $ move ! (1 ∷ []) $ use1 W (raw (fact 𝓤 (m ≡ lentOf 256 len))) (lent-said 𝓤 H A mem run len m) $ heard ! (m ≡ lentOf 256 len) (λ m-is. split ! $ drop ! $
           facts ! usize (Is usize) (shows 𝓤 H A usize) m (u₀ ∷ []) (λ is₀.
           land ! (from ! (stop !)) (init ! 8 refl (uint-lawful 𝓤 H A W w64 .typed m _ is₀ .0)) $ rewrite ! 8 (λ (w : Val). ‵ (fat fullShare word l₇ 0 w)) (ap only (is₀ .0)) refl $
           assigns ! (addr ! (from ! (stop !))) (from ! (stop !)) (init ! 4 refl (tt, tt)) $
           assigns ! (agg ! (and-then ! (load ! (from ! (stop !)) (look ! 4 refl)) (and-then ! (load ! (from ! (stop !)) (look ! 8 refl)) (no-more !)))) (from ! (stop !)) (init ! 2 refl (tt, (tt, (record { fits = is₀ .1 }, tt)))) $
-          rewrite ! 2 (λ (k : ℕ). ‵ (fat fullShare slice l₁₀ 0 (sliceVal (l₆, 0) k))) (sym (front-long ys len m long m-is)) refl $
+          rewrite ! 2 (λ (k : ℕ). ‵ (fat fullShare slice l₁₀ 0 (sliceVal (l₆, 0) k))) (sym (front-long 256 len m m-is ys long)) refl $
           -- the first m slots are lent as a slice, for a lifetime made here
           move ! (10 ∷ 25 ∷ []) $ use2 W (‵ (row P fullShare ys l₆ 0)) (row-out 𝓤 H A W P 256 tt ys (array-val ys) l₆) $
           use1 W (‵ (row P fullShare (front m ys) l₆ 0) ⊛ ‵ (row P fullShare (back m ys) l₆ (place width 0 m))) (row-cut 𝓤 H A W P m ys l₆ 0) $ split ! $ use1 W (‵ (cells (memOf P) (front m ys) l₆ 0)) (whole-in 𝓤 H A W P (front m ys) l₆ 0) $
@@ -243,9 +246,9 @@ module _ {M : Type 1} (𝓤 : URA M) (H : Heap 𝓤) (A : Atoms 𝓤) (W : Given
           use3 W (later (‵ (Arr (memOf P) (length (front m ys)) .lies (zs .1 .1 .1 .0) l₆ 0))) (slice-back 𝓤 H A W P (ν ∷ []) γ (zs .1 .1 .1 .0) (length (front m ys)) l₆ 0) $ await ! tt $ fsplit ! $ drop ! $
           use1 W (‵ (row P fullShare (zs .1 .1 .1 .0) l₆ 0)) (whole-out 𝓤 H A W P (zs .1 .1 .1 .0) l₆ 0) $ move ! (0 ∷ 6 ∷ []) $
           -- [the first, as they are now; the others; true; q's token; p's; …; p and q; _11; …]
-          rewrite ! 1 (λ (k : ℕ). ‵ (row P fullShare (back m ys) l₆ (place width 0 k))) (sym (l ∙ front-long ys len m long m-is)) refl $
+          rewrite ! 1 (λ (k : ℕ). ‵ (row P fullShare (back m ys) l₆ (place width 0 k))) (sym (l ∙ front-long 256 len m m-is ys long)) refl $
           use2 W (‵ (row P fullShare (zs .1 .1 .1 .0 ++ back m ys) l₆ 0)) (row-paste 𝓤 H A W P (zs .1 .1 .1 .0) (back m ys) l₆ 0) $
-          use1 W (some (λ (w : Val). ‵ (fat fullShare (tyArray T′.mir 256) l₆ 0 w) ⊛ ‵ (Row .own (zs .1 .1 .1 .0 ++ back m ys) (w ∷ [])))) (row-in 𝓤 H A W P 256 (zs .1 .1 .1 .0 ++ back m ys) l₆ (array-long ys len m (zs .1 .1 .1 .0) long m-is l)) $ pick ! (λ w. split ! $ move ! (1 ∷ []) $
+          use1 W (some (λ (w : Val). ‵ (fat fullShare (tyArray T′.mir 256) l₆ 0 w) ⊛ ‵ (Row .own (zs .1 .1 .1 .0 ++ back m ys) (w ∷ [])))) (row-in 𝓤 H A W P 256 (zs .1 .1 .1 .0 ++ back m ys) l₆ (array-long 256 len m m-is ys long (zs .1 .1 .1 .0) l)) $ pick ! (λ w. split ! $ move ! (1 ∷ []) $
           facts ! Row (Is Row) (shows 𝓤 H A Row) (zs .1 .1 .1 .0 ++ back m ys) (w ∷ []) (λ ris.
           rewrite ! 0 (λ (t : Val). ‵ (fat fullShare (tyArray T′.mir 256) l₆ 0 t)) (ap only (array-tells P pv (LL.tells T.the-type T′.the-laws) 256 (zs .1 .1 .1 .0 ++ back m ys) _ ris)) refl $
           -- [_6; true; q's token; p's; …; p and q; _11; …; what frees _6; …; room for _0; …]
@@ -261,8 +264,8 @@ module _ {M : Type 1} (𝓤 : URA M) (H : Heap 𝓤) (A : Atoms 𝓤) (W : Given
           move ! (13 ∷ 14 ∷ []) $ free1 ! $ move ! (11 ∷ 12 ∷ []) $ free1 ! $ move ! (9 ∷ 10 ∷ []) $ free1 ! $ move ! (7 ∷ 8 ∷ []) $ free1 ! $ move ! (5 ∷ 6 ∷ []) $ free1 ! $ free0 ! $ keep ! (2 ∷ 1 ∷ 4 ∷ []) $
           by ! (exits t (subst (Is N.the-row t) (LL.tells N.the-type N′.the-laws t _ is₁) is₁) (array-is (now p) (now q) v ys len m r (zs .1 .1 .1 .0) t m-is (e .0) (e .1) t-is))))))))))))))))))))))))))))))))
         where
-          room : (m : ℕ) → m ≡ lentOf len → Room P (length (front m ys))
-          room m e = subst (Room P) (sym (front-long ys len m long e)) (lent-room len m e)
+          room : (m : ℕ) → m ≡ lentOf 256 len → Room P (length (front m ys))
+          room m e = subst (Room P) (sym (front-long 256 len m e ys long)) (lent-room 256 len m e (omega arith))
 
           told : (l : List Pair) (w : Val) → Is Row l (w ∷ []) → Is Row l (av l)
           told l w is = subst (Is Row l) (array-tells P pv (LL.tells T.the-type T′.the-laws) 256 l _ is) is
