@@ -17,7 +17,8 @@ use Rattle.words.specs.All.{allB}
 use Rattle.words.proofs.AllLaws.{all-make, all-more, all-stop, all-done}
 use Rattle.plane.specs.declared.Spot.{Spot}
 use Rattle.plane.specs.declared.Boxed.{Boxed}
-use Rattle.plane.specs.Rule.{drops, dropsBox}
+use Rattle.plane.specs.Rule.{drops, dropsBox, boxAt}
+use Rattle.plane.proofs.RuleLaws.{point-box}
 use Rattle.sheet.specs.Layout.{points, nodes}
 use Rattle.sheet.specs.Order.{orderOf}
 use Rattle.sheet.specs.Nodes.{levelOf, firstOf, countOf}
@@ -138,18 +139,18 @@ module _ (q : ℕ → Spot) (c words : ℕ) (w : List ℤ) (n : ℕ) where
 
   -- ---- a position and a box, for chamber k
 
-  asked : (i k : ℕ) (b : List ℕ) (a z : Spot) (r t : Bool) → a ≡ q k → z ≡ spotOf w i → r ≡ ruledOut q c words w n (λ p. drops a p z) k b → r ≡ t → ruledOut q c words w n (λ p. drops (q k) p (spotOf w i)) k b ≡ t
-  asked i k b a z r t e f g u =
-      ap (λ (x : Spot). ruledOut q c words w n (λ p. drops x p (spotOf w i)) k b) (sym e)
-      ∙ ap (λ (x : Spot). ruledOut q c words w n (λ p. drops a p x) k b) (sym f) ∙ sym g ∙ u
+  asked : (i k : ℕ) (b : List ℕ) (a z : Spot) (o : Boxed) (r t : Bool) → a ≡ q k → z ≡ spotOf w i → o ≡ boxAt z → r ≡ ruledOut q c words w n (λ p. dropsBox a p o) k b → r ≡ t → ruledOut q c words w n (λ p. drops (q k) p (spotOf w i)) k b ≡ t
+  asked i k b a z o r t e f h g u =
+      (λ x. ruledOut q c words w n (λ p. sym (point-box (sym e x) p (spotOf w i)) x) k b)
+      ∙ ap (λ (x : Boxed). ruledOut q c words w n (λ p. dropsBox a p x) k b) (sym (h ∙ ap boxAt f)) ∙ sym g ∙ u
 
-  pub weigh-yes : (i k : ℕ) (b : List ℕ) (a z : Spot) (r : Bool) → a ≡ q k → z ≡ spotOf w i → r ≡ ruledOut q c words w n (λ p. drops a p z) k b → r ≡ true → b ≡ weigh q c words w n i k b
+  pub weigh-yes : (i k : ℕ) (b : List ℕ) (a z : Spot) (o : Boxed) (r : Bool) → a ≡ q k → z ≡ spotOf w i → o ≡ boxAt z → r ≡ ruledOut q c words w n (λ p. dropsBox a p o) k b → r ≡ true → b ≡ weigh q c words w n i k b
   unfolding weigh
-  weigh-yes i k b a z r e f g t = rw (asked i k b a z r true e f g t)
+  weigh-yes i k b a z o r e f h g t = rw (asked i k b a z o r true e f h g t)
 
-  pub weigh-no : (i k : ℕ) (b b′ : List ℕ) (a z : Spot) (r : Bool) → a ≡ q k → z ≡ spotOf w i → r ≡ ruledOut q c words w n (λ p. drops a p z) k b → r ≡ false → b′ ≡ with b (slot words k i) → b′ ≡ weigh q c words w n i k b
+  pub weigh-no : (i k : ℕ) (b b′ : List ℕ) (a z : Spot) (o : Boxed) (r : Bool) → a ≡ q k → z ≡ spotOf w i → o ≡ boxAt z → r ≡ ruledOut q c words w n (λ p. dropsBox a p o) k b → r ≡ false → b′ ≡ with b (slot words k i) → b′ ≡ weigh q c words w n i k b
   unfolding weigh
-  weigh-no i k b b′ a z r e f g t s = rw (asked i k b a z r false e f g t) s
+  weigh-no i k b b′ a z o r e f h g t s = rw (asked i k b a z o r false e f h g t) s
 
   pub skips-is : (j k : ℕ) (b : List ℕ) (a : Spot) (o : Boxed) (r : Bool) → a ≡ q k → o ≡ boxOf w n j → r ≡ ruledOut q c words w n (λ p. dropsBox a p o) k b → r ≡ skips q c words w n j b k
   unfolding skips

@@ -6,7 +6,7 @@ ghost use mathlib.Core.Path.{_≡_};
 ghost use mathlib.Core.Bool.{not, _&&_};
 ghost use Prim.Native.Nat.{_+_, _≤_, _<_};
 ghost use lib.Dec.{eqb};
-ghost use Rattle.plane.specs.Rule.{SpotIn, BoxIn, drops, dropsBox};
+ghost use Rattle.plane.specs.Rule.{SpotIn, BoxIn, dropsBox};
 ghost use Rattle.sheet.specs.Order.{orderOf};
 ghost use Rattle.sheet.specs.Nodes.{levelOf, countOf};
 ghost use Rattle.sheet.specs.Boxes.{treeSize};
@@ -38,33 +38,6 @@ fn chamber(q: &[i32], j: Job, k: usize) -> Spot
     sheet::reads::spot_at(q, j.nq, j.mq, at)
 }
 
-// Whether the chamber at place h is another than k, and drops the place z, for a.
-fn other_drops(q: &[i32], j: Job, k: usize, a: Spot, z: Spot, h: usize) -> bool
-    requires { ⌜ Leaf (now q) (j .nq) (j .mq) (j .v) (j .first) (j .count) × SpotIn a × SpotIn z × (h < j .count) ⌝ }
-    ensures { λ r. ⌜ r ≡ (not (eqb h k) && drops a (chamberSpot (now (q .entry)) (j .v) h) z) ⌝ }
-{
-    if h == k {
-        return false;
-    }
-    let p = chamber(q, j, h);
-    plane::does_block(a, z, p)
-}
-
-// Whether another chamber of the leaf than k drops the place z, for a.
-fn others_drop(q: &[i32], j: Job, k: usize, a: Spot, z: Spot) -> bool
-    requires { ⌜ Leaf (now q) (j .nq) (j .mq) (j .v) (j .first) (j .count) × SpotIn a × SpotIn z ⌝ }
-    ensures { λ r. ⌜ r ≡ someB (j .count) (λ h. not (eqb h k) && drops a (chamberSpot (now (q .entry)) (j .v) h) z) ⌝ }
-{
-    let mut h = 0;
-    while h < j.count {
-        if other_drops(q, j, k, a, z, h) {
-            return true;
-        }
-        h += 1;
-    }
-    false
-}
-
 // Whether the chamber at place h is another than k, and drops the box o, for a.
 fn other_shuts(q: &[i32], j: Job, k: usize, a: Spot, o: Boxed, h: usize) -> bool
     requires { ⌜ Leaf (now q) (j .nq) (j .mq) (j .v) (j .first) (j .count) × SpotIn a × BoxIn o × (h < j .count) ⌝ }
@@ -92,20 +65,6 @@ fn others_shut(q: &[i32], j: Job, k: usize, a: Spot, o: Boxed) -> bool
     false
 }
 
-// Whether the place z is ruled out for the chamber k, which stands at a.
-fn rules_spot(p: &[i32], q: &[i32], j: Job, k: usize, a: Spot, z: Spot, bits: &[u64]) -> bool
-    requires { ⌜ Opens (now p) (j .np) (j .mp) × Leaf (now q) (j .nq) (j .mq) (j .v) (j .first) (j .count) × (k < j .count) × SpotIn a × SpotIn z × Sets (now bits) (j .words) (j .np) ⌝ }
-    ensures { λ r. ⌜ r ≡ ruledOut (chamberSpot (now (q .entry)) (j .v)) (j .count) (j .words) (now (p .entry)) (j .np) (λ s. drops a s z) k (now (bits .entry)) ⌝ }
-{
-    if others_drop(q, j, k, a, z) {
-        return true;
-    }
-    let from = j.words * k;
-    let to = from + j.words;
-    let own = &bits[from..to];
-    walk::filter::seek_spot(p, j.np, j.mp, a, z, own) < j.np
-}
-
 // Whether the box o is ruled out for the chamber k, which stands at a.
 fn rules_box(p: &[i32], q: &[i32], j: Job, k: usize, a: Spot, o: Boxed, bits: &[u64]) -> bool
     requires { ⌜ Opens (now p) (j .np) (j .mp) × Leaf (now q) (j .nq) (j .mq) (j .v) (j .first) (j .count) × (k < j .count) × SpotIn a × BoxIn o × Sets (now bits) (j .words) (j .np) ⌝ }
@@ -127,7 +86,7 @@ fn weigh_at(p: &[i32], q: &[i32], j: Job, i: usize, k: usize, bits: &mut [u64])
 {
     let a = chamber(q, j, k);
     let z = sheet::reads::spot_at(p, j.np, j.mp, i);
-    if rules_spot(p, q, j, k, a, z, bits) {
+    if rules_box(p, q, j, k, a, plane::box_at(z), bits) {
         return;
     }
     bits::insert(bits, 64 * (j.words * k) + i);

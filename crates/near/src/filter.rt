@@ -25,7 +25,7 @@ fn consider_at(w: &[i32], n: usize, m: usize, q: Spot, i: usize, bits: &mut [u64
     ensures { λ _. ⌜ now (bits .exit) ≡ consider (now (w .entry)) n q i (now (bits .entry)) ⌝ }
 {
     let z = sheet::reads::spot_at(w, n, m, i);
-    if walk::filter::seek_spot(w, n, m, q, z, bits) < n {
+    if walk::filter::seek_all(w, n, m, q, plane::box_at(z), bits) < n {
         return;
     }
     bits::insert(bits, i);

@@ -1,4 +1,4 @@
--- What the rules of boxes say of the places in a box: `box-drops`, `far-clear`, `side-first`, `side-inside`, `strict-blocks`; and that an end of the pair never
+-- What the rules of boxes say of the places in a box: `box-drops`, `point-box`, `far-clear`, `side-first`, `side-inside`, `strict-blocks`; and that an end of the pair never
 -- blocks it: `left-clear`, `right-clear`.
 -- Assumes nothing.
 use mathlib.Core.Path.{_≡_, refl, sym, ap, subst, _∙_}
@@ -19,7 +19,7 @@ use borrow.Author.Tests.{eqb-true, eq-eqb}
 use Rattle.integers.proofs.Bools.{and-left, and-right, and-both, decide, clash, test-iff}
 use Rattle.plane.specs.declared.Spot.{Spot}
 use Rattle.plane.specs.declared.Boxed.{Boxed}
-use Rattle.plane.specs.Rule.{SpotIn, BoxIn, spot, dot, same, sameSpot, inBox, blocks, drops, behind, dropsBox, farCorner, far, inside, OnSide, cornersIn, sideIn, FirstSide}
+use Rattle.plane.specs.Rule.{SpotIn, BoxIn, spot, dot, same, sameSpot, inBox, blocks, drops, behind, dropsBox, boxAt, farCorner, far, inside, OnSide, cornersIn, sideIn, FirstSide}
 use Rattle.plane.proofs.Plane.{In, corner-most, far-none, side-x, side-y}
 
 -- ---- tests and orders
@@ -142,6 +142,29 @@ box-drops q p o z e i =
     let h = far-behind q p o z (all-far q p o (and₀ (allBehind q p o) (not (sameSpot p q)) (not (inBox o p)) e)) i in
     let out = and₂ (allBehind q p o) (not (sameSpot p q)) (not (inBox o p)) e in
     rw (h, and₁ (allBehind q p o) (not (sameSpot p q)) (not (inBox o p)) e, not-same p z (λ s. clash out (ap (λ (y : Spot). not (inBox o y)) s ∙ ap not (in-box o z i))))
+
+-- a box of no extent contains just its place
+in-point : (z p : Spot) → inBox (boxAt z) p ≡ sameSpot p z
+unfolding inBox sameSpot
+in-point z p = turned (leZ (p .x) (z .x)) (leZ (z .x) (p .x)) (leZ (p .y) (z .y)) (leZ (z .y) (p .y))
+  where
+    turned : (a b c d : Bool) → (b && a && d && c) ≡ (a && b && (c && d))
+    turned true true true true = refl
+    turned true true true false = refl
+    turned true true false true = refl
+    turned true true false false = refl
+    turned true false c d = refl
+    turned false true c d = refl
+    turned false false c d = refl
+
+-- so a place is dropped exactly if the box of no extent is
+pub point-box : (q p z : Spot) → dropsBox q p (boxAt z) ≡ drops q p z
+unfolding dropsBox drops blocks
+point-box q p z = rw (in-point z p) (four (behind q p z) (not (sameSpot p q)) (not (sameSpot p z)))
+  where
+    four : (b r s : Bool) → (b && b && b && b && r && s) ≡ (b && r && s)
+    four true r s = refl
+    four false r s = refl
 
 -- rule (1): a far box holds no point that blocks
 pub far-clear : (a b : Spot) (o : Boxed) (z : Spot) → far a b o ≡ true → In o z → blocks a b z ≡ false

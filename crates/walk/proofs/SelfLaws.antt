@@ -21,9 +21,9 @@ use Rattle.integers.proofs.Order.{zl}
 use Rattle.integers.proofs.Bools.{and-left, and-right, and-both, test-iff}
 use Rattle.plane.specs.declared.Spot.{Spot}
 use Rattle.plane.specs.declared.Boxed.{Boxed}
-use Rattle.plane.specs.Rule.{behind, spot, sameSpot, inBox, drops, dropsBox}
+use Rattle.plane.specs.Rule.{behind, spot, sameSpot, inBox, drops, dropsBox, boxAt}
 use Rattle.plane.specs.Point.{idAt, spotAt}
-use Rattle.plane.proofs.RuleLaws.{left-clear}
+use Rattle.plane.proofs.RuleLaws.{point-box}
 use Rattle.sheet.specs.Layout.{points, nodes}
 use Rattle.sheet.specs.Order.{orderOf, orderOk}
 use Rattle.sheet.specs.Nodes.{levelOf, firstOf, countOf, tableOk}
@@ -75,10 +75,6 @@ module _ {S T : Type 0} (R : S → T → Type 0) where
 
 -- ---- a kept point at q's place skips nothing
 
-point-own : (q z : Spot) → drops q q z ≡ false
-unfolding drops
-point-own q z = left-clear q z
-
 box-own : (q : Spot) (o : Boxed) → dropsBox q q o ≡ false
 unfolding dropsBox sameSpot
 box-own q o =
@@ -90,6 +86,9 @@ box-own q o =
     never : (a b : Bool) → (a && false && b) ≡ false
     never true b = refl
     never false b = refl
+
+point-own : (q z : Spot) → drops q q z ≡ false
+point-own q z = sym (point-box q q z) ∙ box-own q (boxAt z)
 
 -- kept ones at which the test does not hold may differ
 some-same : (a b : List ℕ) (q : ℕ → Bool) → ((p : ℕ) → (kept a p && q p) ≡ (kept b p && q p)) → (f i : ℕ) → some a q f i ≡ some b q f i

@@ -22,28 +22,31 @@ chamber-requires c κs = search needs
 spot-at-requires : tie.Need-spot-at-requires
 spot-at-requires c κs = search needs
 
-rules-spot-requires : tie.Need-rules-spot-requires
-rules-spot-requires c κs =
-    let p = c .before .before .before .before .pre in
-    (p .0, p .1, p .3, c .before .before .chamber .ensures .1, spot-fits _ _ _ (p .0) _ _ (p .2) (c .before .spot-at .ensures), p .4)
+box-at-requires : tie.Need-box-at-requires
+box-at-requires c κs = let p = c .before .before .before .pre in spot-fits _ _ _ (p .0) _ _ (p .2) (c .spot-at .ensures)
+
+rules-box-requires : tie.Need-rules-box-requires
+rules-box-requires c κs = search needs
 
 same-length : tie.Need-same-length
 same-length c = search needs
 
 returns : tie.Need-returns
-returns c = weigh-yes _ _ _ _ _ _ _ _ _ _ _ (c .before .before .before .before .chamber .ensures .0) (c .before .before .before .spot-at .ensures) (c .before .rules-spot .ensures) (c .if1 .taken)
+returns c =
+    let z = c .before .before .before in
+    weigh-yes _ _ _ _ _ _ _ _ _ _ _ _ (z .before .before .chamber .ensures .0) (z .before .spot-at .ensures) (z .box-at .ensures .0) (c .before .rules-box .ensures) (c .if1 .taken)
 
 mul-insert : tie.Need-mul-insert
-mul-insert c = let s = c .before .before .before .before .before .before .before .before in omega (arith, within s, s .pre .4 .long, s .pre .4 .small)
+mul-insert c = let s = c .before .before .before .before .before .before .before .before .before in omega (arith, within s, s .pre .4 .long, s .pre .4 .small)
 
 mul-insert-2 : tie.Need-mul-insert-2
-mul-insert-2 c = let s = c .before .before .before .before .before .before .before .before in omega (arith, within s, s .pre .4 .long, s .pre .4 .small)
+mul-insert-2 c = let s = c .before .before .before .before .before .before .before .before .before in omega (arith, within s, s .pre .4 .long, s .pre .4 .small)
 
 add-insert : tie.Need-add-insert
-add-insert c = let s = c .before .before .before .before .before .before .before .before in omega (arith, within s, s .pre .4 .long, s .pre .4 .small)
+add-insert c = let s = c .before .before .before .before .before .before .before .before .before in omega (arith, within s, s .pre .4 .long, s .pre .4 .small)
 
 insert-requires : tie.Need-insert-requires
-insert-requires c κs = within (c .before .before .before .before .before .before .before .before)
+insert-requires c κs = within (c .before .before .before .before .before .before .before .before .before)
 
 same-length-2 : tie.Need-same-length-2
 same-length-2 c = search needs
@@ -51,7 +54,8 @@ same-length-2 c = search needs
 returns-2 : tie.Need-returns-2
 returns-2 c =
     let e = c .before .before .before .before .before in
-    weigh-no _ _ _ _ _ _ _ _ _ _ _ _ (e .before .before .before .before .chamber .ensures .0) (e .before .before .before .spot-at .ensures) (e .before .rules-spot .ensures) (e .if1 .left) (c .before .before .insert .ensures)
+    let z = e .before .before .before in
+    weigh-no _ _ _ _ _ _ _ _ _ _ _ _ _ (z .before .before .chamber .ensures .0) (z .before .spot-at .ensures) (z .box-at .ensures .0) (e .before .rules-box .ensures) (e .if1 .left) (c .before .before .insert .ensures)
 
 pub weigh-at-spec : {M : Type 1} → statement M
 weigh-at-spec =
@@ -59,7 +63,8 @@ weigh-at-spec =
     (tie.spec
     chamber-requires
     spot-at-requires
-    rules-spot-requires
+    box-at-requires
+    rules-box-requires
     same-length
     returns
     mul-insert

@@ -9,17 +9,19 @@ use Rattle.near.proofs.filter.consider_at.Tie as tie
 spot-at-requires : tie.Need-spot-at-requires
 spot-at-requires c κs = search needs
 
-seek-spot-requires : tie.Need-seek-spot-requires
-seek-spot-requires c κs =
-    let p = c .before .before .before .pre in
-    (p .0, p .1, spot-fits _ _ _ (p .0) _ _ (p .2) (c .before .spot-at .ensures), p .3)
+box-at-requires : tie.Need-box-at-requires
+box-at-requires c κs = let p = c .before .before .pre in spot-fits _ _ _ (p .0) _ _ (p .2) (c .spot-at .ensures)
+
+seek-all-requires : tie.Need-seek-all-requires
+seek-all-requires c κs = search needs
 
 same-length : tie.Need-same-length
 same-length c = search needs
 
 returns : tie.Need-returns
 returns c =
-    consider-yes _ _ _ _ _ (dropped-is _ _ _ _ _ _ _ (c .before .before .before .spot-at .ensures) (finds-some _ _ _ _ (c .before .seek-spot .ensures) (c .if1 .taken)))
+    let z = c .before .before .before in
+    consider-yes _ _ _ _ _ (dropped-is _ _ _ _ _ _ _ _ (z .before .spot-at .ensures) (z .box-at .ensures .0) (finds-some _ _ _ _ (c .before .seek-all .ensures) (c .if1 .taken)))
 
 insert-requires : tie.Need-insert-requires
 insert-requires c κs = search needs
@@ -30,14 +32,16 @@ same-length-2 c = search needs
 returns-2 : tie.Need-returns-2
 returns-2 c =
     let e = c .before .before .before .before in
-    consider-no _ _ _ _ _ _ (dropped-is _ _ _ _ _ _ _ (e .before .before .before .spot-at .ensures) (e .before .seek-spot .ensures .none-left (e .if1 .left))) (c .before .before .insert .ensures)
+    let z = e .before .before .before in
+    consider-no _ _ _ _ _ _ (dropped-is _ _ _ _ _ _ _ _ (z .before .spot-at .ensures) (z .box-at .ensures .0) (e .before .seek-all .ensures .none-left (e .if1 .left))) (c .before .before .insert .ensures)
 
 pub consider-at-spec : {M : Type 1} → statement M
 consider-at-spec =
     tie.close
     (tie.spec
     spot-at-requires
-    seek-spot-requires
+    box-at-requires
+    seek-all-requires
     same-length
     returns
     insert-requires
