@@ -61,12 +61,6 @@ use Rattle.book.proofs.next_array.Reads as next-array
 use Rattle.runs.proofs.run_array.Reads as run-array
 use Rattle.view.proofs.open_head.Reads as open-head
 use Rattle.view.proofs.point_opened.Reads as point-opened
-use Rattle.view.proofs.point_through.Reads as point-through
-use Rattle.view.proofs.filter_walk_through.Reads as filter-walk-through
-use Rattle.view.proofs.ring_walk_through.Reads as ring-walk-through
-use Rattle.view.proofs.page_through.Reads as page-through
-use Rattle.view.proofs.own_page_through.Reads as own-page-through
-use Rattle.view.proofs.partners_through.Reads as partners-through
 
 -- where something that is lent stands: its address, and the name by which its contents are followed
 pub record Place : Type 0 where
@@ -259,55 +253,3 @@ pub record OpenHead (w : List ℤ) (h : Head) : Type 0 where
 pub record PointOpened (w : RefT (List ℤ)) (position : ℕ) (r : Pointed) : Type 0 where
   pub κs : Lfts 1
   pub promised : point-opened.Post κs (w, (position, tt)) r (w, (position, tt))
-
--- `view::point_through(w, n, m, position)` answers r
-pub record PointThrough (w : List ℤ) (n m position : ℕ) (r : Pointed) : Type 0 where
-  pub κs : Lfts 1
-  pub w-at : Place
-  pub promised : point-through.Post κs (slice w-at w, (n, (m, (position, tt)))) r (slice w-at w, (n, (m, (position, tt))))
-
--- `view::filter_walk_through(P, np, mp, Q, nq, mq, j)` answers r
-pub record FilterThrough (P : List ℤ) (np mp : ℕ) (Q : List ℤ) (nq mq j : ℕ) (r : Filtered) : Type 0 where
-  pub κs : Lfts 2
-  pub p-at : Place
-  pub q-at : Place
-  pub promised : filter-walk-through.Post κs
-      (slice p-at P, (np, (mp, (slice q-at Q, (nq, (mq, (j, tt)))))))
-      r
-      (slice p-at P, (np, (mp, (slice q-at Q, (nq, (mq, (j, tt)))))))
-
--- `view::ring_walk_through(P, np, mp, Q, nq, mq, j, i)` answers r
-pub record RingThrough (P : List ℤ) (np mp : ℕ) (Q : List ℤ) (nq mq j i : ℕ) (r : Walked) : Type 0 where
-  pub κs : Lfts 2
-  pub p-at : Place
-  pub q-at : Place
-  pub promised : ring-walk-through.Post κs
-      (slice p-at P, (np, (mp, (slice q-at Q, (nq, (mq, (j, (i, tt))))))))
-      r
-      (slice p-at P, (np, (mp, (slice q-at Q, (nq, (mq, (j, (i, tt))))))))
-
--- `view::page_through(P, np, mp, Q, nq, mq, key, size, t)` answers r
-pub record PageThrough (P : List ℤ) (np mp : ℕ) (Q : List ℤ) (nq mq : ℕ) (key : Key) (size t : ℕ) (r : Paged) : Type 0 where
-  pub κs : Lfts 2
-  pub p-at : Place
-  pub q-at : Place
-  pub promised : page-through.Post κs
-      (slice p-at P, (np, (mp, (slice q-at Q, (nq, (mq, (key, (size, (t, tt)))))))))
-      r
-      (slice p-at P, (np, (mp, (slice q-at Q, (nq, (mq, (key, (size, (t, tt)))))))))
-
--- `view::own_page_through(S, n, m, key, size)` answers r
-pub record OwnThrough (S : List ℤ) (n m : ℕ) (key : Key) (size : ℕ) (r : Paged) : Type 0 where
-  pub κs : Lfts 1
-  pub w-at : Place
-  pub promised : own-page-through.Post κs (slice w-at S, (n, (m, (key, (size, tt))))) r (slice w-at S, (n, (m, (key, (size, tt)))))
-
--- `view::partners_through(P, np, mp, Q, nq, mq, id, t)` answers r
-pub record PartnersThrough (P : List ℤ) (np mp : ℕ) (Q : List ℤ) (nq mq id t : ℕ) (r : Partnered) : Type 0 where
-  pub κs : Lfts 2
-  pub p-at : Place
-  pub q-at : Place
-  pub promised : partners-through.Post κs
-      (slice p-at P, (np, (mp, (slice q-at Q, (nq, (mq, (id, (t, tt))))))))
-      r
-      (slice p-at P, (np, (mp, (slice q-at Q, (nq, (mq, (id, (t, tt))))))))

@@ -67,6 +67,6 @@ pub partners-once : (p p′ q q′ : Sheet) (id t : ℕ) (r r′ : Partnered) �
     → r ≡ partnersAnswer (now (p .words)) (now (q .words)) id t → r′ ≡ partnersAnswer (now (p′ .words)) (now (q′ .words)) id t → r ≡ r′
 partners-once p p′ q q′ id t r r′ v w e f = e ∙ ap (λ (x : List ℤ). partnersAnswer x (now (q .words)) id t) v ∙ ap (λ (y : List ℤ). partnersAnswer (now (p′ .words)) y id t) w ∙ sym f
 
--- the point reader through the view that `open` gives. The other calls on slices have the promises of ring's calls, which ring's own laws settle
+-- the point reader through the view that `open` gives. `open_head` has the promise of ring's `head_of`, which ring's own law settles
 pub point-opened-once : (s : RefT (List ℤ)) (i : ℕ) (r r′ : Pointed) → r ≡ pointed (openOf s .covers) i → r′ ≡ pointed (openOf s .covers) i → r ≡ r′
 point-opened-once s i r r′ e f = e ∙ sym f
