@@ -1,5 +1,5 @@
--- The calls of `view` promise what the calls of `ring` promise of the words that the views cover: "a view handed in included, its counts read anew from its words". So
--- each theorem of Demand1, Demand2 and Demand3 on an answer of `ring` holds of theirs. And so for a book, and for a run, whose slots are kept in an array.
+-- The calls of `view` promise what the calls of `ring` and `nearest` promise of the words that the views cover: "a view handed in included, its counts read anew from its words". So
+-- each theorem of Demand1, Demand2, Demand3 and Nearest on an answer of these holds of theirs. And so for a book, and for a run, whose slots are kept in an array.
 -- Assumes nothing.
 use mathlib.Core.Path.{_≡_, ap}
 use mathlib.Core.List.{List, [], _++_}
@@ -22,9 +22,10 @@ use Rattle.book.specs.declared.Book.{Book}
 use Rattle.book.specs.declared.Asked.{Asked}
 use Rattle.book.specs.declared.TakenArray.{TakenArray}
 use Rattle.book.specs.Rules.{takenSlots, lentOf, takenArray}
+use Rattle.nearest.specs.declared.Found.{Found}
 use Rattle.runs.specs.declared.RunArray.{RunArray}
 use Rattle.runs.specs.Run as runs
-use Rattle.demands.specs.Promises.{Place, HeadAnswers, PointAnswers, FilterAnswers, RingAnswers, PageAnswers, PartnersAnswers, NextAnswers, TakeAnswers, NextArrayAnswers, TakeArrayAnswers, RunAnswers, RunArrayAnswers, ViewPoints, ViewFilters, ViewRings, ViewPages, ViewPartners, OpenHead, PointOpened, OwnAnswers, ViewOwnPages}
+use Rattle.demands.specs.Promises.{Place, HeadAnswers, PointAnswers, FilterAnswers, RingAnswers, PageAnswers, PartnersAnswers, NextAnswers, TakeAnswers, NextArrayAnswers, TakeArrayAnswers, RunAnswers, RunArrayAnswers, ViewPoints, ViewFilters, ViewRings, ViewPages, ViewPartners, OpenHead, PointOpened, OwnAnswers, ViewOwnPages, NearestAnswers, ViewNearest}
 
 -- ---- through a view
 
@@ -48,6 +49,10 @@ view-partners p q id t r a = record { κs = ([], ([], tt)); p-at = place (p .wor
 
 pub view-page : (p q : Sheet) (key : Key) (size t : ℕ) (r : Paged) → ViewPages p q key size t r → PageAnswers (now (p .words)) (now (q .words)) key size t r
 view-page p q key size t r a = record { κs = ([], ([], tt)); p-at = place (p .words); q-at = place (q .words); promised = a }
+
+-- the lent numbers stand at any place
+pub view-nearest : (l : Place) (p q : Sheet) (id size : ℕ) (w : List ℕ) (r : Found) (w′ : List ℕ) → ViewNearest p q id size w r w′ → NearestAnswers (now (p .words)) (now (q .words)) id size w r w′
+view-nearest l p q id size w r w′ a = record { κs = ([], ([], ([], tt))); p-at = place (p .words); q-at = place (q .words); w-at = l; promised = a }
 
 -- ---- for callers that hold no view
 

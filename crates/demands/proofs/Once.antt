@@ -41,7 +41,7 @@ use Rattle.book.proofs.Once as of-book
 use Rattle.pack.proofs.Once as of-pack
 use Rattle.marker.proofs.Once as of-marker
 use Rattle.runs.proofs.Once as of-runs
-use Rattle.demands.specs.Promises.{OpenAnswers, HeadAnswers, PointAnswers, FilterAnswers, RingAnswers, PageAnswers, ShortAnswers, PackAnswers, MarkAnswers, BeginAnswers, NextAnswers, TakeAnswers, NextArrayAnswers, TakeArrayAnswers, RunAnswers, RunArrayAnswers, ViewOpens, ViewPoints, ViewFilters, ViewRings, ViewPages, OpenHead, PointOpened, PartnersAnswers, ViewPartners, NearestAnswers, NearFilterAnswers, OwnAnswers, ViewOwnPages}
+use Rattle.demands.specs.Promises.{OpenAnswers, HeadAnswers, PointAnswers, FilterAnswers, RingAnswers, PageAnswers, ShortAnswers, PackAnswers, MarkAnswers, BeginAnswers, NextAnswers, TakeAnswers, NextArrayAnswers, TakeArrayAnswers, RunAnswers, RunArrayAnswers, ViewOpens, ViewPoints, ViewFilters, ViewRings, ViewPages, OpenHead, PointOpened, PartnersAnswers, ViewPartners, NearestAnswers, NearFilterAnswers, OwnAnswers, ViewOwnPages, ViewNearest}
 
 -- ---- ring
 
@@ -139,6 +139,9 @@ view-own-once d key size r r′ x y = of-view.own-once d d key size r r′ refl 
 
 pub view-partners-once : (p q : Sheet) (id t : ℕ) (r r′ : Partnered) → ViewPartners p q id t r → ViewPartners p q id t r′ → r ≡ r′
 view-partners-once p q id t r r′ x y = of-view.partners-once p p q q id t r r′ refl refl x y
+
+pub view-nearest-once : (p q : Sheet) (id size : ℕ) (w : List ℕ) (r r′ : Found) (t t′ : List ℕ) → ViewNearest p q id size w r t → ViewNearest p q id size w r′ t′ → (r ≡ r′) × (t ≡ t′)
+view-nearest-once p q id size w r r′ t t′ x y = of-view.nearest-once p p q q id size w r r′ t t′ refl refl x y
 
 pub open-head-once : (w : List ℤ) (r r′ : Head) → OpenHead w r → OpenHead w r′ → r ≡ r′
 open-head-once w r r′ a b = of-ring.head-once w r r′ (a .promised) (b .promised)

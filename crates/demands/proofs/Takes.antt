@@ -39,6 +39,7 @@ use Rattle.view.proofs.ring_walk_at as view-ring
 use Rattle.view.proofs.page_at as view-page
 use Rattle.view.proofs.own_page_at as view-own-page
 use Rattle.view.proofs.partners_at as view-partners
+use Rattle.view.proofs.nearest_at as view-nearest
 
 pub open-no-takes : (κs : Lfts 1) (a : _) → open-no.Asked κs a
 open-no-takes κs a = tt
@@ -127,3 +128,6 @@ module _ {M : Type 1} (𝓤 : URA M) (H : Heap 𝓤) (A : Atoms 𝓤) (mem : Mem
 
   pub view-partners-takes : (κs : Lfts 2) (a : _) → view-partners.clauses 𝓤 H A mem run κs a .requires tt ≡ emp 𝓤
   view-partners-takes κs a = refl
+
+  pub view-nearest-takes : (κs : Lfts 3) (a : _) → view-nearest.clauses 𝓤 H A mem run κs a .requires tt ≡ emp 𝓤
+  view-nearest-takes κs a = refl

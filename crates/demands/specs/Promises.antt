@@ -3,7 +3,7 @@
 --
 -- `Post` of a call is its `ensures`, read as a plain claim: of the lifetimes κs of what is lent, the arguments, the answer, and the arguments at exit.
 -- Words and slots that are lent are lists that stand at some place of memory, and no promise depends on the place.
--- The calls over slices of records (`Book::next_key`, `Book::take`, `runs::leaf_run`) and over views (`view::open`, `point_at`, `filter_walk_at`, `ring_walk_at`, `page_at`, `own_page_at`, `partners_at`) have no such reading.
+-- The calls over slices of records (`Book::next_key`, `Book::take`, `runs::leaf_run`) and over views (`view::open`, `point_at`, `filter_walk_at`, `ring_walk_at`, `page_at`, `own_page_at`, `partners_at`, `nearest_at`) have no such reading.
 -- Theirs is stated here, and proofs/Says shows that it is their `ensures`, word for word.
 use mathlib.Core.Path.{_≡_}
 use mathlib.Core.List.{List}
@@ -39,6 +39,7 @@ use Rattle.book.specs.Rules.{asked, taken, takenSlots}
 use Rattle.marker.specs.declared.Marked.{Marked}
 use Rattle.shortest.specs.declared.Shortlist.{Shortlist}
 use Rattle.nearest.specs.declared.Found.{Found}
+use Rattle.nearest.specs.Nearest.{nearestNo, nearestAnswer, waitedBy}
 use Rattle.runs.specs.declared.Run.{Run}
 use Rattle.runs.specs.declared.RunArray.{RunArray}
 use Rattle.runs.specs.Run.{runAnswer, runSlots}
@@ -242,6 +243,12 @@ ViewOwnPages d key size r = r ≡ ownAnswer (now (d .words)) key size
 -- `view::partners_at(p, q, id, t)` answers r
 abbrev pub ViewPartners : Sheet → Sheet → ℕ → ℕ → Partnered → Type 0
 ViewPartners p q id t r = r ≡ partnersAnswer (now (p .words)) (now (q .words)) id t
+
+-- `view::nearest_at(p, q, id, size, waiting)` answers r, and the lent numbers are `waiting′` at its exit
+abbrev pub ViewNearest : Sheet → Sheet → ℕ → ℕ → List ℕ → Found → List ℕ → Type 0
+ViewNearest p q id size waiting r waiting′ =
+    (r ≡ nearestAnswer (now (p .words)) (now (q .words)) id size (length waiting))
+    × (waiting′ ≡ waitedBy (nearestNo (now (p .words)) (now (q .words)) id size (length waiting)) (now (p .words)) waiting)
 
 -- `view::open_head(w)` answers h
 pub record OpenHead (w : List ℤ) (h : Head) : Type 0 where

@@ -3,6 +3,8 @@
 use list::Key;
 use list::Page;
 use list::Pair;
+use nearest::Found;
+use nearest::Near;
 use ring::Filtered;
 use ring::Head;
 use ring::Paged;
@@ -12,8 +14,10 @@ use view::Sheet;
 use walk::Answer;
 use walk::Hit;
 ghost use mathlib.Core.Path.{_≡_};
+ghost use lib.ListN.{length};
 ghost use Rattle.ring.specs.Answers.{pointed, filtered, walked};
 ghost use Rattle.ring.specs.Page.{pageAnswer};
+ghost use Rattle.nearest.specs.Nearest.{nearestNo, nearestAnswer, waitedBy};
 
 fn say(word: &[u8]) {
     io::write_all(libc::STDOUT_FILENO, word);
@@ -116,6 +120,29 @@ fn show_page(a: Paged) {
     number(a.opened);
     let g = a.page;
     show_pairs(g);
+    say(b"\n");
+}
+
+fn show_near(v: Near) {
+    number(v.id as u64);
+    number(v.distance);
+}
+
+fn show_found(f: Found) {
+    say(b"nearest");
+    number(f.number as u64);
+    number(f.count as u64);
+    show_near(f.points[0]);
+    show_near(f.points[1]);
+    show_near(f.points[15]);
+}
+
+fn show_waiting(numbers: [u64; 4]) {
+    say(b", lent");
+    number(numbers[0]);
+    number(numbers[1]);
+    number(numbers[2]);
+    number(numbers[3]);
     say(b"\n");
 }
 
@@ -275,6 +302,36 @@ fn page_through(
     )
 }
 
+fn nearest_through(
+    p: &[i32],
+    np: usize,
+    mp: usize,
+    q: &[i32],
+    nq: usize,
+    mq: usize,
+    id: u32,
+    size: usize,
+    waiting: &mut [u64],
+) -> Found
+    ensures { λ r. ⌜ (r ≡ nearestAnswer (now (p .entry)) (now (q .entry)) id size (length (now (waiting .entry)))) × (now (waiting .exit) ≡ waitedBy (nearestNo (now (p .entry)) (now (q .entry)) id size (length (now (waiting .entry)))) (now (p .entry)) (now (waiting .entry))) ⌝ }
+{
+    view::nearest_at(
+        Sheet {
+            words: p,
+            n: np,
+            m: mp,
+        },
+        Sheet {
+            words: q,
+            n: nq,
+            m: mq,
+        },
+        id,
+        size,
+        waiting,
+    )
+}
+
 // What `open` shows of P with one word changed, and the point reader through the view that it gives.
 fn open_changed(at: usize, word: i32) {
     let p = sheet_p(at, word);
@@ -361,6 +418,36 @@ fn page_cases(n: usize, m: usize) {
     page_row(&p, &q, n, m);
 }
 
+// The pump houses nearest to a chamber, through views that claim n points and m nodes, and of Q the other way round; then the four lent numbers, of which the call needs three.
+fn ask_near(p: &[i32], q: &[i32], n: usize, m: usize, id: u32, size: usize) {
+    let mut waiting: [u64; 4] = [7, 8, 9, 10];
+    show_found(nearest_through(p, n, m, q, m, n, id, size, &mut waiting));
+    show_waiting(waiting);
+}
+
+// Where two of the numbers are lent.
+fn near_short(p: &[i32], q: &[i32], n: usize, m: usize) {
+    let mut waiting: [u64; 4] = [7, 8, 9, 10];
+    show_found(nearest_through(p, n, m, q, m, n, 5, 16, &mut waiting[..2]));
+    show_waiting(waiting);
+}
+
+fn near_row(p: &[i32], q: &[i32], n: usize, m: usize) {
+    ask_near(p, q, n, m, 5, 16);
+    ask_near(p, q, n, m, 6, 1);
+    ask_near(p, q, n, m, 7, 0);
+    ask_near(p, q, n, m, 5, 0);
+    ask_near(p, q, n, m, 5, 17);
+    ask_near(&p[..0], q, n, m, 7, 0);
+    near_short(p, q, n, m);
+}
+
+fn near_cases(n: usize, m: usize) {
+    let p = sheet_p(23, 0);
+    let q = sheet_q(23, 0);
+    near_row(&p, &q, n, m);
+}
+
 fn main() {
     open_cases();
     point_cases(2, 1);
@@ -371,6 +458,8 @@ fn main() {
     walk_cases(0, 18446744073709551615);
     page_cases(2, 1);
     page_cases(0, 18446744073709551615);
+    near_cases(2, 1);
+    near_cases(0, 18446744073709551615);
     refused_cases(22, 2, 19, 1001);
     refused_cases(23, 0, 19, 1001);
     refused_cases(15, 11, 22, 2);

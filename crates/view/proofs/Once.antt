@@ -6,6 +6,7 @@ use mathlib.Core.Logic.{⊎-elim}
 use mathlib.Core.List.{List, []}
 use Prim.Native.Nat.{ℕ}
 use lib.IntN.{ℤ}
+use lib.ListN.{length}
 use lib.Dec.{eqb}
 use borrow.Author.Tests.{eq-eqb, ne-eqb, eqb-true}
 use denote.Ref.{RefT, now}
@@ -17,6 +18,8 @@ use Rattle.list.specs.declared.Key.{Key}
 use Rattle.ring.specs.Page.{pageAnswer}
 use Rattle.ring.specs.Own.{ownAnswer}
 use Rattle.ring.specs.Partners.{partnersAnswer}
+use Rattle.nearest.specs.Nearest.{nearestNo, nearestAnswer, waitedBy}
+use Rattle.nearest.specs.declared.Found.{Found}
 use Rattle.ring.specs.declared.Paged.{Paged}
 use Rattle.ring.specs.declared.Partnered.{Partnered}
 use Rattle.ring.specs.declared.Pointed.{Pointed}
@@ -66,6 +69,14 @@ page-once p p′ q q′ key size t r r′ v w e f = e ∙ ap (λ (x : List ℤ).
 pub partners-once : (p p′ q q′ : Sheet) (id t : ℕ) (r r′ : Partnered) → now (p .words) ≡ now (p′ .words) → now (q .words) ≡ now (q′ .words)
     → r ≡ partnersAnswer (now (p .words)) (now (q .words)) id t → r′ ≡ partnersAnswer (now (p′ .words)) (now (q′ .words)) id t → r ≡ r′
 partners-once p p′ q q′ id t r r′ v w e f = e ∙ ap (λ (x : List ℤ). partnersAnswer x (now (q .words)) id t) v ∙ ap (λ (y : List ℤ). partnersAnswer (now (p′ .words)) y id t) w ∙ sym f
+
+-- and leave the same lent words
+pub nearest-once : (p p′ q q′ : Sheet) (id size : ℕ) (ws : List ℕ) (r r′ : Found) (t t′ : List ℕ) → now (p .words) ≡ now (p′ .words) → now (q .words) ≡ now (q′ .words)
+    → (r ≡ nearestAnswer (now (p .words)) (now (q .words)) id size (length ws)) × (t ≡ waitedBy (nearestNo (now (p .words)) (now (q .words)) id size (length ws)) (now (p .words)) ws)
+    → (r′ ≡ nearestAnswer (now (p′ .words)) (now (q′ .words)) id size (length ws)) × (t′ ≡ waitedBy (nearestNo (now (p′ .words)) (now (q′ .words)) id size (length ws)) (now (p′ .words)) ws)
+    → (r ≡ r′) × (t ≡ t′)
+nearest-once p p′ q q′ id size ws r r′ t t′ v w e f =
+    (e .0 ∙ (λ i. nearestAnswer (v i) (w i) id size (length ws)) ∙ sym (f .0), e .1 ∙ (λ i. waitedBy (nearestNo (v i) (w i) id size (length ws)) (v i) ws) ∙ sym (f .1))
 
 -- the point reader through the view that `open` gives. `open_head` has the promise of ring's `head_of`, which ring's own law settles
 pub point-opened-once : (s : RefT (List ℤ)) (i : ℕ) (r r′ : Pointed) → r ≡ pointed (openOf s .covers) i → r′ ≡ pointed (openOf s .covers) i → r ≡ r′

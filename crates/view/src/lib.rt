@@ -1,6 +1,7 @@
 // An opened sheet: a view of the words where the caller keeps them, with the sheet's counts. No copy is made.
 // Whoever is handed a view checks it like any slice: its counts are read anew from its words, and its own are never trusted.
 use list::Key;
+use nearest::Found;
 use ring::Filtered;
 use ring::Head;
 use ring::Paged;
@@ -14,6 +15,7 @@ ghost use Rattle.ring.specs.Answers.{headOf, pointed, filtered, walked};
 ghost use Rattle.ring.specs.Page.{pageAnswer};
 ghost use Rattle.ring.specs.Own.{ownAnswer};
 ghost use Rattle.ring.specs.Partners.{partnersAnswer};
+ghost use Rattle.nearest.specs.Nearest.{nearestNo, nearestAnswer, waitedBy};
 ghost use Rattle.view.specs.Shown.{shown, openOf};
 
 // The words that the view covers, and the numbers of points and nodes that it claims for them.
@@ -95,6 +97,20 @@ pub fn partners_at<'a, 'b>(p: Sheet<'a>, q: Sheet<'b>, id: u32, t: u32) -> Partn
     ensures { λ r. ⌜ r ≡ partnersAnswer (now (p .entry .words)) (now (q .entry .words)) id t ⌝ }
 {
     ring::partners::partners(p.words, q.words, id, t)
+}
+
+// The pump houses nearest to the chamber with an id, the nearest first, and the lent numbers as `nearest` leaves them; refused by 1 to 8 of P's words, then of Q's, then by 20, then
+// by 10 for the size, then by 25 where fewer numbers are lent than P has points and nodes.
+pub fn nearest_at<'a, 'b, 'c>(
+    p: Sheet<'a>,
+    q: Sheet<'b>,
+    id: u32,
+    size: usize,
+    waiting: &'c mut [u64],
+) -> Found
+    ensures { λ r. ⌜ (r ≡ nearestAnswer (now (p .entry .words)) (now (q .entry .words)) id size (length (now (waiting .entry)))) × (now (waiting .exit) ≡ waitedBy (nearestNo (now (p .entry .words)) (now (q .entry .words)) id size (length (now (waiting .entry)))) (now (p .entry .words)) (now (waiting .entry))) ⌝ }
+{
+    nearest::nearest(p.words, q.words, id, size, waiting)
 }
 
 // For callers that hold no view: what `open` shows of the words.
