@@ -418,14 +418,15 @@ fn page_cases(n: usize, m: usize) {
     page_row(&p, &q, n, m);
 }
 
-// The pump houses nearest to a chamber, through views that claim n points and m nodes, and of Q the other way round; then the four lent numbers, of which the call needs three.
+// The pump houses nearest to a chamber, through views that claim n points and m nodes, and of Q the other way round; then the four lent numbers: the call needs
+// three, and leaves the fourth.
 fn ask_near(p: &[i32], q: &[i32], n: usize, m: usize, id: u32, size: usize) {
     let mut waiting: [u64; 4] = [7, 8, 9, 10];
     show_found(nearest_through(p, n, m, q, m, n, id, size, &mut waiting));
     show_waiting(waiting);
 }
 
-// Where two of the numbers are lent.
+// Where two of the four are lent.
 fn near_short(p: &[i32], q: &[i32], n: usize, m: usize) {
     let mut waiting: [u64; 4] = [7, 8, 9, 10];
     show_found(nearest_through(p, n, m, q, m, n, 5, 16, &mut waiting[..2]));

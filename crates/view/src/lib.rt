@@ -99,8 +99,8 @@ pub fn partners_at<'a, 'b>(p: Sheet<'a>, q: Sheet<'b>, id: u32, t: u32) -> Partn
     ring::partners::partners(p.words, q.words, id, t)
 }
 
-// The pump houses nearest to the chamber with an id, the nearest first, and the lent numbers as `nearest` leaves them; refused by 1 to 8 of P's words, then of Q's, then by 20, then
-// by 10 for the size, then by 25 where fewer numbers are lent than P has points and nodes.
+// The pump houses nearest to the chamber with an id, the nearest first; the lent numbers are left as `nearest` leaves them. Refused by 1 to 8 of P's words, then
+// of Q's, then by 20, then by 10 for the size, then by 25 where fewer numbers are lent than P has points and nodes.
 pub fn nearest_at<'a, 'b, 'c>(
     p: Sheet<'a>,
     q: Sheet<'b>,
