@@ -1,5 +1,5 @@
--- The calls of `view` promise what the calls of `ring` promise of the words that the views cover: "a view handed in included, its counts read anew from its words". So
--- each theorem of Demand1, Demand2 and Demand3 on an answer of `ring` holds of theirs. And so for a book, and for a run, whose slots are kept in an array.
+-- The calls of `view` promise what the calls of `ring` and `nearest` promise of the words that the views cover: "a view handed in included, its counts read anew from its words". So
+-- each theorem of Demand1, Demand2, Demand3 and Nearest on an answer of these holds of theirs. And so for a book, and for a run, whose slots are kept in an array.
 -- Assumes nothing.
 use mathlib.Core.Path.{_≡_, ap}
 use mathlib.Core.List.{List, [], _++_}
@@ -22,9 +22,10 @@ use Rattle.book.specs.declared.Book.{Book}
 use Rattle.book.specs.declared.Asked.{Asked}
 use Rattle.book.specs.declared.TakenArray.{TakenArray}
 use Rattle.book.specs.Rules.{takenSlots, lentOf, takenArray}
+use Rattle.nearest.specs.declared.Found.{Found}
 use Rattle.runs.specs.declared.RunArray.{RunArray}
 use Rattle.runs.specs.Run as runs
-use Rattle.demands.specs.Promises.{Place, HeadAnswers, PointAnswers, FilterAnswers, RingAnswers, PageAnswers, PartnersAnswers, NextAnswers, TakeAnswers, NextArrayAnswers, TakeArrayAnswers, RunAnswers, RunArrayAnswers, ViewPoints, ViewFilters, ViewRings, ViewPages, ViewPartners, OpenHead, PointOpened, PointThrough, FilterThrough, RingThrough, PageThrough, PartnersThrough, OwnAnswers, ViewOwnPages, OwnThrough}
+use Rattle.demands.specs.Promises.{Place, HeadAnswers, PointAnswers, FilterAnswers, RingAnswers, PageAnswers, PartnersAnswers, NextAnswers, TakeAnswers, NextArrayAnswers, TakeArrayAnswers, RunAnswers, RunArrayAnswers, ViewPoints, ViewFilters, ViewRings, ViewPages, ViewPartners, OpenHead, PointOpened, OwnAnswers, ViewOwnPages, NearestAnswers, ViewNearest}
 
 -- ---- through a view
 
@@ -49,6 +50,10 @@ view-partners p q id t r a = record { κs = ([], ([], tt)); p-at = place (p .wor
 pub view-page : (p q : Sheet) (key : Key) (size t : ℕ) (r : Paged) → ViewPages p q key size t r → PageAnswers (now (p .words)) (now (q .words)) key size t r
 view-page p q key size t r a = record { κs = ([], ([], tt)); p-at = place (p .words); q-at = place (q .words); promised = a }
 
+-- the lent numbers stand at any place
+pub view-nearest : (l : Place) (p q : Sheet) (id size : ℕ) (w : List ℕ) (r : Found) (w′ : List ℕ) → ViewNearest p q id size w r w′ → NearestAnswers (now (p .words)) (now (q .words)) id size w r w′
+view-nearest l p q id size w r w′ a = record { κs = ([], ([], ([], tt))); p-at = place (p .words); q-at = place (q .words); w-at = l; promised = a }
+
 -- ---- for callers that hold no view
 
 pub open-head : (w : List ℤ) (h : Head) → OpenHead w h → HeadAnswers w h
@@ -57,25 +62,6 @@ open-head w h a = record { κs = a .κs; w-at = a .w-at; promised = a .promised 
 -- of the words that the view covers which `open` gives: none, where they are no sheet
 pub point-opened : (w : RefT (List ℤ)) (i : ℕ) (r : Pointed) → PointOpened w i r → PointAnswers (openOf w .covers) i r
 point-opened w i r a = record { κs = a .κs; w-at = place w; promised = a .promised }
-
--- whatever counts the view claims
-pub point-through : (w : List ℤ) (n m i : ℕ) (r : Pointed) → PointThrough w n m i r → PointAnswers w i r
-point-through w n m i r a = record { κs = a .κs; w-at = a .w-at; promised = a .promised }
-
-pub filter-through : (P : List ℤ) (np mp : ℕ) (Q : List ℤ) (nq mq j : ℕ) (r : Filtered) → FilterThrough P np mp Q nq mq j r → FilterAnswers P Q j r
-filter-through P np mp Q nq mq j r a = record { κs = a .κs; p-at = a .p-at; q-at = a .q-at; promised = a .promised }
-
-pub ring-through : (P : List ℤ) (np mp : ℕ) (Q : List ℤ) (nq mq j i : ℕ) (r : Walked) → RingThrough P np mp Q nq mq j i r → RingAnswers P Q j i r
-ring-through P np mp Q nq mq j i r a = record { κs = a .κs; p-at = a .p-at; q-at = a .q-at; promised = a .promised }
-
-pub own-page-through : (S : List ℤ) (n m : ℕ) (key : Key) (size : ℕ) (r : Paged) → OwnThrough S n m key size r → OwnAnswers S key size r
-own-page-through S n m key size r a = record { κs = a .κs; w-at = a .w-at; promised = a .promised }
-
-pub partners-through : (P : List ℤ) (np mp : ℕ) (Q : List ℤ) (nq mq id t : ℕ) (r : Partnered) → PartnersThrough P np mp Q nq mq id t r → PartnersAnswers P Q id t r
-partners-through P np mp Q nq mq id t r a = record { κs = a .κs; p-at = a .p-at; q-at = a .q-at; promised = a .promised }
-
-pub page-through : (P : List ℤ) (np mp : ℕ) (Q : List ℤ) (nq mq : ℕ) (key : Key) (size t : ℕ) (r : Paged) → PageThrough P np mp Q nq mq key size t r → PageAnswers P Q key size t r
-page-through P np mp Q nq mq key size t r a = record { κs = a .κs; p-at = a .p-at; q-at = a .q-at; promised = a .promised }
 
 -- ---- slots kept in an array: the first so many are lent, the others are as they were
 

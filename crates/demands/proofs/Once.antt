@@ -41,7 +41,7 @@ use Rattle.book.proofs.Once as of-book
 use Rattle.pack.proofs.Once as of-pack
 use Rattle.marker.proofs.Once as of-marker
 use Rattle.runs.proofs.Once as of-runs
-use Rattle.demands.specs.Promises.{OpenAnswers, HeadAnswers, PointAnswers, FilterAnswers, RingAnswers, PageAnswers, ShortAnswers, PackAnswers, MarkAnswers, BeginAnswers, NextAnswers, TakeAnswers, NextArrayAnswers, TakeArrayAnswers, RunAnswers, RunArrayAnswers, ViewOpens, ViewPoints, ViewFilters, ViewRings, ViewPages, OpenHead, PointOpened, PointThrough, FilterThrough, RingThrough, PageThrough, PartnersAnswers, ViewPartners, PartnersThrough, NearestAnswers, NearFilterAnswers, OwnAnswers, ViewOwnPages, OwnThrough}
+use Rattle.demands.specs.Promises.{OpenAnswers, HeadAnswers, PointAnswers, FilterAnswers, RingAnswers, PageAnswers, ShortAnswers, PackAnswers, MarkAnswers, BeginAnswers, NextAnswers, TakeAnswers, NextArrayAnswers, TakeArrayAnswers, RunAnswers, RunArrayAnswers, ViewOpens, ViewPoints, ViewFilters, ViewRings, ViewPages, OpenHead, PointOpened, PartnersAnswers, ViewPartners, NearestAnswers, NearFilterAnswers, OwnAnswers, ViewOwnPages, ViewNearest}
 
 -- ---- ring
 
@@ -140,26 +140,11 @@ view-own-once d key size r r′ x y = of-view.own-once d d key size r r′ refl 
 pub view-partners-once : (p q : Sheet) (id t : ℕ) (r r′ : Partnered) → ViewPartners p q id t r → ViewPartners p q id t r′ → r ≡ r′
 view-partners-once p q id t r r′ x y = of-view.partners-once p p q q id t r r′ refl refl x y
 
+pub view-nearest-once : (p q : Sheet) (id size : ℕ) (w : List ℕ) (r r′ : Found) (t t′ : List ℕ) → ViewNearest p q id size w r t → ViewNearest p q id size w r′ t′ → (r ≡ r′) × (t ≡ t′)
+view-nearest-once p q id size w r r′ t t′ x y = of-view.nearest-once p p q q id size w r r′ t t′ refl refl x y
+
 pub open-head-once : (w : List ℤ) (r r′ : Head) → OpenHead w r → OpenHead w r′ → r ≡ r′
 open-head-once w r r′ a b = of-ring.head-once w r r′ (a .promised) (b .promised)
 
 pub point-opened-once : (w : RefT (List ℤ)) (i : ℕ) (r r′ : Pointed) → PointOpened w i r → PointOpened w i r′ → r ≡ r′
 point-opened-once w i r r′ a b = of-view.point-opened-once w i r r′ (a .promised) (b .promised)
-
-pub point-through-once : (w : List ℤ) (n m i : ℕ) (r r′ : Pointed) → PointThrough w n m i r → PointThrough w n m i r′ → r ≡ r′
-point-through-once w n m i r r′ a b = of-ring.point-once w i r r′ (a .promised) (b .promised)
-
-pub filter-through-once : (P : List ℤ) (np mp : ℕ) (Q : List ℤ) (nq mq j : ℕ) (r r′ : Filtered) → FilterThrough P np mp Q nq mq j r → FilterThrough P np mp Q nq mq j r′ → r ≡ r′
-filter-through-once P np mp Q nq mq j r r′ a b = of-ring.filter-once P Q j r r′ (a .promised) (b .promised)
-
-pub ring-through-once : (P : List ℤ) (np mp : ℕ) (Q : List ℤ) (nq mq j i : ℕ) (r r′ : Walked) → RingThrough P np mp Q nq mq j i r → RingThrough P np mp Q nq mq j i r′ → r ≡ r′
-ring-through-once P np mp Q nq mq j i r r′ a b = of-ring.ring-once P Q j i r r′ (a .promised) (b .promised)
-
-pub page-through-once : (P : List ℤ) (np mp : ℕ) (Q : List ℤ) (nq mq : ℕ) (key : Key) (size t : ℕ) (r r′ : Paged) → PageThrough P np mp Q nq mq key size t r → PageThrough P np mp Q nq mq key size t r′ → r ≡ r′
-page-through-once P np mp Q nq mq key size t r r′ a b = of-page.page-once P Q key size t r r′ (a .promised) (b .promised)
-
-pub own-through-once : (S : List ℤ) (n m : ℕ) (key : Key) (size : ℕ) (r r′ : Paged) → OwnThrough S n m key size r → OwnThrough S n m key size r′ → r ≡ r′
-own-through-once S n m key size r r′ a b = of-own.own-once S key size r r′ (a .promised) (b .promised)
-
-pub partners-through-once : (P : List ℤ) (np mp : ℕ) (Q : List ℤ) (nq mq id t : ℕ) (r r′ : Partnered) → PartnersThrough P np mp Q nq mq id t r → PartnersThrough P np mp Q nq mq id t r′ → r ≡ r′
-partners-through-once P np mp Q nq mq id t r r′ a b = of-partners.partners-once P Q id t r r′ (a .promised) (b .promised)

@@ -29,6 +29,7 @@ use Rattle.book.specs.declared.Asked.{Asked}
 use Rattle.book.specs.declared.Taken.{Taken}
 use Rattle.book.proofs.Book.next_key as next-key
 use Rattle.book.proofs.Book.take as book-take
+use Rattle.nearest.specs.declared.Found.{Found}
 use Rattle.runs.specs.declared.Run.{Run}
 use Rattle.runs.proofs.leaf_run as leaf-run
 use Rattle.view.proofs.open as view-open
@@ -38,7 +39,8 @@ use Rattle.view.proofs.ring_walk_at as view-ring
 use Rattle.view.proofs.page_at as view-page
 use Rattle.view.proofs.own_page_at as view-own-page
 use Rattle.view.proofs.partners_at as view-partners
-use Rattle.demands.specs.Promises.{Place, slice, NextAnswers, TakeAnswers, RunAnswers, ViewOpens, ViewPoints, ViewFilters, ViewRings, ViewPages, ViewPartners, ViewOwnPages}
+use Rattle.view.proofs.nearest_at as view-nearest
+use Rattle.demands.specs.Promises.{Place, slice, NextAnswers, TakeAnswers, RunAnswers, ViewOpens, ViewPoints, ViewFilters, ViewRings, ViewPages, ViewPartners, ViewOwnPages, ViewNearest}
 
 module _ {M : Type 1} (𝓤 : URA M) (H : Heap 𝓤) (A : Atoms 𝓤) (mem : Memory → SProp 𝓤) (run : Routine → Fun 𝓤) where
   pub next-key-says : (κs : Lfts 1) (l : Place) (b : Book) (s : List Pair) (r : Asked)
@@ -85,3 +87,8 @@ module _ {M : Type 1} (𝓤 : URA M) (H : Heap 𝓤) (A : Atoms 𝓤) (mem : Mem
       → view-partners.ensures-1 𝓤 H κs A mem run p q id t (record { entry = p; exit = p }) (record { entry = q; exit = q }) (record { entry = id; exit = id }) (record { entry = t; exit = t }) r
       ≡ fact 𝓤 (ViewPartners p q id t r)
   view-partners-says κs p q id t r = refl
+
+  pub view-nearest-says : (κs : Lfts 3) (l : Place) (p q : Sheet) (id size : ℕ) (w : List ℕ) (r : Found) (w′ : List ℕ)
+      → view-nearest.ensures-1 𝓤 H κs A mem run p q id size (slice l w) (record { entry = p; exit = p }) (record { entry = q; exit = q }) (record { entry = id; exit = id }) (record { entry = size; exit = size }) (record { entry = slice l w; exit = slice l w′ }) r
+      ≡ fact 𝓤 (ViewNearest p q id size w r w′)
+  view-nearest-says κs l p q id size w r w′ = refl

@@ -29,12 +29,6 @@ use Rattle.book.proofs.take_array.Reads as take-array
 use Rattle.runs.proofs.run_array.Reads as run-array
 use Rattle.view.proofs.open_head.Reads as open-head
 use Rattle.view.proofs.point_opened.Reads as point-opened
-use Rattle.view.proofs.point_through.Reads as point-through
-use Rattle.view.proofs.filter_walk_through.Reads as filter-walk-through
-use Rattle.view.proofs.ring_walk_through.Reads as ring-walk-through
-use Rattle.view.proofs.page_through.Reads as page-through
-use Rattle.view.proofs.own_page_through.Reads as own-page-through
-use Rattle.view.proofs.partners_through.Reads as partners-through
 use Rattle.book.proofs.Book.next_key as next-key
 use Rattle.book.proofs.Book.take as take
 use Rattle.runs.proofs.leaf_run as leaf-run
@@ -45,6 +39,7 @@ use Rattle.view.proofs.ring_walk_at as view-ring
 use Rattle.view.proofs.page_at as view-page
 use Rattle.view.proofs.own_page_at as view-own-page
 use Rattle.view.proofs.partners_at as view-partners
+use Rattle.view.proofs.nearest_at as view-nearest
 
 pub open-no-takes : (κs : Lfts 1) (a : _) → open-no.Asked κs a
 open-no-takes κs a = tt
@@ -103,24 +98,6 @@ open-head-takes κs a = tt
 pub point-opened-takes : (κs : Lfts 1) (a : _) → point-opened.Asked κs a
 point-opened-takes κs a = tt
 
-pub point-through-takes : (κs : Lfts 1) (a : _) → point-through.Asked κs a
-point-through-takes κs a = tt
-
-pub filter-walk-through-takes : (κs : Lfts 2) (a : _) → filter-walk-through.Asked κs a
-filter-walk-through-takes κs a = tt
-
-pub ring-walk-through-takes : (κs : Lfts 2) (a : _) → ring-walk-through.Asked κs a
-ring-walk-through-takes κs a = tt
-
-pub page-through-takes : (κs : Lfts 2) (a : _) → page-through.Asked κs a
-page-through-takes κs a = tt
-
-pub own-page-through-takes : (κs : Lfts 1) (a : _) → own-page-through.Asked κs a
-own-page-through-takes κs a = tt
-
-pub partners-through-takes : (κs : Lfts 2) (a : _) → partners-through.Asked κs a
-partners-through-takes κs a = tt
-
 module _ {M : Type 1} (𝓤 : URA M) (H : Heap 𝓤) (A : Atoms 𝓤) (mem : Memory → SProp 𝓤) (run : Routine → Fun 𝓤) where
   pub next-key-takes : (κs : Lfts 1) (a : _) → next-key.clauses 𝓤 H A mem run κs a .requires tt ≡ emp 𝓤
   next-key-takes κs a = refl
@@ -151,3 +128,6 @@ module _ {M : Type 1} (𝓤 : URA M) (H : Heap 𝓤) (A : Atoms 𝓤) (mem : Mem
 
   pub view-partners-takes : (κs : Lfts 2) (a : _) → view-partners.clauses 𝓤 H A mem run κs a .requires tt ≡ emp 𝓤
   view-partners-takes κs a = refl
+
+  pub view-nearest-takes : (κs : Lfts 3) (a : _) → view-nearest.clauses 𝓤 H A mem run κs a .requires tt ≡ emp 𝓤
+  view-nearest-takes κs a = refl

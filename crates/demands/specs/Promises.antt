@@ -3,7 +3,7 @@
 --
 -- `Post` of a call is its `ensures`, read as a plain claim: of the lifetimes κs of what is lent, the arguments, the answer, and the arguments at exit.
 -- Words and slots that are lent are lists that stand at some place of memory, and no promise depends on the place.
--- The calls over slices of records (`Book::next_key`, `Book::take`, `runs::leaf_run`) and over views (`view::open`, `point_at`, `filter_walk_at`, `ring_walk_at`, `page_at`, `own_page_at`, `partners_at`) have no such reading.
+-- The calls over slices of records (`Book::next_key`, `Book::take`, `runs::leaf_run`) and over views (`view::open`, `point_at`, `filter_walk_at`, `ring_walk_at`, `page_at`, `own_page_at`, `partners_at`, `nearest_at`) have no such reading.
 -- Theirs is stated here, and proofs/Says shows that it is their `ensures`, word for word.
 use mathlib.Core.Path.{_≡_}
 use mathlib.Core.List.{List}
@@ -39,6 +39,7 @@ use Rattle.book.specs.Rules.{asked, taken, takenSlots}
 use Rattle.marker.specs.declared.Marked.{Marked}
 use Rattle.shortest.specs.declared.Shortlist.{Shortlist}
 use Rattle.nearest.specs.declared.Found.{Found}
+use Rattle.nearest.specs.Nearest.{nearestNo, nearestAnswer, waitedBy}
 use Rattle.runs.specs.declared.Run.{Run}
 use Rattle.runs.specs.declared.RunArray.{RunArray}
 use Rattle.runs.specs.Run.{runAnswer, runSlots}
@@ -61,12 +62,6 @@ use Rattle.book.proofs.next_array.Reads as next-array
 use Rattle.runs.proofs.run_array.Reads as run-array
 use Rattle.view.proofs.open_head.Reads as open-head
 use Rattle.view.proofs.point_opened.Reads as point-opened
-use Rattle.view.proofs.point_through.Reads as point-through
-use Rattle.view.proofs.filter_walk_through.Reads as filter-walk-through
-use Rattle.view.proofs.ring_walk_through.Reads as ring-walk-through
-use Rattle.view.proofs.page_through.Reads as page-through
-use Rattle.view.proofs.own_page_through.Reads as own-page-through
-use Rattle.view.proofs.partners_through.Reads as partners-through
 
 -- where something that is lent stands: its address, and the name by which its contents are followed
 pub record Place : Type 0 where
@@ -249,6 +244,12 @@ ViewOwnPages d key size r = r ≡ ownAnswer (now (d .words)) key size
 abbrev pub ViewPartners : Sheet → Sheet → ℕ → ℕ → Partnered → Type 0
 ViewPartners p q id t r = r ≡ partnersAnswer (now (p .words)) (now (q .words)) id t
 
+-- `view::nearest_at(p, q, id, size, waiting)` answers r, and the lent numbers are `waiting′` at its exit
+abbrev pub ViewNearest : Sheet → Sheet → ℕ → ℕ → List ℕ → Found → List ℕ → Type 0
+ViewNearest p q id size waiting r waiting′ =
+    (r ≡ nearestAnswer (now (p .words)) (now (q .words)) id size (length waiting))
+    × (waiting′ ≡ waitedBy (nearestNo (now (p .words)) (now (q .words)) id size (length waiting)) (now (p .words)) waiting)
+
 -- `view::open_head(w)` answers h
 pub record OpenHead (w : List ℤ) (h : Head) : Type 0 where
   pub κs : Lfts 1
@@ -259,55 +260,3 @@ pub record OpenHead (w : List ℤ) (h : Head) : Type 0 where
 pub record PointOpened (w : RefT (List ℤ)) (position : ℕ) (r : Pointed) : Type 0 where
   pub κs : Lfts 1
   pub promised : point-opened.Post κs (w, (position, tt)) r (w, (position, tt))
-
--- `view::point_through(w, n, m, position)` answers r
-pub record PointThrough (w : List ℤ) (n m position : ℕ) (r : Pointed) : Type 0 where
-  pub κs : Lfts 1
-  pub w-at : Place
-  pub promised : point-through.Post κs (slice w-at w, (n, (m, (position, tt)))) r (slice w-at w, (n, (m, (position, tt))))
-
--- `view::filter_walk_through(P, np, mp, Q, nq, mq, j)` answers r
-pub record FilterThrough (P : List ℤ) (np mp : ℕ) (Q : List ℤ) (nq mq j : ℕ) (r : Filtered) : Type 0 where
-  pub κs : Lfts 2
-  pub p-at : Place
-  pub q-at : Place
-  pub promised : filter-walk-through.Post κs
-      (slice p-at P, (np, (mp, (slice q-at Q, (nq, (mq, (j, tt)))))))
-      r
-      (slice p-at P, (np, (mp, (slice q-at Q, (nq, (mq, (j, tt)))))))
-
--- `view::ring_walk_through(P, np, mp, Q, nq, mq, j, i)` answers r
-pub record RingThrough (P : List ℤ) (np mp : ℕ) (Q : List ℤ) (nq mq j i : ℕ) (r : Walked) : Type 0 where
-  pub κs : Lfts 2
-  pub p-at : Place
-  pub q-at : Place
-  pub promised : ring-walk-through.Post κs
-      (slice p-at P, (np, (mp, (slice q-at Q, (nq, (mq, (j, (i, tt))))))))
-      r
-      (slice p-at P, (np, (mp, (slice q-at Q, (nq, (mq, (j, (i, tt))))))))
-
--- `view::page_through(P, np, mp, Q, nq, mq, key, size, t)` answers r
-pub record PageThrough (P : List ℤ) (np mp : ℕ) (Q : List ℤ) (nq mq : ℕ) (key : Key) (size t : ℕ) (r : Paged) : Type 0 where
-  pub κs : Lfts 2
-  pub p-at : Place
-  pub q-at : Place
-  pub promised : page-through.Post κs
-      (slice p-at P, (np, (mp, (slice q-at Q, (nq, (mq, (key, (size, (t, tt)))))))))
-      r
-      (slice p-at P, (np, (mp, (slice q-at Q, (nq, (mq, (key, (size, (t, tt)))))))))
-
--- `view::own_page_through(S, n, m, key, size)` answers r
-pub record OwnThrough (S : List ℤ) (n m : ℕ) (key : Key) (size : ℕ) (r : Paged) : Type 0 where
-  pub κs : Lfts 1
-  pub w-at : Place
-  pub promised : own-page-through.Post κs (slice w-at S, (n, (m, (key, (size, tt))))) r (slice w-at S, (n, (m, (key, (size, tt)))))
-
--- `view::partners_through(P, np, mp, Q, nq, mq, id, t)` answers r
-pub record PartnersThrough (P : List ℤ) (np mp : ℕ) (Q : List ℤ) (nq mq id t : ℕ) (r : Partnered) : Type 0 where
-  pub κs : Lfts 2
-  pub p-at : Place
-  pub q-at : Place
-  pub promised : partners-through.Post κs
-      (slice p-at P, (np, (mp, (slice q-at Q, (nq, (mq, (id, (t, tt))))))))
-      r
-      (slice p-at P, (np, (mp, (slice q-at Q, (nq, (mq, (id, (t, tt))))))))

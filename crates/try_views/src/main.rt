@@ -3,13 +3,21 @@
 use list::Key;
 use list::Page;
 use list::Pair;
+use nearest::Found;
+use nearest::Near;
 use ring::Filtered;
 use ring::Head;
 use ring::Paged;
 use ring::Pointed;
 use ring::Walked;
+use view::Sheet;
 use walk::Answer;
 use walk::Hit;
+ghost use mathlib.Core.Path.{_≡_};
+ghost use lib.ListN.{length};
+ghost use Rattle.ring.specs.Answers.{pointed, filtered, walked};
+ghost use Rattle.ring.specs.Page.{pageAnswer};
+ghost use Rattle.nearest.specs.Nearest.{nearestNo, nearestAnswer, waitedBy};
 
 fn say(word: &[u8]) {
     io::write_all(libc::STDOUT_FILENO, word);
@@ -115,6 +123,29 @@ fn show_page(a: Paged) {
     say(b"\n");
 }
 
+fn show_near(v: Near) {
+    number(v.id as u64);
+    number(v.distance);
+}
+
+fn show_found(f: Found) {
+    say(b"nearest");
+    number(f.number as u64);
+    number(f.count as u64);
+    show_near(f.points[0]);
+    show_near(f.points[1]);
+    show_near(f.points[15]);
+}
+
+fn show_waiting(numbers: [u64; 4]) {
+    say(b", lent");
+    number(numbers[0]);
+    number(numbers[1]);
+    number(numbers[2]);
+    number(numbers[3]);
+    say(b"\n");
+}
+
 // The two sheets of the listing, with one word changed: word 23 is none, and changes nothing.
 fn sheet_p(at: usize, word: i32) -> [i32; 23] {
     let mut s: [i32; 23] = [
@@ -180,6 +211,127 @@ fn sheet_q(at: usize, word: i32) -> [i32; 23] {
     s
 }
 
+// The readers on views made here, of words and any counts: the answer is that of the words alone.
+fn point_through(words: &[i32], n: usize, m: usize, position: usize) -> Pointed
+    ensures { λ r. ⌜ r ≡ pointed (now (words .entry)) position ⌝ }
+{
+    view::point_at(Sheet { words, n, m }, position)
+}
+
+fn filter_walk_through(
+    p: &[i32],
+    np: usize,
+    mp: usize,
+    q: &[i32],
+    nq: usize,
+    mq: usize,
+    j: usize,
+) -> Filtered
+    ensures { λ r. ⌜ r ≡ filtered (now (p .entry)) (now (q .entry)) j ⌝ }
+{
+    view::filter_walk_at(
+        Sheet {
+            words: p,
+            n: np,
+            m: mp,
+        },
+        Sheet {
+            words: q,
+            n: nq,
+            m: mq,
+        },
+        j,
+    )
+}
+
+fn ring_walk_through(
+    p: &[i32],
+    np: usize,
+    mp: usize,
+    q: &[i32],
+    nq: usize,
+    mq: usize,
+    j: usize,
+    i: usize,
+) -> Walked
+    ensures { λ r. ⌜ r ≡ walked (now (p .entry)) (now (q .entry)) j i ⌝ }
+{
+    view::ring_walk_at(
+        Sheet {
+            words: p,
+            n: np,
+            m: mp,
+        },
+        Sheet {
+            words: q,
+            n: nq,
+            m: mq,
+        },
+        j,
+        i,
+    )
+}
+
+fn page_through(
+    p: &[i32],
+    np: usize,
+    mp: usize,
+    q: &[i32],
+    nq: usize,
+    mq: usize,
+    key: Key,
+    size: usize,
+    threshold: u32,
+) -> Paged
+    ensures { λ r. ⌜ r ≡ pageAnswer (now (p .entry)) (now (q .entry)) key size threshold ⌝ }
+{
+    view::page_at(
+        Sheet {
+            words: p,
+            n: np,
+            m: mp,
+        },
+        Sheet {
+            words: q,
+            n: nq,
+            m: mq,
+        },
+        key,
+        size,
+        threshold,
+    )
+}
+
+fn nearest_through(
+    p: &[i32],
+    np: usize,
+    mp: usize,
+    q: &[i32],
+    nq: usize,
+    mq: usize,
+    id: u32,
+    size: usize,
+    waiting: &mut [u64],
+) -> Found
+    ensures { λ r. ⌜ (r ≡ nearestAnswer (now (p .entry)) (now (q .entry)) id size (length (now (waiting .entry)))) × (now (waiting .exit) ≡ waitedBy (nearestNo (now (p .entry)) (now (q .entry)) id size (length (now (waiting .entry)))) (now (p .entry)) (now (waiting .entry))) ⌝ }
+{
+    view::nearest_at(
+        Sheet {
+            words: p,
+            n: np,
+            m: mp,
+        },
+        Sheet {
+            words: q,
+            n: nq,
+            m: mq,
+        },
+        id,
+        size,
+        waiting,
+    )
+}
+
 // What `open` shows of P with one word changed, and the point reader through the view that it gives.
 fn open_changed(at: usize, word: i32) {
     let p = sheet_p(at, word);
@@ -205,19 +357,19 @@ fn open_cases() {
 // The points of a view of P that claims n points and m nodes.
 fn point_cases(n: usize, m: usize) {
     let p = sheet_p(23, 0);
-    show_point(view::point_through(&p, n, m, 0));
-    show_point(view::point_through(&p, n, m, 1));
-    show_point(view::point_through(&p, n, m, 2));
-    show_point(view::point_through(&p[23..], n, m, 0));
-    show_point(view::point_through(&p[1..], n, m, 0));
+    show_point(point_through(&p, n, m, 0));
+    show_point(point_through(&p, n, m, 1));
+    show_point(point_through(&p, n, m, 2));
+    show_point(point_through(&p[23..], n, m, 0));
+    show_point(point_through(&p[1..], n, m, 0));
 }
 
 // The walks at position j of Q, through views that claim n points and m nodes, and of Q the other way round.
 fn walk_row(p: &[i32], q: &[i32], n: usize, m: usize, j: usize) {
-    show_filter(view::filter_walk_through(p, n, m, q, m, n, j));
-    show_walk(view::ring_walk_through(p, n, m, q, m, n, j, 0));
-    show_walk(view::ring_walk_through(p, n, m, q, m, n, j, 1));
-    show_walk(view::ring_walk_through(p, n, m, q, m, n, j, 2));
+    show_filter(filter_walk_through(p, n, m, q, m, n, j));
+    show_walk(ring_walk_through(p, n, m, q, m, n, j, 0));
+    show_walk(ring_walk_through(p, n, m, q, m, n, j, 1));
+    show_walk(ring_walk_through(p, n, m, q, m, n, j, 2));
 }
 
 fn walk_cases(n: usize, m: usize) {
@@ -230,10 +382,10 @@ fn walk_cases(n: usize, m: usize) {
 
 // The walks at positions that no sheet has, and over no words: P is checked first.
 fn refused_row(p: &[i32], q: &[i32]) {
-    show_filter(view::filter_walk_through(p, 2, 1, q, 2, 1, 1000));
-    show_walk(view::ring_walk_through(p, 2, 1, q, 2, 1, 1000, 1000));
-    show_walk(view::ring_walk_through(&p[..0], 2, 1, q, 2, 1, 0, 0));
-    show_walk(view::ring_walk_through(p, 2, 1, &q[..0], 2, 1, 0, 0));
+    show_filter(filter_walk_through(p, 2, 1, q, 2, 1, 1000));
+    show_walk(ring_walk_through(p, 2, 1, q, 2, 1, 1000, 1000));
+    show_walk(ring_walk_through(&p[..0], 2, 1, q, 2, 1, 0, 0));
+    show_walk(ring_walk_through(p, 2, 1, &q[..0], 2, 1, 0, 0));
 }
 
 // Over P and Q with one word of each changed.
@@ -246,7 +398,7 @@ fn refused_cases(at: usize, p_word: i32, other: usize, q_word: i32) {
 // A page request through views that claim n points and m nodes, and of Q the other way round.
 fn ask(p: &[i32], q: &[i32], n: usize, m: usize, q_id: u32, p_id: u32, size: usize) {
     let key = Key { q: q_id, p: p_id };
-    show_page(view::page_through(p, n, m, q, m, n, key, size, 0));
+    show_page(page_through(p, n, m, q, m, n, key, size, 0));
 }
 
 fn page_row(p: &[i32], q: &[i32], n: usize, m: usize) {
@@ -266,6 +418,37 @@ fn page_cases(n: usize, m: usize) {
     page_row(&p, &q, n, m);
 }
 
+// The pump houses nearest to a chamber, through views that claim n points and m nodes, and of Q the other way round; then the four lent numbers: the call needs
+// three, and leaves the fourth.
+fn ask_near(p: &[i32], q: &[i32], n: usize, m: usize, id: u32, size: usize) {
+    let mut waiting: [u64; 4] = [7, 8, 9, 10];
+    show_found(nearest_through(p, n, m, q, m, n, id, size, &mut waiting));
+    show_waiting(waiting);
+}
+
+// Where two of the four are lent.
+fn near_short(p: &[i32], q: &[i32], n: usize, m: usize) {
+    let mut waiting: [u64; 4] = [7, 8, 9, 10];
+    show_found(nearest_through(p, n, m, q, m, n, 5, 16, &mut waiting[..2]));
+    show_waiting(waiting);
+}
+
+fn near_row(p: &[i32], q: &[i32], n: usize, m: usize) {
+    ask_near(p, q, n, m, 5, 16);
+    ask_near(p, q, n, m, 6, 1);
+    ask_near(p, q, n, m, 7, 0);
+    ask_near(p, q, n, m, 5, 0);
+    ask_near(p, q, n, m, 5, 17);
+    ask_near(&p[..0], q, n, m, 7, 0);
+    near_short(p, q, n, m);
+}
+
+fn near_cases(n: usize, m: usize) {
+    let p = sheet_p(23, 0);
+    let q = sheet_q(23, 0);
+    near_row(&p, &q, n, m);
+}
+
 fn main() {
     open_cases();
     point_cases(2, 1);
@@ -276,6 +459,8 @@ fn main() {
     walk_cases(0, 18446744073709551615);
     page_cases(2, 1);
     page_cases(0, 18446744073709551615);
+    near_cases(2, 1);
+    near_cases(0, 18446744073709551615);
     refused_cases(22, 2, 19, 1001);
     refused_cases(23, 0, 19, 1001);
     refused_cases(15, 11, 22, 2);

@@ -5,6 +5,7 @@ use mathlib.Core.Path.{_≡_, refl, sym, ap, _∙_}
 use mathlib.Core.List.{List, []}
 use Prim.Native.Nat.{ℕ}
 use lib.IntN.{ℤ}
+use lib.ListN.{length}
 use denote.Ref.{RefT, now}
 use Rattle.words.proofs.FirstLaws.{answer-given, answer-refused, answer-number}
 use Rattle.sheet.specs.Layout.{points, nodes}
@@ -14,6 +15,8 @@ use Rattle.list.specs.declared.Key.{Key}
 use Rattle.ring.specs.Page.{pageAnswer}
 use Rattle.ring.specs.Own.{ownAnswer}
 use Rattle.ring.specs.Partners.{partnersAnswer}
+use Rattle.nearest.specs.Nearest.{nearestNo, nearestAnswer, waitedBy}
+use Rattle.nearest.specs.declared.Found.{Found}
 use Rattle.ring.specs.declared.Paged.{Paged}
 use Rattle.ring.specs.declared.Partnered.{Partnered}
 use Rattle.ring.specs.declared.Pointed.{Pointed}
@@ -64,6 +67,14 @@ pub partners-once : (p p′ q q′ : Sheet) (id t : ℕ) (r r′ : Partnered) �
     → r ≡ partnersAnswer (now (p .words)) (now (q .words)) id t → r′ ≡ partnersAnswer (now (p′ .words)) (now (q′ .words)) id t → r ≡ r′
 partners-once p p′ q q′ id t r r′ v w e f = e ∙ ap (λ (x : List ℤ). partnersAnswer x (now (q .words)) id t) v ∙ ap (λ (y : List ℤ). partnersAnswer (now (p′ .words)) y id t) w ∙ sym f
 
--- the point reader through the view that `open` gives. The other calls on slices have the promises of ring's calls, which ring's own laws settle
+-- and leave the same lent words
+pub nearest-once : (p p′ q q′ : Sheet) (id size : ℕ) (ws : List ℕ) (r r′ : Found) (t t′ : List ℕ) → now (p .words) ≡ now (p′ .words) → now (q .words) ≡ now (q′ .words)
+    → (r ≡ nearestAnswer (now (p .words)) (now (q .words)) id size (length ws)) × (t ≡ waitedBy (nearestNo (now (p .words)) (now (q .words)) id size (length ws)) (now (p .words)) ws)
+    → (r′ ≡ nearestAnswer (now (p′ .words)) (now (q′ .words)) id size (length ws)) × (t′ ≡ waitedBy (nearestNo (now (p′ .words)) (now (q′ .words)) id size (length ws)) (now (p′ .words)) ws)
+    → (r ≡ r′) × (t ≡ t′)
+nearest-once p p′ q q′ id size ws r r′ t t′ v w e f =
+    (e .0 ∙ (λ i. nearestAnswer (v i) (w i) id size (length ws)) ∙ sym (f .0), e .1 ∙ (λ i. waitedBy (nearestNo (v i) (w i) id size (length ws)) (v i) ws) ∙ sym (f .1))
+
+-- the point reader through the view that `open` gives. `open_head` has the promise of ring's `head_of`, which ring's own law settles
 pub point-opened-once : (s : RefT (List ℤ)) (i : ℕ) (r r′ : Pointed) → r ≡ pointed (openOf s .covers) i → r′ ≡ pointed (openOf s .covers) i → r ≡ r′
 point-opened-once s i r r′ e f = e ∙ sym f

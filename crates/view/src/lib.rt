@@ -1,6 +1,7 @@
 // An opened sheet: a view of the words where the caller keeps them, with the sheet's counts. No copy is made.
 // Whoever is handed a view checks it like any slice: its counts are read anew from its words, and its own are never trusted.
 use list::Key;
+use nearest::Found;
 use ring::Filtered;
 use ring::Head;
 use ring::Paged;
@@ -14,6 +15,7 @@ ghost use Rattle.ring.specs.Answers.{headOf, pointed, filtered, walked};
 ghost use Rattle.ring.specs.Page.{pageAnswer};
 ghost use Rattle.ring.specs.Own.{ownAnswer};
 ghost use Rattle.ring.specs.Partners.{partnersAnswer};
+ghost use Rattle.nearest.specs.Nearest.{nearestNo, nearestAnswer, waitedBy};
 ghost use Rattle.view.specs.Shown.{shown, openOf};
 
 // The words that the view covers, and the numbers of points and nodes that it claims for them.
@@ -97,6 +99,20 @@ pub fn partners_at<'a, 'b>(p: Sheet<'a>, q: Sheet<'b>, id: u32, t: u32) -> Partn
     ring::partners::partners(p.words, q.words, id, t)
 }
 
+// The pump houses nearest to the chamber with an id, the nearest first; the lent numbers are left as `nearest` leaves them. Refused by 1 to 8 of P's words, then
+// of Q's, then by 20, then by 10 for the size, then by 25 where fewer numbers are lent than P has points and nodes.
+pub fn nearest_at<'a, 'b, 'c>(
+    p: Sheet<'a>,
+    q: Sheet<'b>,
+    id: u32,
+    size: usize,
+    waiting: &'c mut [u64],
+) -> Found
+    ensures { λ r. ⌜ (r ≡ nearestAnswer (now (p .entry .words)) (now (q .entry .words)) id size (length (now (waiting .entry)))) × (now (waiting .exit) ≡ waitedBy (nearestNo (now (p .entry .words)) (now (q .entry .words)) id size (length (now (waiting .entry)))) (now (p .entry .words)) (now (waiting .entry))) ⌝ }
+{
+    nearest::nearest(p.words, q.words, id, size, waiting)
+}
+
 // For callers that hold no view: what `open` shows of the words.
 pub fn open_head(words: &[i32]) -> Head
     ensures { λ r. ⌜ r ≡ headOf (now (words .entry)) ⌝ }
@@ -116,129 +132,4 @@ pub fn point_opened(words: &[i32], position: usize) -> Pointed
 {
     let o = open(words);
     point_at(o.sheet, position)
-}
-
-// For callers that hold no view, the readers again: views are made of the words with any counts, and handed to the reader, which looks at the words alone.
-pub fn point_through(words: &[i32], n: usize, m: usize, position: usize) -> Pointed
-    ensures { λ r. ⌜ r ≡ pointed (now (words .entry)) position ⌝ }
-{
-    point_at(Sheet { words, n, m }, position)
-}
-
-pub fn filter_walk_through(
-    p: &[i32],
-    np: usize,
-    mp: usize,
-    q: &[i32],
-    nq: usize,
-    mq: usize,
-    j: usize,
-) -> Filtered
-    ensures { λ r. ⌜ r ≡ filtered (now (p .entry)) (now (q .entry)) j ⌝ }
-{
-    filter_walk_at(
-        Sheet {
-            words: p,
-            n: np,
-            m: mp,
-        },
-        Sheet {
-            words: q,
-            n: nq,
-            m: mq,
-        },
-        j,
-    )
-}
-
-pub fn ring_walk_through(
-    p: &[i32],
-    np: usize,
-    mp: usize,
-    q: &[i32],
-    nq: usize,
-    mq: usize,
-    j: usize,
-    i: usize,
-) -> Walked
-    ensures { λ r. ⌜ r ≡ walked (now (p .entry)) (now (q .entry)) j i ⌝ }
-{
-    ring_walk_at(
-        Sheet {
-            words: p,
-            n: np,
-            m: mp,
-        },
-        Sheet {
-            words: q,
-            n: nq,
-            m: mq,
-        },
-        j,
-        i,
-    )
-}
-
-pub fn page_through(
-    p: &[i32],
-    np: usize,
-    mp: usize,
-    q: &[i32],
-    nq: usize,
-    mq: usize,
-    key: Key,
-    size: usize,
-    threshold: u32,
-) -> Paged
-    ensures { λ r. ⌜ r ≡ pageAnswer (now (p .entry)) (now (q .entry)) key size threshold ⌝ }
-{
-    page_at(
-        Sheet {
-            words: p,
-            n: np,
-            m: mp,
-        },
-        Sheet {
-            words: q,
-            n: nq,
-            m: mq,
-        },
-        key,
-        size,
-        threshold,
-    )
-}
-
-pub fn own_page_through(words: &[i32], n: usize, m: usize, key: Key, size: usize) -> Paged
-    ensures { λ r. ⌜ r ≡ ownAnswer (now (words .entry)) key size ⌝ }
-{
-    own_page_at(Sheet { words, n, m }, key, size)
-}
-
-pub fn partners_through(
-    p: &[i32],
-    np: usize,
-    mp: usize,
-    q: &[i32],
-    nq: usize,
-    mq: usize,
-    id: u32,
-    t: u32,
-) -> Partnered
-    ensures { λ r. ⌜ r ≡ partnersAnswer (now (p .entry)) (now (q .entry)) id t ⌝ }
-{
-    partners_at(
-        Sheet {
-            words: p,
-            n: np,
-            m: mp,
-        },
-        Sheet {
-            words: q,
-            n: nq,
-            m: mq,
-        },
-        id,
-        t,
-    )
 }
