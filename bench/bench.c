@@ -92,7 +92,7 @@ static void tell(const char *what, const char *kind, int n, long proved, long tw
 /* the best of so many runs, each of so many times the work: what is short is done often, so that the clock's step does not count */
 #define BEST(runs, times, best, work) do { best = 1l << 62; for (int run = 0; run < (runs); run++) { long begun = now(); for (int time = 0; time < (times); time++) { work; } long took = now() - begun; if (took < best) best = took; } } while (0)
 
-static void packing(const char *kind, int n, packed *s, unsigned edition)
+static void packing(const char *what, const char *kind, int n, packed *s, unsigned edition)
 {
     static packed other;
     long proved, twin;
@@ -102,7 +102,7 @@ static void packing(const char *kind, int n, packed *s, unsigned edition)
     BEST(20, 4000 / n, twin, b = twin_pack((unsigned long)n, points, order, edition, other.words, other.len));
     int agree = a == 0 && b == 0;
     for (unsigned long i = 0; i < s->len; i++) agree &= s->words[i] == other.words[i];
-    tell("packing", kind, n, proved, twin, agree);
+    tell(what, kind, n, proved, twin, agree);
 }
 
 static void opening(const char *kind, int n, const packed *s)
@@ -222,7 +222,7 @@ int main(void)
                 makers[k](n);
                 for (int i = 0; i < n; i++) points[3 * i] = 10 * i + 1 + side;
                 tile(n);
-                packing(kinds[k], n, side ? &q : &p, 7 + 2 * (unsigned)side);
+                packing(side ? "packing-q" : "packing-p", kinds[k], n, side ? &q : &p, 7 + 2 * (unsigned)side);
             }
             opening(kinds[k], n, &p);
             unsigned long listed = listing(kinds[k], n, &p, &q);

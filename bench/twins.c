@@ -329,8 +329,8 @@ twin_size twin_brute(const twin_word *pw, twin_size plen, const twin_word *qw, t
         for (twin_size i = 0; i < p.n; i++) {
             spot b = spot_at(&p, i);
             int hit = 0;
-            for (twin_size k = 0; k < q.n && !hit; k++) hit = k != j && dot(a, b, spot_at(&q, k)) <= 0;
-            for (twin_size k = 0; k < p.n && !hit; k++) hit = k != i && dot(a, b, spot_at(&p, k)) <= 0;
+            for (twin_size k = 0; k < q.n && !hit; k++) hit = blocks(a, b, spot_at(&q, k));
+            for (twin_size k = 0; k < p.n && !hit; k++) hit = blocks(a, b, spot_at(&p, k));
             if (hit) continue;
             if (count < room) { out[count].q = (unsigned)q.w[3 * j]; out[count].p = (unsigned)p.w[3 * i]; out[count].size = (u64)dot(a, a, b); }
             count++;

@@ -252,7 +252,8 @@ RingShortlist ring_shortest(const int32_t *p, size_t p_len, const int32_t *q, si
 RingFound ring_nearest(const int32_t *p, size_t p_len, const int32_t *q, size_t q_len, uint32_t id, size_t size, uint64_t *waiting, size_t waiting_len);
 
 /* The filter walk for a single chamber that goes nearest first: the positions of P that may be ring partners of the chamber with this id. Each ring partner is among them.
- * Input, lent numbers and refusals as of ring_nearest, but for the size. Answer as of ring_filter_walk. */
+ * Input and lent numbers as of ring_nearest, but for the size. Answer as of ring_filter_walk.
+ * Refused  1 to 8 for P, then 1 to 8 for Q, then 20, then 25, each as of ring_nearest; no lent number is written. */
 RingFiltered ring_near_filter(const int32_t *p, size_t p_len, const int32_t *q, size_t q_len, uint32_t id, uint64_t *waiting, size_t waiting_len);
 
 /* Begins a book of the list of two editions and a threshold, or of a self join: nothing held, open.
@@ -291,30 +292,32 @@ RingMarker ring_marker(int32_t ax, int32_t ay, int32_t bx, int32_t by);
 RingRun ring_leaf_run(const int32_t *p, size_t p_len, const int32_t *q, size_t q_len, size_t leaf, RingPair *slots, size_t slots_len);
 
 /*
- * The numbers of refusal
- *    1  under 6 words
- *    2  form number not 1
- *    3  n, m or edition out of range; a self join of two editions
- *    4  span, root word or length wrong
- *    5  an id or coordinate breaks its rule
- *    6  order (and rank) not as stated
- *    7  level, first or count wrong, or n and m disagree on zero
- *    8  a box is not tightest
- *    9  key out of range; a position not below its sheet's n
- *   10  size out of range; k out of range
- *   11  held exceeds the slots
- *   12  book closed
- *   13  page of other editions
- *   14  page key is not the book's next key
+ * The numbers of refusal, and the calls that give them; `a sheet`: every call that is given one
+ *    1  under 6 words (a sheet)
+ *    2  form number not 1 (a sheet)
+ *    3  n, m or edition out of range (a sheet, ring_pack, ring_book_begin); a self join of two editions (ring_book_begin)
+ *    4  span, root word or length wrong (a sheet)
+ *    5  an id or coordinate breaks its rule (a sheet, ring_pack, ring_marker)
+ *    6  order (and rank) not as stated (a sheet, ring_pack)
+ *    7  level, first or count wrong, or n and m disagree on zero (a sheet)
+ *    8  a box is not tightest (a sheet)
+ *    9  key out of range (ring_page, ring_own_page); a position not below its sheet's n (ring_point, ring_filter_walk, ring_pair_walk)
+ *   10  size out of range (ring_page, ring_own_page, ring_nearest); k out of range (ring_shortest)
+ *   11  held exceeds the slots (ring_book_next_key, ring_book_take)
+ *   12  book closed (ring_book_take)
+ *   13  page of other editions (ring_book_take)
+ *   14  page key is not the book's next key (ring_book_take)
  *   15  over 16 pairs; an id outside 1 to 2,000,000,000; a size over 8,000,000,000,000; pairs not ascending strictly after the key; no pair and no end mark
- *   16  more pairs than slots left
- *   17  lent output not exactly the sheet's length
- *   18  point words not 3n, or order list not n long
- *   19  no such leaf
- *   20  unknown q id
- *   21  threshold outside 0 to 1,000, or 0 in ring_partners, or above 0 for a self join
- *   22  page of the other kind
- *   31  page of another threshold
+ *       (ring_book_take)
+ *   16  more pairs than slots left (ring_book_take); more pairs than slots (ring_leaf_run)
+ *   17  lent output not exactly the sheet's length (ring_pack)
+ *   18  point words not 3n, or order list not n long (ring_pack)
+ *   19  no such leaf (ring_leaf_run)
+ *   20  unknown q id (ring_partners, ring_nearest, ring_near_filter)
+ *   21  threshold outside 0 to 1,000 (ring_page, ring_partners, ring_book_begin), or 0 (ring_partners), or above 0 for a self join (ring_book_begin)
+ *   22  page of the other kind (ring_book_take)
+ *   25  fewer numbers lent than P has points and nodes (ring_nearest, ring_near_filter)
+ *   31  page of another threshold (ring_book_take)
  */
 
 #ifdef __cplusplus

@@ -1,4 +1,6 @@
-// The stored cases that a program runs, as words of its standard input. What is read no contract can say; past the end of the input every word is 0.
+// The stored cases that a program runs, as words of its standard input, ended by a word that is 0. What is read no contract can say; past a word that cannot be
+// read whole every word is 0.
+use input::Got;
 ghost use mathlib.Core.Path.{_≡_};
 ghost use mathlib.Core.Bool.{true, _||_};
 ghost use Prim.Native.Nat.{_≤_, _<_};
@@ -9,10 +11,42 @@ fn word_of(b: &[u8; 4]) -> i32 {
     words::bytes::word_le(b[0], b[1], b[2], b[3])
 }
 
-fn next_word() -> i32 {
+// A word, or that it cannot be read whole.
+enum Next {
+    Word(i32),
+    Lost,
+}
+
+// The next word. Where it is lost standard input is closed, so that no later one is taken for it.
+fn read_word() -> Next {
     let mut b = [0u8; 4];
-    io::read_full(libc::STDIN_FILENO, &mut b);
-    word_of(&b)
+    if let Got::Bytes(n) = input::read_all(libc::STDIN_FILENO, &mut b) {
+        if n == 4 {
+            return Next::Word(word_of(&b));
+        }
+    }
+    libc::close(libc::STDIN_FILENO);
+    Next::Lost
+}
+
+fn next_word() -> i32 {
+    match read_word() {
+        Next::Word(w) => w,
+        Next::Lost => 0,
+    }
+}
+
+// The kind of the next case, 0 where the cases end. Where the input fails or breaks off before that, it says so and answers 0.
+pub fn next_kind() -> usize
+    ensures { λ r. ⌜ r < 2147483648 ⌝ }
+{
+    match read_word() {
+        Next::Word(w) => words::num(w),
+        Next::Lost => {
+            io::write_all(libc::STDOUT_FILENO, b"refused input\n");
+            0
+        }
+    }
 }
 
 // The next word as a count, 0 for a negative one.

@@ -4,8 +4,8 @@
 --
 -- That every input is taken is proofs/Takes. Here is one theorem for each call: the number of its answer is the defined one, 0 where no rule is broken; and an answer with another number is that number and
 -- nothing else. None has a premise but that the call answered. The definitions of the numbers stand in the document's order: `openNo` of sheet/specs/Open,
--- `packNo` of pack/specs/Pack, `pointNo`, `filterNo`, `ringNo` of ring/specs/Numbers, `pageNo` of ring/specs/Page, `ownNo` of ring/specs/Own, `partnersNo` of ring/specs/Partners, `beginNo`, `nextNo`, `takeNo` of
--- book/specs/Rules, `markNo` of marker/specs/Mark, `runNo` of runs/specs/Run, `nearestNo` and `nearFilterNo` of nearest/specs/Nearest. For the calls through views and on arrays see proofs/Alike. What is lent as `&` cannot be written; what is lent as `&mut` (pack, take, leaf_run, nearest, near_filter) is spoken of here.
+-- `packNo` of pack/specs/Pack, `pointNo`, `filterNo`, `ringNo` of ring/specs/Numbers, `pageNo` of ring/specs/Page, `ownNo` of ring/specs/Own, `partnersNo` of ring/specs/Partners, `shortNo` of shortest/specs/Answer,
+-- `beginNo`, `nextNo`, `takeNo` of book/specs/Rules, `markNo` of marker/specs/Mark, `runNo` of runs/specs/Run, `nearestNo` and `nearFilterNo` of nearest/specs/Nearest. For the calls through views and on arrays see proofs/Alike. What is lent as `&` cannot be written; what is lent as `&mut` (pack, take, leaf_run, nearest, near_filter) is spoken of here.
 -- Assumes nothing.
 use mathlib.Core.Path.{_≡_, refl, sym, ap, subst, _∙_}
 use mathlib.Core.List.{List, [], _++_}
@@ -191,7 +191,7 @@ next-no b slots r a =
     let e : askedNo (r .next) ≡ nextNo b (length slots) = ap (λ (x : Asked). askedNo (x .next)) a ∙ of-book.next-no b slots in
     (e, ap (λ (x : Asked). x .book) a ∙ of-book.asked-book b slots, λ ne. only-next (nextNo b (length slots)) (r .next) e ne)
 
--- ---- take, 11 to 16: refused, the book comes back as it went in, and every slot is as it stood
+-- ---- take, 11, 12, 22, 13, 31, 14, 15, 16: refused, the book comes back as it went in, and every slot is as it stood
 
 pub take-no : (b : Book) (slots : List Pair) (g : Page) (r : Taken) (slots′ : List Pair) → TakeAnswers b slots g r slots′
     → (r .number ≡ takeNo b slots g) × (Refuses (takeNo b slots g) → (r .book ≡ b) × (slots′ ≡ slots))

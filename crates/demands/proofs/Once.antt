@@ -1,6 +1,7 @@
 -- "For each function open to callers, one input admits one result and one final state of what was lent, refusals too; prove it from the promise."
--- Each theorem starts from two answers that the call's promise admits for one input, and ends with their being one. No exception. (The calls over C: OverC.)
--- Of a view that `open` makes it says all that there is to see: the number, the words covered and where they stand, the counts.
+-- Each theorem starts from two answers that the call's promise admits for one input, and ends with their being one. (The calls over C: OverC.)
+-- One exception, decision 32: of a view that `open` makes it says all that there is to see, the number, the words covered and where they stand, the counts; the name
+-- that the logic gives to the borrow itself is not settled.
 -- Assumes nothing.
 use mathlib.Core.Path.{_≡_, refl}
 use mathlib.Core.List.{List}

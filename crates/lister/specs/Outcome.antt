@@ -1,11 +1,13 @@
 -- What the program does with what it has read.
 use mathlib.Core.Path.{_≡_}
 use mathlib.Core.Bool.{cond}
-use mathlib.Core.List.{List}
+use mathlib.Core.List.{List, []}
 use Prim.Native.Nat.{ℕ, _/_, _≤_}
 use lib.Dec.{eqb}
 use lib.IntN.{ℤ}
 use lib.ListN.{length, take, drop}
+use Rattle.input.specs.declared.Got.{Got}
+use Rattle.input.specs.declared.Got.the-variants.{Bytes, Failed}
 use Rattle.words.specs.Bytes.{wordsOf}
 use Rattle.words.specs.Range.{lastId}
 use Rattle.sheet.specs.Places.{pointsOf}
@@ -40,11 +42,23 @@ wordsOutcome w = sheetsOutcome (take (splitAt w) w) (drop (splitAt w) w)
 unfoldable pub outcome : List ℕ → Outcome
 outcome bytes = cond (badInput (length bytes)) BadInput (wordsOutcome (wordsOf bytes (length bytes / 4)))
 
--- what stands on standard output, of two sheets and an outcome: 113 is the byte q, 112 is p
+-- of what was read into a room: the bytes up to the end of the input, or a read that failed, which is `refused input` too (decision 11)
+unfoldable pub gotOutcome : Got → List ℕ → Outcome
+gotOutcome (Bytes n) room = outcome (take n room)
+gotOutcome Failed room = BadInput
+
+-- the line of a refusal: 113 is the byte q, 112 is p. Nothing is said so of two sheets that are listed
+unfoldable pub refusal : Outcome → List ℕ
+refusal BadInput = inputText
+refusal (BadQ n) = refusedText 113 n
+refusal (BadP n) = refusedText 112 n
+refusal (Listed n) = []
+
+-- what stands on standard output, of two sheets and an outcome
 unfoldable pub printed : List ℤ → List ℤ → Outcome → List ℕ
-printed P Q BadInput = inputText
-printed P Q (BadQ n) = refusedText 113 n
-printed P Q (BadP n) = refusedText 112 n
+printed P Q BadInput = refusal BadInput
+printed P Q (BadQ n) = refusal (BadQ n)
+printed P Q (BadP n) = refusal (BadP n)
 printed P Q (Listed n) = listingOf (pointsOf P) (pointsOf Q)
 
 -- two sheets that open, as the functions inside ask it

@@ -1,13 +1,17 @@
-// The listing program's work: what it does with the bytes that it reads. Only what is written, and that it is written, is outside of the promises.
+// The listing program's work: what it does with what it reads. What is put into a buffer is promised; that each buffer is written, once and to standard
+// output, is not.
 mod lines;
 mod pages;
 mod split;
 
+use input::Got;
 use libc::STDOUT_FILENO;
 ghost use mathlib.Core.Path.{_≡_};
-ghost use Prim.Native.Nat.{_≤_};
+ghost use Prim.Native.Nat.{_+_, _≤_};
 ghost use lib.ListN.{length};
-ghost use Rattle.lister.specs.Outcome.{sheetsOutcome, wordsOutcome};
+ghost use Rattle.input.specs.Got.{Within};
+ghost use Rattle.text.specs.Text.{Grown};
+ghost use Rattle.lister.specs.Outcome.{sheetsOutcome, wordsOutcome, gotOutcome, refusal};
 
 // What came of an input: refused, or listed, with the number of pairs.
 pub enum Outcome {
@@ -25,30 +29,42 @@ pub struct Shown {
     pub end: bool,
 }
 
-fn say_refused(set: u8, no: u32) -> bool {
+// What came of reading and of what was read.
+pub struct Listing {
+    pub got: Got,
+    pub outcome: Outcome,
+}
+
+// The line of a refusal; nothing where the pairs are listed.
+fn put_refusal(o: Outcome, out: &mut [u8], at: usize) -> usize
+    requires { ⌜ at + 31 ≤ length (now out) ⌝ }
+    ensures { λ r. ⌜ Grown (now (out .entry)) at (now (out .exit)) r (refusal o) ⌝ }
+    ensures { λ r. ⌜ r ≤ at + 31 ⌝ }
+{
+    match o {
+        Outcome::BadInput => text::put_input(out, at),
+        Outcome::BadQ(no) => text::put_refused(b'q', no, out, at),
+        Outcome::BadP(no) => text::put_refused(b'p', no, out, at),
+        Outcome::Listed(_) => at,
+    }
+}
+
+fn say(o: Outcome) -> bool {
     let mut out = [0u8; 32];
-    let n = text::put_refused(set, no, &mut out, 0);
+    let n = put_refusal(o, &mut out, 0);
     io::write_all(STDOUT_FILENO, &out[..n])
 }
 
-fn say_input() -> bool {
-    let mut out = [0u8; 32];
-    let n = text::put_input(&mut out, 0);
-    io::write_all(STDOUT_FILENO, &out[..n])
-}
-
-// Opens Q, then P, and lists their ring pairs, or says which is refused.
+// Opens Q, then P, and lists their ring pairs.
 pub fn list_sheets(p: &[i32], q: &[i32]) -> Outcome
     ensures { λ r. ⌜ r ≡ sheetsOutcome (now (p .entry)) (now (q .entry)) ⌝ }
 {
     let hq = ring::open::head_of(q);
     if hq.number != 0 {
-        say_refused(b'q', hq.number);
         return Outcome::BadQ(hq.number);
     }
     let hp = ring::open::head_of(p);
     if hp.number != 0 {
-        say_refused(b'p', hp.number);
         return Outcome::BadP(hp.number);
     }
     Outcome::Listed(pages::list_pairs(p, hp, q, hq))
@@ -76,7 +92,6 @@ pub fn list_bytes(bytes: &[u8]) -> Outcome
 {
     let n = bytes.len();
     if split::is_bad(n) {
-        say_input();
         return Outcome::BadInput;
     }
     let mut room = space();
@@ -85,19 +100,35 @@ pub fn list_bytes(bytes: &[u8]) -> Outcome
     list_words(&room[..count])
 }
 
+// Lists what was read into the start of `room`.
+fn list_got(got: Got, room: &[u8]) -> Outcome
+    requires { ⌜ Within got (now room) ⌝ }
+    ensures { λ r. ⌜ r ≡ gotOutcome got (now (room .entry)) ⌝ }
+{
+    match got {
+        Got::Bytes(n) => list_bytes(&room[..n]),
+        Got::Failed => Outcome::BadInput,
+    }
+}
+
 // Room for the bytes of two sheets, and one more.
-fn input() -> [u8; 62449]
+pub fn room() -> [u8; 62449]
     ensures { λ r. ⌜ 62449 ≡ length r ⌝ }
 {
     [0; 62449]
 }
 
-// Lists what `fd` has, up to one byte more than two sheets can have, and answers how many bytes it has read.
-pub fn list(fd: i32) -> usize
-    ensures { λ r. ⌜ r ≤ 62449 ⌝ }
+// Lists what `fd` has, up to one byte more than two sheets can have, or says why not.
+pub fn list(fd: i32, room: &mut [u8]) -> Listing
+    requires { ⌜ 62449 ≡ length (now room) ⌝ }
+    ensures { λ r. ⌜ Within (r .got) (now (room .exit)) ⌝ }
+    ensures { λ r. ⌜ r .outcome ≡ gotOutcome (r .got) (now (room .exit)) ⌝ }
 {
-    let mut bytes = input();
-    let n = io::read_full(fd, &mut bytes);
-    list_bytes(&bytes[..n]);
-    n
+    let got = input::read_all(fd, room);
+    let outcome = list_got(got, room);
+    say(outcome);
+    Listing {
+        got: got,
+        outcome: outcome,
+    }
 }

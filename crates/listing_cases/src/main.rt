@@ -8,7 +8,8 @@ fn list_file(i: u8) {
         os::fail(&name);
         return;
     }
-    lister::list(fd);
+    let mut room = lister::room();
+    lister::list(fd, &mut room);
     libc::close(fd);
 }
 

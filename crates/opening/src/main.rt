@@ -1,5 +1,6 @@
 // Opens a sheet: standard input has its bytes. One line is written: `opens N M EDITION` with the numbers of points and nodes, `refused N` with the number of
-// refusal, or `refused input` where the bytes are no whole words or more than the longest sheet has.
+// refusal, or `refused input` where a read fails or the bytes are no whole words or more than the longest sheet has.
+use input::Got;
 use libc::STDIN_FILENO;
 use libc::STDOUT_FILENO;
 ghost use Prim.Native.Nat.{_≤_};
@@ -50,6 +51,8 @@ fn run(bytes: &[u8], n: usize)
 
 fn main() {
     let mut bytes = [0u8; 31225];
-    let n = io::read_full(STDIN_FILENO, &mut bytes);
-    run(&bytes, n);
+    match input::read_all(STDIN_FILENO, &mut bytes) {
+        Got::Bytes(n) => run(&bytes, n),
+        Got::Failed => say_input(),
+    }
 }

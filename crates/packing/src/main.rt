@@ -1,6 +1,7 @@
 // Packs a sheet. Standard input has words, little-endian: n, the edition, 3n point words and n order words. The sheet's bytes are written to standard
-// output, or one line: `refused N` with the packer's number, or `refused input` where the bytes are fewer than 8, no whole words or more than a packer may
-// be given.
+// output, or one line: `refused N` with the packer's number, or `refused input` where a read fails or the bytes are fewer than 8, no whole words or more than a
+// packer may be given.
+use input::Got;
 use libc::STDIN_FILENO;
 use libc::STDOUT_FILENO;
 ghost use Prim.Native.Nat.{_*_, _≤_};
@@ -138,6 +139,8 @@ fn run(bytes: &[u8], n: usize)
 
 fn main() {
     let mut bytes = [0u8; 16009];
-    let n = io::read_full(STDIN_FILENO, &mut bytes);
-    run(&bytes, n);
+    match input::read_all(STDIN_FILENO, &mut bytes) {
+        Got::Bytes(n) => run(&bytes, n),
+        Got::Failed => say_input(),
+    }
 }

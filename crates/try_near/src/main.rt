@@ -153,7 +153,7 @@ fn near_of() {
 
 // The next case, and whether there was one.
 fn one() -> bool {
-    let kind = cases::next_count();
+    let kind = cases::next_kind();
     if kind == 1 {
         near_of();
         return true;

@@ -151,7 +151,7 @@ fn asked(kind: usize) {
 
 // The next case, and whether there was one.
 fn one() -> bool {
-    let kind = cases::next_count();
+    let kind = cases::next_kind();
     if (kind == 1) | (kind == 2) | (kind == 3) {
         asked(kind);
         return true;

@@ -117,7 +117,7 @@ fn runs_of() {
 
 // The next case, and whether there was one.
 fn one() -> bool {
-    let kind = cases::next_count();
+    let kind = cases::next_kind();
     if kind == 1 {
         runs_of();
         return true;

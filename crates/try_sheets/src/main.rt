@@ -134,7 +134,7 @@ fn pack_case() {
 
 // The next case, and whether there was one.
 fn one() -> bool {
-    let kind = cases::next_count();
+    let kind = cases::next_kind();
     if kind == 1 {
         open_case();
         return true;

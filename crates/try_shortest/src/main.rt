@@ -63,7 +63,7 @@ fn requests() {
 
 // The next case, and whether there was one.
 fn one() -> bool {
-    let kind = cases::next_count();
+    let kind = cases::next_kind();
     if kind == 1 {
         requests();
         return true;

@@ -125,7 +125,7 @@ fn walk_case() {
 
 // The next case, and whether there was one.
 fn one() -> bool {
-    let kind = cases::next_count();
+    let kind = cases::next_kind();
     if kind == 1 {
         walk_case();
         return true;

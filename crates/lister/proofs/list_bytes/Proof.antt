@@ -18,13 +18,10 @@ taken c = sym (c .before .is-bad .ensures) ∙ c .if1 .left
 is-bad-requires : tie.Need-is-bad-requires
 is-bad-requires c κs = search needs
 
-say-input-requires : tie.Need-say-input-requires
-say-input-requires c κs = search needs
-
 returns : tie.Need-returns
 returns c =
-    let b = c .before .before in
-    input-refused (b .before .before .args .bytes .now) (sym (b .is-bad .ensures) ∙ c .before .if1 .taken)
+    let b = c .before in
+    input-refused (b .before .before .args .bytes .now) (sym (b .is-bad .ensures) ∙ c .if1 .taken)
 
 space-requires : tie.Need-space-requires
 space-requires c κs = search needs
@@ -59,7 +56,6 @@ list-bytes-spec =
     tie.close
     (tie.spec
     is-bad-requires
-    say-input-requires
     returns
     space-requires
     slice-aggregate-decode

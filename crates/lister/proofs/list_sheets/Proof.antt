@@ -15,27 +15,21 @@ p-opens c = let h = c .before .before in headed (h .before .before .before .befo
 head-of-requires : tie.Need-head-of-requires
 head-of-requires c κs = search needs
 
-say-refused-requires : tie.Need-say-refused-requires
-say-refused-requires c κs = search needs
-
 returns : tie.Need-returns
 returns c =
-    let h = c .before .before .before in
+    let h = c .before .before in
     let s = h .before in
-    q-refused (s .args .p .now) (s .args .q .now) (h .head-of .result .number) (head-number (s .args .q .now) (h .head-of .result) (h .head-of .ensures)) (c .before .if1 .taken)
+    q-refused (s .args .p .now) (s .args .q .now) (h .head-of .result .number) (head-number (s .args .q .now) (h .head-of .result) (h .head-of .ensures)) (c .if1 .taken)
 
 head-of-requires-2 : tie.Need-head-of-requires-2
 head-of-requires-2 c κs = search needs
 
-say-refused-requires-2 : tie.Need-say-refused-requires-2
-say-refused-requires-2 c κs = search needs
-
 returns-2 : tie.Need-returns-2
 returns-2 c =
-    let h = c .before .before .before in
+    let h = c .before .before in
     let e = h .before in
     let s = e .before .before .before in
-    p-refused (s .args .p .now) (s .args .q .now) (h .head-of2 .result .number) (q-opens e .opens) (head-number (s .args .p .now) (h .head-of2 .result) (h .head-of2 .ensures)) (c .before .if2 .taken)
+    p-refused (s .args .p .now) (s .args .q .now) (h .head-of2 .result .number) (q-opens e .opens) (head-number (s .args .p .now) (h .head-of2 .result) (h .head-of2 .ensures)) (c .if2 .taken)
 
 list-pairs-requires : tie.Need-list-pairs-requires
 list-pairs-requires c κs =
@@ -54,10 +48,8 @@ list-sheets-spec =
     tie.close
     (tie.spec
     head-of-requires
-    say-refused-requires
     returns
     head-of-requires-2
-    say-refused-requires-2
     returns-2
     list-pairs-requires
     returns-3)

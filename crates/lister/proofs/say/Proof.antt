@@ -1,15 +1,15 @@
--- `lister::say_input` meets its contract. Assumes nothing.
+-- `lister::say` meets its contract. Assumes nothing.
 use mathlib.Core.Path.{sym}
 use lib.Seq.{length-take-le}
 use borrow.Author.Needs.{needs}
-use Rattle.lister.proofs.say_input.Statement.{statement}
-use Rattle.lister.proofs.say_input.Tie as tie
+use Rattle.lister.proofs.say.Statement.{statement}
+use Rattle.lister.proofs.say.Tie as tie
 
-slice-aggregate-put-input : tie.Need-slice-aggregate-put-input
-slice-aggregate-put-input c = search needs
+slice-aggregate-put-refusal : tie.Need-slice-aggregate-put-refusal
+slice-aggregate-put-refusal c = search needs
 
-put-input-requires : tie.Need-put-input-requires
-put-input-requires c κs = search needs
+put-refusal-requires : tie.Need-put-refusal-requires
+put-refusal-requires c κs = search needs
 
 array-share-prefix-out : tie.Need-array-share-prefix-out
 array-share-prefix-out c = search needs
@@ -23,12 +23,12 @@ write-all-requires c κs = search needs
 returns : tie.Need-returns
 returns c = search needs
 
-pub say-input-spec : {M : Type 1} → statement M
-say-input-spec =
+pub say-spec : {M : Type 1} → statement M
+say-spec =
     tie.close
     (tie.spec
-    slice-aggregate-put-input
-    put-input-requires
+    slice-aggregate-put-refusal
+    put-refusal-requires
     array-share-prefix-out
     slice-aggregate-write-all
     write-all-requires

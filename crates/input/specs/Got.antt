@@ -1,0 +1,11 @@
+-- What reading a descriptor to its end gives.
+use mathlib.Core.List.{List}
+use Prim.Native.Nat.{ℕ}
+use Rattle.io.specs.Counts.{Counts}
+use Rattle.input.specs.declared.Got.{Got}
+use Rattle.input.specs.declared.Got.the-variants.{Bytes, Failed}
+
+-- the bytes that were read stand at the start of the room lent for them; of a read that failed nothing is said
+abbrev pub Within : Got → List ℕ → Type 0
+Within (Bytes n) room = Counts n room
+Within Failed room = Unit {0}
