@@ -275,7 +275,12 @@ fn next_page(p: &[i32], q: &[i32], ps: &[i32], qs: &[i32], l: Listing) -> Listin
     let size = std::num::wrapping_add_usize(drawn(l.seed, 16), 1);
     let key = l.key;
     let at = l.at;
-    let r = ring::page::page(ps, qs, key, size, 0);
+    let request = list::Request {
+        key: key,
+        size: size,
+        threshold: 0,
+    };
+    let r = ring::page::page(ps, qs, request);
     let page = r.page;
     let shown = page.key;
     let source = page.source;

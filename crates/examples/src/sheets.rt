@@ -96,7 +96,12 @@ fn page(p: &[i32], q: &[i32], key: Key, size: usize) {
     say_size();
     say_count(size as u64);
     say_colon();
-    let r = ring::page::page(p, q, key, size, 0);
+    let request = list::Request {
+        key: key,
+        size: size,
+        threshold: 0,
+    };
+    let r = ring::page::page(p, q, request);
     if r.number != 0 {
         say_refused();
         say_count(r.number as u64);

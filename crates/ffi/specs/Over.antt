@@ -6,6 +6,7 @@ use Prim.Native.Nat.{ℕ}
 use lib.IntN.{ℤ, pos, _+ℤ_}
 use lib.Ieee.{Float, binary64, ofBits}
 use Rattle.words.specs.First.{answer}
+use Rattle.list.specs.Terms.{full}
 use Rattle.list.specs.Pairs.{start}
 use Rattle.walk.specs.declared.Hit.{Hit}
 use Rattle.walk.specs.declared.Hit.the-variants.{Clear, Point, Side}
@@ -50,7 +51,7 @@ walkOver (walked.Refused k) = record { number = k; kind = 0; set = 0; side = 0; 
 abbrev pub bookOver : Begun → BookAnswer
 bookOver (begun.Open b) = record { number = 0; book = b }
 bookOver (begun.Refused k) =
-    record { number = k; book = record { held = 0; closed = false; source = record { «p_edition» = 0; «q_edition» = 0; threshold = 0; own = false } } }
+    record { number = k; book = record { held = 0; closed = false; source = record { «p_edition» = 0; «q_edition» = 0; terms = full } } }
 
 -- the next key: 0 and the key, or the number and (0, 0); with either the book, as it went in
 abbrev pub nextOver : Next → Book → KeyAnswer

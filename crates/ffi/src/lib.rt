@@ -5,7 +5,9 @@ use book::Taken;
 use list::Key;
 use list::Page;
 use list::Pair;
+use list::Request;
 use list::Source;
+use list::Terms;
 use nearest::Found;
 use ring::Filtered;
 use ring::Head;
@@ -153,8 +155,10 @@ fn of_begun(v: book::Begun) -> BookAnswer
                 source: Source {
                     p_edition: 0,
                     q_edition: 0,
-                    threshold: 0,
-                    own: false,
+                    terms: Terms {
+                        threshold: 0,
+                        own: false,
+                    },
                 },
             },
         },
@@ -252,10 +256,10 @@ pub extern "C" fn ring_pair_walk(p: &[i32], q: &[i32], j: usize, i: usize) -> Wa
 
 // The page of the first `size` ring pairs after a key, of chambers with at least so many as the threshold says: 0, or 1 to 8 of P, of Q, 9, 10, 21.
 #[no_mangle]
-pub extern "C" fn ring_page(p: &[i32], q: &[i32], key: Key, size: usize, threshold: u32) -> Paged
-    ensures { λ r. ⌜ r ≡ pageAnswer (now (p .entry)) (now (q .entry)) key size threshold ⌝ }
+pub extern "C" fn ring_page(p: &[i32], q: &[i32], request: Request) -> Paged
+    ensures { λ r. ⌜ r ≡ pageAnswer (now (p .entry)) (now (q .entry)) request ⌝ }
 {
-    ring::page::page(p, q, key, size, threshold)
+    ring::page::page(p, q, request)
 }
 
 // The k ring pairs with the smallest squared size, in order: 0, or 1 to 8 of P, of Q, 10.

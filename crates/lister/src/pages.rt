@@ -33,7 +33,12 @@ fn put_next(p: &[i32], hp: Head, q: &[i32], hq: Head, key: Key, out: &mut [u8], 
     ensures { λ r. ⌜ ShownBy (pairsOf (now (p .entry)) (now (q .entry))) key r ⌝ }
     ensures { λ r. ⌜ r .to ≤ at + 1712 ⌝ }
 {
-    let a = ring::page::page(p, q, key, 16, 0);
+    let request = list::Request {
+        key: key,
+        size: 16,
+        threshold: 0,
+    };
+    let a = ring::page::page(p, q, request);
     let g = a.page;
     let to = crate::lines::put_page(p, hp, q, hq, g, out, at);
     let last = last_key(g);

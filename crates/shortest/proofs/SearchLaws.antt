@@ -28,7 +28,9 @@ use Rattle.join.specs.declared.Draft.{Draft}
 use Rattle.join.specs.Maker.{pageMade, pageFrom}
 use Rattle.join.specs.Sheets.{walksOf}
 use Rattle.join.specs.Threshold.{walksFor}
-use Rattle.list.proofs.ThresholdLaws.{threshold-none}
+use Rattle.list.specs.Terms.{full}
+use Rattle.list.proofs.TermsLaws.{full-list}
+use Rattle.ring.proofs.PageLaws.{of-two}
 use Rattle.join.proofs.Meaning.{points-rise, page-pairs}
 use Rattle.shortest.specs.declared.Search.{Search}
 use Rattle.shortest.specs.Order.{shorter, insert, shortestOf}
@@ -48,8 +50,8 @@ pub record Made (l : List Pair) (key : Key) (d : Draft) : Type 0 where
 pub made : {P Q : List ℤ} {np mp nq mq : ℕ} → Opens P np mp → Opens Q nq mq → np ≤ 1024 → (key : Key) (d : Draft) → d ≡ pageMade (walksFor (walksOf 16 P Q) np 0) key 16 np nq → Made (pairsOf P Q) key d
 unfolding pageFrom pageOf
 made {P} {Q} o o′ fit key d e =
-    let s : Source = record { «p_edition» = 0; «q_edition» = 0; threshold = 0; own = false } in
-    let g : pageFrom s key d ≡ pageOf s (pairsOf P Q) key 16 = ap (pageFrom s key) e ∙ page-pairs o o′ 16 (omega arith) 0 s key 16 (omega arith) ∙ ap (λ (l : List Pair). pageOf s l key 16) (threshold-none (pointsOf P) (pointsOf Q)) in
+    let s : Source = record { «p_edition» = 0; «q_edition» = 0; terms = full } in
+    let g : pageFrom s key d ≡ pageOf s (pairsOf P Q) key 16 = ap (pageFrom s key) e ∙ page-pairs o o′ full (of-two 0 P Q) 16 (omega arith) s key 16 (omega arith) ∙ ap (λ (l : List Pair). pageOf s l key 16) (full-list (pointsOf P) (pointsOf Q)) in
     record { count = ap (λ (x : Page). x .count) g; pairs = ap (λ (x : Page). x .pairs) g; end = ap (λ (x : Page). x .end) g }
 
 -- ---- a search that holds s

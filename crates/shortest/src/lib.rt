@@ -1,6 +1,9 @@
 // The shortest circles first: of all ring pairs of two sheets the k with the smallest squared size, in order.
+use join::Ask;
 use list::Key;
 use list::Pair;
+use list::Terms;
+use sheet::Size;
 ghost use mathlib.Core.Path.{_≡_};
 ghost use Prim.Native.Nat.{_≤_, _<_};
 ghost use lib.ListN.{take};
@@ -55,20 +58,21 @@ fn with_pair(g: Search, n: usize, v: Pair) -> Search
 }
 
 // The next page of the list: a pair that is not shorter than the last of k is dropped at once.
-fn with_page(
-    p: &[i32],
-    np: usize,
-    mp: usize,
-    q: &[i32],
-    nq: usize,
-    mq: usize,
-    k: usize,
-    g: Search,
-) -> Search
-    requires { ⌜ Opens (now p) np mp × Opens (now q) nq mq × (np ≤ 1024) × (1 ≤ k) × (k ≤ 16) × Fair k g ⌝ }
+fn with_page(p: &[i32], hp: Size, q: &[i32], hq: Size, k: usize, g: Search) -> Search
+    requires { ⌜ Opens (now p) (hp .n) (hp .m) × Opens (now q) (hq .n) (hq .m) × (hp .n ≤ 1024) × (1 ≤ k) × (k ≤ 16) × Fair k g ⌝ }
     ensures { λ r. ⌜ r ≡ nextOf (pairsOf (now (p .entry)) (now (q .entry))) k g ⌝ }
 {
-    let d = join::page_made(p, np, mp, q, nq, mq, g.key, 16, 0);
+    let key = g.key;
+    let terms = Terms {
+        threshold: 0,
+        own: false,
+    };
+    let ask = Ask {
+        key: key,
+        size: 16,
+        terms: terms,
+    };
+    let d = join::page_made(p, hp, q, hq, ask);
     let n = d.count;
     let mut r = g;
     let mut i = 0;
@@ -93,8 +97,8 @@ fn with_page(
 }
 
 // The k shortest pairs of two sheets that open, page after page.
-fn given(p: &[i32], np: usize, mp: usize, q: &[i32], nq: usize, mq: usize, k: usize) -> Shortlist
-    requires { ⌜ Opens (now p) np mp × Opens (now q) nq mq × (np ≤ 1024) × (1 ≤ k) × (k ≤ 16) ⌝ }
+fn given(p: &[i32], hp: Size, q: &[i32], hq: Size, k: usize) -> Shortlist
+    requires { ⌜ Opens (now p) (hp .n) (hp .m) × Opens (now q) (hq .n) (hq .m) × (hp .n ≤ 1024) × (1 ≤ k) × (k ≤ 16) ⌝ }
     ensures { λ r. ⌜ r ≡ shortGiven (now (p .entry)) (now (q .entry)) k ⌝ }
 {
     let mut g = Search {
@@ -108,7 +112,7 @@ fn given(p: &[i32], np: usize, mp: usize, q: &[i32], nq: usize, mq: usize, k: us
         end: false,
     };
     while !g.end {
-        g = with_page(p, np, mp, q, nq, mq, k, g);
+        g = with_page(p, hp, q, hq, k, g);
     }
     let pairs = g.pairs;
     Shortlist {
@@ -150,5 +154,7 @@ pub fn shortest(p: &[i32], q: &[i32], k: usize) -> Shortlist
     if no != 0 {
         return refused(no);
     }
-    given(p, a.n, a.m, q, b.n, b.m, k)
+    let hp = Size { n: a.n, m: a.m };
+    let hq = Size { n: b.n, m: b.m };
+    given(p, hp, q, hq, k)
 }

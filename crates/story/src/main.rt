@@ -7,6 +7,7 @@ use list::Key;
 use list::Page;
 use list::Pair;
 use list::Source;
+use list::Terms;
 
 const HISTORIES: u64 = 600;
 
@@ -176,11 +177,11 @@ fn is_edition(a: Source, b: Source) -> bool {
 }
 
 fn is_kind(a: Source, b: Source) -> bool {
-    !(a.own ^ b.own)
+    !(a.terms.own ^ b.terms.own)
 }
 
 fn is_source(a: Source, b: Source) -> bool {
-    is_kind(a, b) & is_edition(a, b) & (a.threshold == b.threshold)
+    is_kind(a, b) & is_edition(a, b) & (a.terms.threshold == b.terms.threshold)
 }
 
 // The number of refusal, read from the rules a second time.
@@ -370,8 +371,10 @@ fn of_others(g: Page) -> Page {
     let others = Source {
         p_edition: 8,
         q_edition: 9,
-        threshold: 1,
-        own: g.source.own,
+        terms: Terms {
+            threshold: 1,
+            own: g.source.terms.own,
+        },
     };
     h.source = others;
     h
@@ -384,8 +387,10 @@ fn of_kind(g: Page) -> Page {
     let other = Source {
         p_edition: 8,
         q_edition: 8,
-        threshold: 0,
-        own: !source.own,
+        terms: Terms {
+            threshold: 0,
+            own: !source.terms.own,
+        },
     };
     h.source = other;
     h
@@ -397,8 +402,10 @@ fn of_another(g: Page) -> Page {
     let another = Source {
         p_edition: 7,
         q_edition: 9,
-        threshold: 3,
-        own: g.source.own,
+        terms: Terms {
+            threshold: 3,
+            own: g.source.terms.own,
+        },
     };
     h.source = another;
     h
@@ -562,33 +569,43 @@ fn opened(seed: u64, tally: Tally) -> Game {
     let source = Source {
         p_edition: 7,
         q_edition: 9,
-        threshold: some_threshold(mixed(seed)),
-        own: false,
+        terms: Terms {
+            threshold: some_threshold(mixed(seed)),
+            own: false,
+        },
     };
     let b = begun(source);
     let none = Source {
         p_edition: 1000000001,
         q_edition: 9,
-        threshold: 1001,
-        own: false,
+        terms: Terms {
+            threshold: 1001,
+            own: false,
+        },
     };
     let over = Source {
         p_edition: 7,
         q_edition: 9,
-        threshold: 1001,
-        own: false,
+        terms: Terms {
+            threshold: 1001,
+            own: false,
+        },
     };
     let two = Source {
         p_edition: 7,
         q_edition: 9,
-        threshold: 1,
-        own: true,
+        terms: Terms {
+            threshold: 1,
+            own: true,
+        },
     };
     let least = Source {
         p_edition: 7,
         q_edition: 7,
-        threshold: 1,
-        own: true,
+        terms: Terms {
+            threshold: 1,
+            own: true,
+        },
     };
     let good = is_book(b, 0, false, source)
         & is_refused(none, 3)

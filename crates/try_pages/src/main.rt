@@ -66,7 +66,12 @@ fn page_case(p: &[i32], q: &[i32]) {
     print(size as u64);
     print(threshold as u64);
     io::write_all(libc::STDOUT_FILENO, b":");
-    let r = ring::page::page(p, q, key, size, threshold);
+    let request = list::Request {
+        key: key,
+        size: size,
+        threshold: threshold,
+    };
+    let r = ring::page::page(p, q, request);
     print(r.number as u64);
     print(r.opened);
     let page = r.page;

@@ -3,6 +3,7 @@
 use list::Key;
 use list::Page;
 use list::Pair;
+use list::Request;
 use nearest::Found;
 use nearest::Near;
 use ring::Filtered;
@@ -279,11 +280,9 @@ fn page_through(
     q: &[i32],
     nq: usize,
     mq: usize,
-    key: Key,
-    size: usize,
-    threshold: u32,
+    request: Request,
 ) -> Paged
-    ensures { λ r. ⌜ r ≡ pageAnswer (now (p .entry)) (now (q .entry)) key size threshold ⌝ }
+    ensures { λ r. ⌜ r ≡ pageAnswer (now (p .entry)) (now (q .entry)) request ⌝ }
 {
     view::page_at(
         Sheet {
@@ -296,9 +295,7 @@ fn page_through(
             n: nq,
             m: mq,
         },
-        key,
-        size,
-        threshold,
+        request,
     )
 }
 
@@ -398,7 +395,12 @@ fn refused_cases(at: usize, p_word: i32, other: usize, q_word: i32) {
 // A page request through views that claim n points and m nodes, and of Q the other way round.
 fn ask(p: &[i32], q: &[i32], n: usize, m: usize, q_id: u32, p_id: u32, size: usize) {
     let key = Key { q: q_id, p: p_id };
-    show_page(page_through(p, n, m, q, m, n, key, size, 0));
+    let request = Request {
+        key: key,
+        size: size,
+        threshold: 0,
+    };
+    show_page(page_through(p, n, m, q, m, n, request));
 }
 
 fn page_row(p: &[i32], q: &[i32], n: usize, m: usize) {

@@ -1,6 +1,7 @@
 // An opened sheet: a view of the words where the caller keeps them, with the sheet's counts. No copy is made.
 // Whoever is handed a view checks it like any slice: its counts are read anew from its words, and its own are never trusted.
 use list::Key;
+use list::Request;
 use nearest::Found;
 use ring::Filtered;
 use ring::Head;
@@ -79,10 +80,10 @@ pub fn ring_walk_at<'a, 'b>(p: Sheet<'a>, q: Sheet<'b>, j: usize, i: usize) -> W
 }
 
 // The page that follows a key; refused by 1 to 8 of P's words, then of Q's, then by 9 for the key, by 10 for the size, by 21 for the threshold.
-pub fn page_at<'a, 'b>(p: Sheet<'a>, q: Sheet<'b>, key: Key, size: usize, threshold: u32) -> Paged
-    ensures { λ r. ⌜ r ≡ pageAnswer (now (p .entry .words)) (now (q .entry .words)) key size threshold ⌝ }
+pub fn page_at<'a, 'b>(p: Sheet<'a>, q: Sheet<'b>, request: Request) -> Paged
+    ensures { λ r. ⌜ r ≡ pageAnswer (now (p .entry .words)) (now (q .entry .words)) request ⌝ }
 {
-    ring::page::page(p.words, q.words, key, size, threshold)
+    ring::page::page(p.words, q.words, request)
 }
 
 // The page of a self join that follows a key; refused by 1 to 8 of the words, then by 9 for the key, by 10 for the size.

@@ -10,10 +10,10 @@ use Rattle.shortest.proofs.given.Statement.{statement}
 use Rattle.shortest.proofs.given.Tie as tie
 
 abbrev Inv-loop : tie.InvT-loop
-Inv-loop p np mp q nq mq k g₀ g = Going (pairsOf p q) k g
+Inv-loop p hp q hq k g₀ g = Going (pairsOf p q) k g
 
 abbrev μ-loop : tie.MeasureT-loop
-μ-loop p np mp q nq mq k g₀ g = toGo (pairsOf p q) (g .key) (g .end)
+μ-loop p hp q hq k g₀ g = toGo (pairsOf p q) (g .key) (g .end)
 
 loop-holds : tie.Need-loop-holds Inv-loop μ-loop
 unfolding padded

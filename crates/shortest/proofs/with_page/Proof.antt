@@ -12,32 +12,33 @@ use Rattle.list.specs.Pairs.{none}
 use Rattle.list.specs.Pages.{shown}
 use Rattle.shortest.specs.declared.Search.{Search}
 use Rattle.shortest.specs.Answer.{pairsOf}
+use Rattle.ring.proofs.PageLaws.{of-two}
 use Rattle.shortest.proofs.SearchLaws.{Made, made, made-at, made-few, Passed, passed-start, put-asked, passed-put, passed-over, passed-drop, key-none, key-last, passed-all}
 use Rattle.shortest.proofs.with_page.Statement.{statement}
 use Rattle.shortest.proofs.with_page.Tie as tie
 
 abbrev Inv-loop : tie.InvT-loop
-Inv-loop p np mp q nq mq k d n r₀ i₀ r i = Passed k (shown (pairsOf p q) (r₀ .key) 16) r₀ r i
+Inv-loop p hp q hq k d n r₀ i₀ r i = Passed k (shown (pairsOf p q) (r₀ .key) 16) r₀ r i
 
 abbrev μ-loop : tie.MeasureT-loop
-μ-loop p np mp q nq mq k d n r₀ i₀ r i = n - i
+μ-loop p hp q hq k d n r₀ i₀ r i = n - i
 
 -- the list of the two sheets, and the page of it that was made
 module _ (a : tie.After-page-made Inv-loop μ-loop) where
   abbrev list : List Pair
-  list = pairsOf (a .before .args .p .now) (a .before .args .q .now)
+  list = pairsOf (a .before .before .args .p .now) (a .before .before .args .q .now)
 
-  page : Made list (a .before .args .g .key) (a .page-made .result)
-  page = made (a .before .pre .0) (a .before .pre .1) (a .before .pre .2) _ _ (a .page-made .ensures)
+  page : Made list (a .before .before .args .g .key) (a .page-made .result)
+  page = made (a .before .before .pre .0) (a .before .before .pre .1) (a .before .before .pre .2) _ _ (a .page-made .ensures)
 
   few : a .page-made .result .count ≤ 16
   few = made-few _ _ _ page
 
 page-made-requires : tie.Need-page-made-requires Inv-loop μ-loop
-page-made-requires c κs = let p = c .pre in (p .0, p .1, omega arith, p .2)
+page-made-requires c κs = let p = c .before .pre in (p .0, p .1, omega arith, p .2, of-two 0 _ _)
 
 loop-holds : tie.Need-loop-holds Inv-loop μ-loop
-loop-holds c = let p = c .before .pre in passed-start _ (p .3) (p .4) _ _ (p .5)
+loop-holds c = let p = c .before .before .pre in passed-start _ (p .3) (p .4) _ _ (p .5)
 
 mul-v : tie.Need-mul-v Inv-loop μ-loop
 mul-v c = record { fits = omega (arith, few (c .before .before)) }
@@ -48,11 +49,11 @@ element-copy-out-v c = omega (arith, few (c .before .before))
 with-pair-requires : tie.Need-with-pair-requires Inv-loop μ-loop
 with-pair-requires c κs =
     let l = c .before .before .before in
-    let p = l .before .before .pre in
+    let p = l .before .before .before .pre in
     put-asked _ (p .3) (p .4) _ _ (p .5) (l .loop .r) (l .loop .i) (l .loop .inv) _ (omega arith) (c .if1 .taken)
 
 sub-last : tie.Need-sub-last Inv-loop μ-loop
-sub-last c = c .before .before .before .before .before .pre .3
+sub-last c = c .before .before .before .before .before .before .pre .3
 
 mul-last : tie.Need-mul-last Inv-loop μ-loop
 mul-last c = search needs
@@ -70,7 +71,7 @@ with-pair-requires-2 : tie.Need-with-pair-requires-2 Inv-loop μ-loop
 with-pair-requires-2 c κs =
     let e = c .before .before .before in
     let l = e .before .before .before in
-    let p = l .before .before .pre in
+    let p = l .before .before .before .pre in
     put-asked _ (p .3) (p .4) _ _ (p .5) (l .loop .r) (l .loop .i) (l .loop .inv) _ (omega (arith, e .if1 .left)) (omega (arith, p .3))
 
 add-i : tie.Need-add-i Inv-loop μ-loop
@@ -84,9 +85,9 @@ loop-again c =
     let t = c .before .before in
     let l = t .before in
     let a = l .before in
-    let p = a .before .pre in
+    let p = a .before .before .pre in
     let v = getD (a .page-made .result .pairs) (l .loop .i) none in
-    let i-in : l .loop .i < length (shown (list a) (a .before .args .g .key) 16) = omega (arith, t .loop-test .taken, page a .count) in
+    let i-in : l .loop .i < length (shown (list a) (a .before .before .args .g .key) 16) = omega (arith, t .loop-test .taken, page a .count) in
     let is = made-at _ _ _ (page a) (l .loop .i) (t .loop-test .taken) in
     ⊎-elim
     (λ w. passed-put _ (p .3) (p .4) _ _ (p .5) (l .loop .r) (l .loop .i) (l .loop .inv) i-in v is (w .0 .taken) (c .if1 .r) (w .2 ∙ w .1 .ensures))
@@ -114,14 +115,14 @@ returns c =
     let o = c .before in
     let l = o .before in
     let a = l .before in
-    let g = a .before .args .g in
-    let whole = passed-all (list a) (a .before .args .k) g (a .page-made .result) (page a) (l .loop .r) (l .loop .i) (l .loop .inv) (o .loop-test .left) in
+    let g = a .before .before .args .g in
+    let whole = passed-all (list a) (a .before .before .args .k) g (a .page-made .result) (page a) (l .loop .r) (l .loop .i) (l .loop .inv) (o .loop-test .left) in
     ⊎-elim
     (λ w.
-    let key = key-last (list a) (a .before .args .k) g (a .page-made .result) (page a) (l .loop .r) (l .loop .i) (l .loop .inv) (o .loop-test .left) (w .0 .taken) in
+    let key = key-last (list a) (a .before .before .args .k) g (a .page-made .result) (page a) (l .loop .r) (l .loop .i) (l .loop .inv) (o .loop-test .left) (w .0 .taken) in
     ap (λ (x : Search). record { pairs = x .pairs; count = x .count; key = x .key; end = not (a .page-made .result .more) }) (w .3) ∙ whole _ (w .2 .ensures ∙ key))
     (λ w.
-    let key = key-none (list a) (a .before .args .k) g (a .page-made .result) (page a) (l .loop .r) (l .loop .i) (l .loop .inv) (o .loop-test .left) (w .0 .left) in
+    let key = key-none (list a) (a .before .before .args .k) g (a .page-made .result) (page a) (l .loop .r) (l .loop .i) (l .loop .inv) (o .loop-test .left) (w .0 .left) in
     ap (λ (x : Search). record { pairs = x .pairs; count = x .count; key = x .key; end = not (a .page-made .result .more) }) (w .1) ∙ whole _ key)
     (c .if3 .came)
 

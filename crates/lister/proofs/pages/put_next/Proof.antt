@@ -5,6 +5,7 @@ use borrow.Author.Needs.{needs}
 use Rattle.sheet.specs.Places.{pointsOf}
 use Rattle.list.specs.declared.Pair.{Pair}
 use Rattle.list.specs.Pages.{pageOf}
+use Rattle.list.specs.Terms.{full}
 use Rattle.ring.specs.Page.{sourceOf}
 use Rattle.text.specs.Text.{Grown}
 use Rattle.lister.specs.Listing.{linesOf}
@@ -18,7 +19,7 @@ module _ (a : tie.After-page) where
   s = a .before .before
 
   -- the page that was answered
-  asked : a .page .result .page ≡ pageOf (sourceOf (s .args .p .now) (s .args .q .now) 0) (pairsOf (s .args .p .now) (s .args .q .now)) (s .args .key) 16
+  asked : a .page .result .page ≡ pageOf (sourceOf (s .args .p .now) (s .args .q .now) full) (pairsOf (s .args .p .now) (s .args .q .now)) (s .args .key) 16
   asked = page-is (s .pre .0) (s .args .key) (s .pre .1) (a .page .result) (a .page .ensures)
 
 page-requires : tie.Need-page-requires
