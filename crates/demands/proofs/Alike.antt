@@ -21,7 +21,8 @@ use Rattle.view.specs.Shown.{openOf}
 use Rattle.book.specs.declared.Book.{Book}
 use Rattle.book.specs.declared.Asked.{Asked}
 use Rattle.book.specs.declared.TakenArray.{TakenArray}
-use Rattle.book.specs.Rules.{takenSlots, lentOf, takenArray}
+use Rattle.list.specs.Lent.{lentOf}
+use Rattle.book.specs.Rules.{takenSlots, takenArray}
 use Rattle.nearest.specs.declared.Found.{Found}
 use Rattle.runs.specs.declared.RunArray.{RunArray}
 use Rattle.runs.specs.Run as runs
@@ -65,23 +66,23 @@ point-opened w i r a = record { κs = a .κs; w-at = place w; promised = a .prom
 
 -- ---- slots kept in an array: the first so many are lent, the others are as they were
 
-pub next-array : (slots : List Pair) (len : ℕ) (b : Book) (r : Asked) → NextArrayAnswers slots len b r → NextAnswers b (take (lentOf len) slots) r
+pub next-array : (slots : List Pair) (len : ℕ) (b : Book) (r : Asked) → NextArrayAnswers slots len b r → NextAnswers b (take (lentOf 64 len) slots) r
 next-array slots len b r a = a .promised
 
 module _ (slots : List Pair) (len : ℕ) (b : Book) (g : Page) (r : TakenArray) (a : TakeArrayAnswers slots len b g r) where
-  pub take-array : TakeAnswers b (take (lentOf len) slots) g (r .taken) (takenSlots b (take (lentOf len) slots) g)
+  pub take-array : TakeAnswers b (take (lentOf 64 len) slots) g (r .taken) (takenSlots b (take (lentOf 64 len) slots) g)
   unfolding takenArray
-  take-array = (ap (λ (x : TakenArray). x .taken) (a .promised), λ t. takenSlots b (take (lentOf len) slots) g)
+  take-array = (ap (λ (x : TakenArray). x .taken) (a .promised), λ t. takenSlots b (take (lentOf 64 len) slots) g)
 
-  pub take-array-slots : r .slots ≡ takenSlots b (take (lentOf len) slots) g ++ drop (lentOf len) slots
+  pub take-array-slots : r .slots ≡ takenSlots b (take (lentOf 64 len) slots) g ++ drop (lentOf 64 len) slots
   unfolding takenArray
   take-array-slots = ap (λ (x : TakenArray). x .slots) (a .promised)
 
 module _ (P Q : List ℤ) (v : ℕ) (slots : List Pair) (len : ℕ) (r : RunArray) (a : RunArrayAnswers P Q v slots len r) where
-  pub run-array : RunAnswers P Q v (take (runs.lentOf len) slots) (r .run) (runs.runSlots P Q v (take (runs.lentOf len) slots))
+  pub run-array : RunAnswers P Q v (take (lentOf 256 len) slots) (r .run) (runs.runSlots P Q v (take (lentOf 256 len) slots))
   unfolding runs.runArray
-  run-array = (ap (λ (x : RunArray). x .run) (a .promised), λ t. runs.runSlots P Q v (take (runs.lentOf len) slots))
+  run-array = (ap (λ (x : RunArray). x .run) (a .promised), λ t. runs.runSlots P Q v (take (lentOf 256 len) slots))
 
-  pub run-array-slots : r .slots ≡ runs.runSlots P Q v (take (runs.lentOf len) slots) ++ drop (runs.lentOf len) slots
+  pub run-array-slots : r .slots ≡ runs.runSlots P Q v (take (lentOf 256 len) slots) ++ drop (lentOf 256 len) slots
   unfolding runs.runArray
   run-array-slots = ap (λ (x : RunArray). x .slots) (a .promised)

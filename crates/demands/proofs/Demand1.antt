@@ -12,7 +12,7 @@ use mathlib.Core.List.{List, [], _++_}
 use Prim.Native.Nat.{ℕ}
 use lib.IntN.{ℤ}
 use lib.ListN.{length, take, drop, take-append-drop}
-use borrow.Author.Tests.{ne-eqb}
+use Rattle.words.proofs.FirstLaws.{answer-refused}
 use denote.Ref.{RefT, now}
 use Rattle.sheet.specs.Limits.{form1}
 use Rattle.sheet.specs.Layout.{points, nodes}
@@ -56,7 +56,8 @@ use Rattle.book.specs.declared.Next.the-variants as next
 use Rattle.book.specs.declared.Asked.{Asked}
 use Rattle.book.specs.declared.Taken.{Taken}
 use Rattle.book.specs.declared.TakenArray.{TakenArray}
-use Rattle.book.specs.Rules.{beginNo, begunNo, nextNo, askedNo, takeNo, taken, takenSlots, lentOf}
+use Rattle.list.specs.Lent.{lentOf}
+use Rattle.book.specs.Rules.{beginNo, begunNo, nextNo, askedNo, takeNo, taken, takenSlots}
 use Rattle.book.proofs.Once as of-book
 use Rattle.book.proofs.TakeLaws as of-take
 use Rattle.marker.specs.Mark.{markNo, numberOf, Middle, MiddleAt}
@@ -71,7 +72,7 @@ use Rattle.nearest.specs.Nearest.{nearestNo, nearFilterNo, nearestRefused}
 use Rattle.nearest.proofs.Meaning as of-nearest
 use Rattle.runs.specs.declared.Run.{Run}
 use Rattle.runs.specs.declared.RunArray.{RunArray}
-use Rattle.runs.specs.Run.{runNo, runRefused, runAnswer, runSlots, lentOf as lentForRun}
+use Rattle.runs.specs.Run.{runNo, runRefused, runAnswer, runSlots}
 use Rattle.runs.proofs.Once as of-runs
 use Rattle.runs.proofs.Meaning as of-run
 use Rattle.demands.specs.Promises.{OpenAnswers, HeadAnswers, PointAnswers, FilterAnswers, RingAnswers, PageAnswers, ShortAnswers, PackAnswers, MarkAnswers, BeginAnswers, NextAnswers, TakeAnswers, TakeArrayAnswers, RunAnswers, RunArrayAnswers, ViewOpens, PartnersAnswers, NearestAnswers, NearFilterAnswers, OwnAnswers}
@@ -141,7 +142,7 @@ own-no S key size r a =
 pub short-no : (P Q : List ℤ) (k : ℕ) (r : Shortlist) → ShortAnswers P Q k r
     → (r .number ≡ shortNo P Q k) × (Refuses (shortNo P Q k) → r ≡ shortRefused (shortNo P Q k))
 short-no P Q k r a =
-    (ap (λ (x : Shortlist). x .number) (a .promised) ∙ of-shortest.short-no P Q k, λ ne. a .promised ∙ of-shortest.answer-refused P Q k (shortNo P Q k) refl ne)
+    (ap (λ (x : Shortlist). x .number) (a .promised) ∙ of-shortest.short-no P Q k, λ ne. a .promised ∙ of-shortest.short-refused P Q k (shortNo P Q k) refl ne)
 
 -- ---- the question for a chamber's partners, 1 to 8 for P, then for Q, then 20, then 21: refused, the count is 0, and there is no yes
 
@@ -200,20 +201,20 @@ take-no b slots g r slots′ a =
 
 -- and so where the slots are kept in an array
 pub take-array-no : (slots : List Pair) (len : ℕ) (b : Book) (g : Page) (r : TakenArray) → TakeArrayAnswers slots len b g r
-    → (r .taken .number ≡ takeNo b (take (lentOf len) slots) g) × (Refuses (takeNo b (take (lentOf len) slots) g) → (r .taken .book ≡ b) × (r .slots ≡ slots))
+    → (r .taken .number ≡ takeNo b (take (lentOf 64 len) slots) g) × (Refuses (takeNo b (take (lentOf 64 len) slots) g) → (r .taken .book ≡ b) × (r .slots ≡ slots))
 take-array-no slots len b g r a =
-    let lent = take (lentOf len) slots in
+    let lent = take (lentOf 64 len) slots in
     let z = take-no b lent g (r .taken) (takenSlots b lent g) (take-array slots len b g r a) in (
       z .0,
       λ ne.
-          (z .1 ne .0, take-array-slots slots len b g r a ∙ ap (λ (x : List Pair). x ++ drop (lentOf len) slots) (z .1 ne .1) ∙ take-append-drop (lentOf len) slots),
+          (z .1 ne .0, take-array-slots slots len b g r a ∙ ap (λ (x : List Pair). x ++ drop (lentOf 64 len) slots) (z .1 ne .1) ∙ take-append-drop (lentOf 64 len) slots),
     )
 
 -- ---- a leaf's run, 1 to 8 for P, then for Q, then 19, then 16: refused, both counts are 0, and every slot is as it stood
 
 only-run : (P Q : List ℤ) (v len : ℕ) → Refuses (runNo P Q v len) → runAnswer P Q v len ≡ runRefused (runNo P Q v len)
 unfolding runAnswer
-only-run P Q v len ne = rw (ne-eqb (runNo P Q v len) 0 ne)
+only-run P Q v len ne = answer-refused _ runRefused _ _ refl ne
 
 pub run-no : (P Q : List ℤ) (v : ℕ) (slots : List Pair) (r : Run) (slots′ : List Pair) → RunAnswers P Q v slots r slots′
     → (r .number ≡ runNo P Q v (length slots)) × (Refuses (runNo P Q v (length slots)) → (r ≡ runRefused (runNo P Q v (length slots))) × (slots′ ≡ slots))
@@ -224,14 +225,14 @@ run-no P Q v slots r slots′ a = (
 
 -- and so where the slots are kept in an array
 pub run-array-no : (P Q : List ℤ) (v : ℕ) (slots : List Pair) (len : ℕ) (r : RunArray) → RunArrayAnswers P Q v slots len r
-    → (r .run .number ≡ runNo P Q v (length (take (lentForRun len) slots)))
-    × (Refuses (runNo P Q v (length (take (lentForRun len) slots))) → (r .run ≡ runRefused (runNo P Q v (length (take (lentForRun len) slots)))) × (r .slots ≡ slots))
+    → (r .run .number ≡ runNo P Q v (length (take (lentOf 256 len) slots)))
+    × (Refuses (runNo P Q v (length (take (lentOf 256 len) slots))) → (r .run ≡ runRefused (runNo P Q v (length (take (lentOf 256 len) slots)))) × (r .slots ≡ slots))
 run-array-no P Q v slots len r a =
-    let lent = take (lentForRun len) slots in
+    let lent = take (lentOf 256 len) slots in
     let z = run-no P Q v lent (r .run) (runSlots P Q v lent) (run-array P Q v slots len r a) in (
       z .0,
       λ ne.
-          (z .1 ne .0, run-array-slots P Q v slots len r a ∙ ap (λ (x : List Pair). x ++ drop (lentForRun len) slots) (z .1 ne .1) ∙ take-append-drop (lentForRun len) slots),
+          (z .1 ne .0, run-array-slots P Q v slots len r a ∙ ap (λ (x : List Pair). x ++ drop (lentOf 256 len) slots) (z .1 ne .1) ∙ take-append-drop (lentOf 256 len) slots),
     )
 
 -- ---- the marker, 5

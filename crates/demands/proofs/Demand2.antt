@@ -48,7 +48,7 @@ use Rattle.list.specs.declared.Key.{Key}
 use Rattle.list.specs.declared.Pair.{Pair}
 use Rattle.list.specs.declared.Page.{Page}
 use Rattle.list.specs.Pairs.{start, none, after, chamberPairs}
-use Rattle.list.specs.Pages.{pageOf, pagePairs, shown, followed, lastThreshold}
+use Rattle.list.specs.Pages.{sizeNo, pageOf, pagePairs, shown, followed, lastThreshold}
 use Rattle.list.specs.Rows.{Rising}
 use Rattle.list.specs.RingList.{ringPair, sizeOf, pairAt, ringList, thresholdList}
 use Rattle.list.specs.SelfList.{selfPair, selfList}
@@ -72,9 +72,9 @@ use Rattle.join.specs.Sheets.{walksOf}
 use Rattle.join.specs.Threshold.{walksFor, smaller}
 use Rattle.join.specs.Self.{selfWalks}
 use Rattle.join.proofs.Meaning as of-join
-use Rattle.ring.specs.Numbers.{first, sheetsNo, positionNo, pointNo, filterNo, ringNo}
+use Rattle.ring.specs.Numbers.{sheetsNo, positionNo, pointNo, filterNo, ringNo}
 use Rattle.ring.specs.Answers.{assetOf, filteredTo, walkedClear}
-use Rattle.ring.specs.Page.{sizeNo, sourceOf, pageGiven, pageAnswer}
+use Rattle.ring.specs.Page.{sourceOf, pageGiven, pageAnswer}
 use Rattle.ring.specs.Own.{ownSource, ownGiven}
 use Rattle.ring.specs.Partners.{partnersCount, partnersGiven}
 use Rattle.ring.specs.declared.Pointed.{Pointed}
@@ -84,7 +84,9 @@ use Rattle.ring.specs.declared.Walked.{Walked}
 use Rattle.ring.specs.declared.Walked.the-variants.{Done}
 use Rattle.ring.specs.declared.Paged.{Paged}
 use Rattle.ring.specs.declared.Partnered.{Partnered}
-use Rattle.ring.proofs.NumberLaws.{first-passes, position-in}
+use Rattle.words.proofs.FirstLaws.{first-passes, first-last, answer-given}
+use Rattle.ring.proofs.HeadLaws.{sheets-both, sheets-open}
+use Rattle.ring.proofs.NumberLaws.{position-in}
 use Rattle.ring.proofs.FilterLaws.{filter-given}
 use Rattle.ring.proofs.RingLaws.{ring-given}
 use Rattle.ring.proofs.PointLaws.{point-given}
@@ -129,15 +131,14 @@ fits w e = omega (arith, open-trailer form1 w e .n-le)
 module _ (P Q : List ℤ) (p-opens : WellFormed P) (q-opens : WellFormed Q) where
   -- no number applies to either
   pub sheets : sheetsNo P Q ≡ 0
-  unfolding sheetsNo
-  sheets = first-passes (openNo form1 P) (openNo form1 Q) p-opens ∙ q-opens
+  sheets = sheets-both P Q p-opens q-opens
 
   -- ---- the filter walk for q
 
   module _ (j : ℕ) (j-in : j < points Q) where
     filter-is : (r : Filtered) → FilterAnswers P Q j r → r ≡ filteredTo (filterKept 16 P (spotOf Q j))
     unfolding filterNo
-    filter-is r a = a .promised ∙ sym (filter-given P Q j (first-passes (sheetsNo P Q) (positionNo Q j) sheets ∙ position-in Q j j-in))
+    filter-is r a = a .promised ∙ sym (filter-given P Q j (sheets-open P Q _ sheets ∙ first-last _ ∙ position-in Q j j-in))
 
     bits-are : (r : Filtered) → FilterAnswers P Q j r → r .bits ≡ filterKept 16 P (spotOf Q j) .bits
     unfolding filteredTo
@@ -169,7 +170,7 @@ module _ (P Q : List ℤ) (p-opens : WellFormed P) (q-opens : WellFormed Q) wher
       unfolding ringNo
       ring-is r a =
           a .promised
-          ∙ sym (ring-given P Q j i (pairWalk P Q j i) (first-passes (sheetsNo P Q) (first (positionNo Q j) (positionNo P i)) sheets ∙ first-passes (positionNo Q j) (positionNo P i) (position-in Q j j-in) ∙ position-in P i i-in) refl)
+          ∙ sym (ring-given P Q j i (pairWalk P Q j i) (sheets-open P Q _ sheets ∙ first-passes (positionNo Q j) _ (position-in Q j j-in) ∙ first-last _ ∙ position-in P i i-in) refl)
 
       answer : (s : Answer) → RingAnswers P Q j i (Done s) → s ≡ pairWalk P Q j i
       answer s a = let z = ring-is (Done s) a in cc
@@ -367,7 +368,7 @@ module _ (P Q : List ℤ) (p-opens : WellFormed P) (q-opens : WellFormed Q) wher
 
       given : runAnswer P Q v (length slots) ≡ runGiven P Q v
       unfolding runAnswer
-      given = rw (eq-eqb (runNo P Q v (length slots)) 0 served)
+      given = answer-given _ _ _ served
 
       count-is : r .count ≡ length (leafList P Q v)
       unfolding runGiven
@@ -548,5 +549,5 @@ module _ (n : ℕ) (p order : List ℤ) (ed : ℕ) (out : List ℤ) (out′ : Li
       let inside : i < points out′ = omega (arith, returned .same-number) in
       let same : pointOf out′ i ≡ pointOf p i = sym (point-at out′ i inside) ∙ ap (λ (l : List Point). pointAt l i) (returned .same-points) ∙ at-tab n (pointOf p) _ i h in
       a .promised
-      ∙ sym (point-given out′ i (assetOf out′ i) (first-passes (openNo form1 out′) (positionNo out′ i) (returned .opens) ∙ position-in out′ i inside) refl)
+      ∙ sym (point-given out′ i (assetOf out′ i) (first-passes (openNo form1 out′) _ (returned .opens) ∙ first-last _ ∙ position-in out′ i inside) refl)
       ∙ ap (λ (x : Point). At record { id = x .id; x = x .spot .x; y = x .spot .y }) same

@@ -36,17 +36,16 @@ use Rattle.list.specs.Pages.{lastThreshold, sameKind, shown, pageOf}
 use Rattle.list.specs.RingList.{sizeOf, thresholdList}
 use Rattle.list.specs.SelfList.{selfList}
 use Rattle.list.proofs.Order.{last-holds}
-use Rattle.list.proofs.PageLaws.{shown-count, length-padded}
+use Rattle.list.proofs.PageLaws.{size-fits, shown-count, length-padded}
 use Rattle.list.proofs.RowLaws.{ring-size, ring-keys}
 use Rattle.list.proofs.ThresholdLaws.{threshold-in}
 use Rattle.list.proofs.SelfLaws.{self-keys, self-size}
 use Rattle.join.proofs.Meaning.{points-sound}
-use Rattle.ring.specs.Numbers.{first, sheetNo, sheetsNo}
-use Rattle.ring.specs.Page.{keyNo, sizeNo, askedNo, pageNo, sourceOf, pageGiven, pageAnswer}
+use Rattle.ring.specs.Page.{pageNo, sourceOf, pageGiven, pageAnswer}
 use Rattle.ring.specs.Own.{ownNo, ownSource, ownGiven, ownAnswer}
 use Rattle.ring.specs.declared.Paged.{Paged}
-use Rattle.ring.proofs.NumberLaws.{first-passes, first-none}
-use Rattle.ring.proofs.PageLaws.{size-fits, asked-size, page-answered}
+use Rattle.words.proofs.FirstLaws.{none-applies}
+use Rattle.ring.proofs.PageLaws.{page-answered}
 use Rattle.ring.proofs.OwnLaws as of-own
 use Rattle.book.specs.declared.Book.{Book}
 use Rattle.book.specs.declared.Next.the-variants as next
@@ -90,7 +89,7 @@ module _ (w : Editions) where
   unfolding pageNo pageGiven sourceOf
   honest-two g a =
       let no : pageNo (a .P) (a .Q) (a .key) (a .size) (a .t) ≡ 0 = sym (demand1.page-no (a .P) (a .Q) (a .key) (a .size) (a .t) (a .r) (a .answers) .0) ∙ a .given in
-      let sizes = asked-size (a .key) (a .size) (a .t) (sym (first-passes (sheetsNo (a .P) (a .Q)) (askedNo (a .key) (a .size) (a .t)) (demand2.sheets (a .P) (a .Q) (a .p-sheet .opens) (a .q-sheet .opens))) ∙ no) in
+      let sizes = size-fits (a .size) (none-applies _ .0 no 3) in
       of-story.honest-from worldOf (sourceOf (a .P) (a .Q) (a .t)) (a .key) (a .size) (pointsOf (a .P)) (pointsOf (a .Q)) g refl (sizes .0) (sizes .1) (sym (a .p-sheet .same)) (sym (a .q-sheet .same))
       (a .is ∙ ap (λ (x : Paged). x .page) (a .answers .promised ∙ page-answered (a .P) (a .Q) (a .key) (a .size) (a .t) no))
 
@@ -98,8 +97,7 @@ module _ (w : Editions) where
   unfolding ownNo ownGiven ownSource
   honest-one g a =
       let no : ownNo (a .S) (a .key) (a .size) ≡ 0 = sym (demand1.own-no (a .S) (a .key) (a .size) (a .r) (a .answers) .0) ∙ a .given in
-      let after : first (keyNo (a .key)) (sizeNo (a .size)) ≡ 0 = sym (first-passes (sheetNo (a .S)) (first (keyNo (a .key)) (sizeNo (a .size))) (a .sheet .opens)) ∙ no in
-      let sizes = size-fits (a .size) (first-none (keyNo (a .key)) (sizeNo (a .size)) after .1) in
+      let sizes = size-fits (a .size) (none-applies _ .0 no 2) in
       of-story.honest-own worldOf (ownSource (a .S)) (a .key) (a .size) (pointsOf (a .S)) g refl (sizes .0) (sizes .1) (sym (a .sheet .same))
       (a .is ∙ ap (λ (x : Paged). x .page) (a .answers .promised ∙ of-own.own-answered (a .S) (a .key) (a .size) no))
 

@@ -26,14 +26,14 @@ use Rattle.shortest.specs.declared.Shortlist.{Shortlist}
 use Rattle.shortest.specs.Order.{shortestOf, Before}
 use Rattle.shortest.specs.Answer.{pairsOf, shortGiven}
 use Rattle.shortest.proofs.SearchLaws.{pairs-ascend}
-use Rattle.shortest.proofs.AnswerLaws.{answer-given, served}
+use Rattle.shortest.proofs.AnswerLaws.{short-answered, served}
 use Rattle.shortest.proofs.Meaning as of-shortest
 use Rattle.demands.specs.Promises.{ShortAnswers}
 use Rattle.demands.proofs.Demand2.{WellFormed, sheets}
 
 module _ (P Q : List ℤ) (p-opens : WellFormed P) (q-opens : WellFormed Q) (k : ℕ) (some : 1 ≤ k) (most : k ≤ 16) (r : Shortlist) (a : ShortAnswers P Q k r) where
   is : r ≡ shortGiven P Q k
-  is = a .promised ∙ answer-given P Q k (served P Q k (sheets P Q p-opens q-opens) some most)
+  is = a .promised ∙ short-answered P Q k (served P Q k (sheets P Q p-opens q-opens) some most)
 
   -- the pairs given
   abbrev pub given : List Pair

@@ -7,6 +7,7 @@ use Rattle.words.specs.Word.{eqZ, within, num}
 use Rattle.words.specs.Range.{editionWord}
 use Rattle.words.specs.All.{allB}
 use Rattle.sheet.specs.Limits.{form1}
+use Rattle.words.specs.First.{given, first}
 use Rattle.sheet.specs.Layout.{rootWord, countsOk, layoutOk, trailerNo}
 use Rattle.sheet.specs.Points.{pointsOk}
 use Rattle.sheet.specs.Order.{orderOk}
@@ -20,7 +21,7 @@ unfoldable pub emptySheet : List ℤ
 emptySheet = pos 0 ∷ pos 0 ∷ pos 0 ∷ pos 0 ∷ pos 1 ∷ pos 1 ∷ []
 
 pub empty-opens : openNo form1 emptySheet ≡ 0
-unfolding form1 editionWord eqZ within num allB rootWord countsOk layoutOk trailerNo pointsOk orderOk tableOk nodesOk tightOk bodyNo openNo emptySheet
+unfolding form1 editionWord eqZ within num allB rootWord countsOk layoutOk trailerNo pointsOk orderOk tableOk nodesOk tightOk given first bodyNo openNo emptySheet
 empty-opens = refl
 
 pub emptyWorld : Editions

@@ -1,17 +1,18 @@
 -- Which outcome an input has. Assumes nothing.
-use mathlib.Core.Path.{_≡_, refl, ap, _∙_}
+use mathlib.Core.Path.{_≡_, refl, sym, ap, _∙_}
 use mathlib.Core.Bool.{true, false}
 use mathlib.Core.List.{List, [], _∷_, _++_}
 use Prim.Native.Nat.{ℕ, zero, suc, _/_, _≤_}
 use native.Mathlib.Omega.{arith}
-use borrow.Author.Tests.{eq-eqb, ne-eqb, ltb-false}
+use borrow.Author.Tests.{ltb-false}
 use lib.Dec.{ltb}
 use lib.IntN.{ℤ}
 use lib.ListN.{length, take, drop, length-append}
 use lib.Seq.{take-at}
 use Rattle.integers.proofs.Bools.{or-false-left, or-false-right}
 use Rattle.words.specs.Bytes.{wordAt, wordsOf}
-use Rattle.ring.specs.Numbers.{sheetNo}
+use Rattle.words.proofs.FirstLaws.{answer-given, answer-refused}
+use Rattle.sheet.specs.Open.{sheetNo}
 use Rattle.lister.specs.Split.{badInput}
 use Rattle.lister.specs.Outcome.{pairsOf, sheetsOutcome, wordsOutcome, outcome}
 use Rattle.lister.specs.declared.Outcome.{Outcome}
@@ -21,15 +22,15 @@ use Rattle.lister.specs.declared.Outcome.the-variants.{BadInput, BadQ, B
 
 pub q-refused : (P Q : List ℤ) (k : ℕ) → k ≡ sheetNo Q → (k ≡ 0 → ⊥) → BadQ k ≡ sheetsOutcome P Q
 unfolding sheetsOutcome
-q-refused P Q k e f = ap BadQ e ∙ rw (ne-eqb (sheetNo Q) 0 (λ z. f (e ∙ z)))
+q-refused P Q k e f = sym (answer-refused _ BadQ _ k (sym e) f)
 
 pub p-refused : (P Q : List ℤ) (k : ℕ) → sheetNo Q ≡ 0 → k ≡ sheetNo P → (k ≡ 0 → ⊥) → BadP k ≡ sheetsOutcome P Q
 unfolding sheetsOutcome
-p-refused P Q k z e f = ap BadP e ∙ rw (eq-eqb (sheetNo Q) 0 z, ne-eqb (sheetNo P) 0 (λ y. f (e ∙ y)))
+p-refused P Q k z e f = sym (answer-given _ BadQ _ z ∙ answer-refused _ BadP _ k (sym e) f)
 
 pub listed : (P Q : List ℤ) (n : ℕ) → sheetNo Q ≡ 0 → sheetNo P ≡ 0 → n ≡ length (pairsOf P Q) → Listed n ≡ sheetsOutcome P Q
 unfolding sheetsOutcome
-listed P Q n y z e = ap Listed e ∙ rw (eq-eqb (sheetNo Q) 0 y, eq-eqb (sheetNo P) 0 z)
+listed P Q n y z e = ap Listed e ∙ sym (answer-given _ BadQ _ y ∙ answer-given _ BadP _ z)
 
 -- ---- bytes
 

@@ -27,8 +27,8 @@ use Rattle.list.proofs.TermsLaws.{full-list}
 use Rattle.join.proofs.Meaning.{points-rise}
 use Rattle.ring.specs.declared.Head.{Head}
 use Rattle.ring.specs.declared.Paged.{Paged}
-use Rattle.ring.specs.Numbers.{sheetsNo}
 use Rattle.ring.specs.Page.{sourceOf, pageGiven, pageAnswer}
+use Rattle.ring.proofs.HeadLaws.{sheets-both}
 use Rattle.ring.proofs.PageLaws.{page-served}
 use Rattle.lister.specs.Listing.{Has, standsAt, HasBoth}
 use Rattle.lister.specs.Outcome.{Both, InRange, pairsOf}
@@ -72,9 +72,9 @@ module _ {P Q : List ℤ} {hp hq : Head} (b : Both P hp Q hq) where
 
   -- a request for sixteen pairs after a key in range is answered
   pub page-is : (key : Key) → InRange key → (a : Paged) → a ≡ pageAnswer P Q (record { key = key; size = 16; threshold = 0 }) → a .page ≡ pageOf (sourceOf P Q full) (pairsOf P Q) key 16
-  unfolding pageGiven sheetsNo
+  unfolding pageGiven
   page-is key h a e =
-      ap (λ (x : Paged). x .page) (e ∙ page-served P Q (record { key = key; size = 16; threshold = 0 }) (rw (b .p-no, b .q-no)) (h .0) (h .1) (omega arith) (omega arith) (omega arith))
+      ap (λ (x : Paged). x .page) (e ∙ page-served P Q (record { key = key; size = 16; threshold = 0 }) (sheets-both P Q (b .p-no) (b .q-no)) (h .0) (h .1) (omega arith) (omega arith) (omega arith))
       ∙ ap (λ (l : List Pair). pageOf (sourceOf P Q full) l key 16) (full-list (pointsOf P) (pointsOf Q))
 
   module _ (key : Key) (s : Source) (g : Page) (e : g ≡ pageOf s (pairsOf P Q) key 16) where

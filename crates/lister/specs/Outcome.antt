@@ -3,22 +3,21 @@ use mathlib.Core.Path.{_≡_}
 use mathlib.Core.Bool.{cond}
 use mathlib.Core.List.{List, []}
 use Prim.Native.Nat.{ℕ, _/_, _≤_}
-use lib.Dec.{eqb}
 use lib.IntN.{ℤ}
 use lib.ListN.{length, take, drop}
 use Rattle.input.specs.declared.Got.{Got}
 use Rattle.input.specs.declared.Got.the-variants.{Bytes, Failed}
 use Rattle.words.specs.Bytes.{wordsOf}
 use Rattle.words.specs.Range.{lastId}
+use Rattle.words.specs.First.{answer}
 use Rattle.sheet.specs.Places.{pointsOf}
-use Rattle.sheet.specs.Open.{Opens}
+use Rattle.sheet.specs.Open.{sheetNo, Opens}
 use Rattle.list.specs.declared.Key.{Key}
 use Rattle.list.specs.declared.Pair.{Pair}
 use Rattle.list.specs.Pairs.{lastOr, after, isNone}
 use Rattle.list.specs.Pages.{shown}
 use Rattle.list.specs.RingList.{ringList}
 use Rattle.ring.specs.declared.Head.{Head}
-use Rattle.ring.specs.Numbers.{sheetNo}
 use Rattle.text.specs.Text.{refusedText, inputText}
 use Rattle.lister.specs.Split.{splitAt, badInput}
 use Rattle.lister.specs.Listing.{listingOf}
@@ -32,7 +31,7 @@ pairsOf P Q = ringList (pointsOf P) (pointsOf Q)
 
 -- "It opens Q first. It prints `refused q N` or `refused p N` alone"
 unfoldable pub sheetsOutcome : List ℤ → List ℤ → Outcome
-sheetsOutcome P Q = cond (eqb (sheetNo Q) 0) (cond (eqb (sheetNo P) 0) (Listed (length (pairsOf P Q))) (BadP (sheetNo P))) (BadQ (sheetNo Q))
+sheetsOutcome P Q = answer (sheetNo Q) (answer (sheetNo P) (Listed (length (pairsOf P Q))) BadP) BadQ
 
 -- P's words, then Q's
 unfoldable pub wordsOutcome : List ℤ → Outcome

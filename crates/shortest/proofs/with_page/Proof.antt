@@ -18,10 +18,10 @@ use Rattle.shortest.proofs.with_page.Statement.{statement}
 use Rattle.shortest.proofs.with_page.Tie as tie
 
 abbrev Inv-loop : tie.InvT-loop
-Inv-loop p hp q hq k d n r₀ i₀ r i = Passed k (shown (pairsOf p q) (r₀ .key) 16) r₀ r i
+Inv-loop p q k d n r₀ i₀ r i = Passed k (shown (pairsOf p q) (r₀ .key) 16) r₀ r i
 
 abbrev μ-loop : tie.MeasureT-loop
-μ-loop p hp q hq k d n r₀ i₀ r i = n - i
+μ-loop p q k d n r₀ i₀ r i = n - i
 
 -- the list of the two sheets, and the page of it that was made
 module _ (a : tie.After-page-made Inv-loop μ-loop) where
@@ -65,7 +65,7 @@ is-shorter-requires : tie.Need-is-shorter-requires Inv-loop μ-loop
 is-shorter-requires c κs = search needs
 
 sub-with-pair : tie.Need-sub-with-pair Inv-loop μ-loop
-sub-with-pair c = c .before .before .before .before .before .before .before .before .pre .3
+sub-with-pair c = c .before .before .before .before .before .before .before .before .before .pre .3
 
 with-pair-requires-2 : tie.Need-with-pair-requires-2 Inv-loop μ-loop
 with-pair-requires-2 c κs =
