@@ -9,6 +9,7 @@ use lib.ListN.{take, drop}
 use denote.Ref.{RefT, now}
 use Rattle.list.specs.declared.Key.{Key}
 use Rattle.list.specs.declared.Pair.{Pair}
+use Rattle.list.specs.declared.Request.{Request}
 use Rattle.list.specs.declared.Page.{Page}
 use Rattle.ring.specs.declared.Head.{Head}
 use Rattle.ring.specs.declared.Pointed.{Pointed}
@@ -48,8 +49,8 @@ view-own-page d key size r a = record { κs = ([], tt); w-at = place (d .words);
 pub view-partners : (p q : Sheet) (id t : ℕ) (r : Partnered) → ViewPartners p q id t r → PartnersAnswers (now (p .words)) (now (q .words)) id t r
 view-partners p q id t r a = record { κs = ([], ([], tt)); p-at = place (p .words); q-at = place (q .words); promised = a }
 
-pub view-page : (p q : Sheet) (key : Key) (size t : ℕ) (r : Paged) → ViewPages p q key size t r → PageAnswers (now (p .words)) (now (q .words)) key size t r
-view-page p q key size t r a = record { κs = ([], ([], tt)); p-at = place (p .words); q-at = place (q .words); promised = a }
+pub view-page : (p q : Sheet) (ask : Request) (r : Paged) → ViewPages p q ask r → PageAnswers (now (p .words)) (now (q .words)) ask r
+view-page p q ask r a = record { κs = ([], ([], tt)); p-at = place (p .words); q-at = place (q .words); promised = a }
 
 -- the lent numbers stand at any place
 pub view-nearest : (l : Place) (p q : Sheet) (id size : ℕ) (w : List ℕ) (r : Found) (w′ : List ℕ) → ViewNearest p q id size w r w′ → NearestAnswers (now (p .words)) (now (q .words)) id size w r w′

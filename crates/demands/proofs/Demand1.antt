@@ -19,6 +19,7 @@ use Rattle.sheet.specs.Layout.{points, nodes}
 use Rattle.sheet.specs.Open.{openNo}
 use Rattle.list.specs.declared.Key.{Key}
 use Rattle.list.specs.declared.Pair.{Pair}
+use Rattle.list.specs.declared.Request.{Request}
 use Rattle.list.specs.declared.Source.{Source}
 use Rattle.list.specs.declared.Page.{Page}
 use Rattle.ring.specs.Numbers.{pointNo, filterNo, ringNo}
@@ -125,10 +126,10 @@ ring-no P Q j i r a = (ap walkedNo (a .promised) ∙ of-ring.ring-no P Q j i, λ
 
 -- ---- the page request, 1 to 8 for P, then for Q, then 9, then 10, then 21: refused, the page is all zero, and so is its count
 
-pub page-no : (P Q : List ℤ) (key : Key) (size t : ℕ) (r : Paged) → PageAnswers P Q key size t r
-    → (r .number ≡ pageNo P Q key size t) × (Refuses (pageNo P Q key size t) → r ≡ pageRefused (pageNo P Q key size t))
-page-no P Q key size t r a =
-    (ap (λ (x : Paged). x .number) (a .promised) ∙ of-page.page-no P Q key size t, λ ne. a .promised ∙ page-refused P Q key size t (pageNo P Q key size t) refl ne)
+pub page-no : (P Q : List ℤ) (ask : Request) (r : Paged) → PageAnswers P Q ask r
+    → (r .number ≡ pageNo P Q ask) × (Refuses (pageNo P Q ask) → r ≡ pageRefused (pageNo P Q ask))
+page-no P Q ask r a =
+    (ap (λ (x : Paged). x .number) (a .promised) ∙ of-page.page-no P Q ask, λ ne. a .promised ∙ page-refused P Q ask (pageNo P Q ask) refl ne)
 
 -- ---- the page request of a self join, 1 to 8 for its sheet, then 9, then 10: refused, the page is all zero, and so is its count
 

@@ -5,24 +5,23 @@
 --     kept-partner       the filter walk keeps every ring partner.  kept-count, kept-unused: its count is that of the positions kept, and unused bits are 0
 --     clear-iff          the ring walk is clear exactly for a ring pair; point-blocks, side-blocks: what it names does block, and a side that it names is the first that qualifies
 --     pair-exact         a ring pair is a kept position whose ring walk is clear, and no other
---     page-pairs         a page is that of t's list: pairs, number, end mark.  page-full: for t 0, of the full list.  page-opened: the count beside it is that of the defined walks
+--     page-pairs         a page of any terms (t, kind) is that of their list: pairs, number, end mark.  page-opened: the count beside it is that of the defined walks
 --     pair-size          each pair that a page shows has the squared diameter of the places of its two records
---     pages-list         following the pages from (0, 0) gives t's list
---     threshold-exact    a pair stands in t's list exactly if it stands in the full list and its chamber has at least t pairs there.  threshold-whole: such a chamber has all its pairs in it.  threshold-full: the list of 0 is the full list
+--     pages-list         following the pages from (0, 0) gives the list.  list-ascends, list-once: it runs by q id, then p id, each once, by ids.  list-only: nothing else is in it
+--     threshold-exact    a pair stands in t's list exactly if it stands in the full list and its chamber has at least t pairs there.  threshold-whole: such a chamber has all its pairs in it.  full-list: the list of 0 is the full list
 --     partners-exact     the single question: the smaller of t and the number of the chamber's pairs in the list, and a yes exactly when that is t.  partners-yes: exactly when there are at least t
---     list-exact         two records are listed exactly if they are a ring pair.  list-only, list-once: nothing else is, and nothing twice
+--     list-exact         two records are in the full list exactly if they are a ring pair
 --     list-by-points     sheets with the same points give the same list, and the same pairs, number and end mark of every page
 --     nearest-listed     a chamber and a pump house at the least distance are a pair.  never-empty, first-visit: so of two sheets that are not empty the list is not, and its first page shows a pair
 --     opened-at-most-m   one walk of one sheet opens at most its nodes
 --     run-pairs          a leaf's run stores the ring pairs of its chambers, by place, then p id, and touches no other slot.  run-exact, run-only: these and no others.  run-order: in this order.  run-size: each with its squared diameter
 --     run-opened         the count beside it is that of the defined walks.  run-at-most-m: its walk of P opens at most the nodes of P
 --     runs-list          a pair is listed exactly if the run of one leaf has it, and then no other leaf's has it.  stored-once: no run has it twice
---     own-exact          the self join of one sheet: two different records, lower id first, exactly if no other record blocks.  own-only, own-low, own-listed-once: nothing else, never the higher id first, and nothing twice.  own-size: each with its squared diameter
---     own-pairs          its pages are those of its list.  own-opened: their count is that of its walks.  own-pages: followed from (0, 0) they give it.  own-by-points: it depends on the points alone
+--     own-exact          the self join of one sheet: two different records, lower id first, exactly if no other record blocks.  own-low: never the higher id first
 --     return-trip        pack, then open, gives the same points back
 -- Assumes nothing.
 use mathlib.Core.Path.{_≡_, refl, sym, ap, ap₂, subst, _∙_}
-use mathlib.Core.Bool.{true, false, cond, _&&_}
+use mathlib.Core.Bool.{Bool, true, false, cond, _&&_}
 use mathlib.Core.Logic.{_↔_, ⊎-elim}
 use mathlib.Core.List.{List, [], List·Memᴰ}
 use Prim.Native.Nat.{ℕ, _+_, _*_, _≤_, _<_}
@@ -47,18 +46,20 @@ use Rattle.bits.specs.Set.{at, kept, cardIn}
 use Rattle.list.specs.declared.Key.{Key}
 use Rattle.list.specs.declared.Pair.{Pair}
 use Rattle.list.specs.declared.Page.{Page}
-use Rattle.list.specs.Pairs.{start, none, after, chamberPairs}
+use Rattle.list.specs.declared.Terms.{Terms}
+use Rattle.list.specs.declared.Request.{Request}
+use Rattle.list.specs.Pairs.{start, none, keyOf, ascends, after, chamberPairs}
 use Rattle.list.specs.Pages.{sizeNo, pageOf, pagePairs, shown, followed, lastThreshold}
 use Rattle.list.specs.Rows.{Rising}
-use Rattle.list.specs.RingList.{ringPair, sizeOf, pairAt, ringList, thresholdList}
-use Rattle.list.specs.SelfList.{selfPair, selfList}
-use Rattle.list.proofs.PageLaws.{page-shows, shown-member}
+use Rattle.list.specs.RingList.{ringPair, sizeOf, pairAt, ringList}
+use Rattle.list.specs.Terms.{full, withT, alone, listedFor, listFor}
+use Rattle.list.proofs.PageLaws.{size-fits, page-shows, shown-member}
 use Rattle.list.specs.Nearest.{Nearest}
 use Rattle.list.proofs.Order.{after-all}
 use Rattle.list.proofs.NearestLaws as of-nearest
-use Rattle.list.proofs.SelfLaws as of-self
-use Rattle.list.proofs.RowLaws.{Placed, ring-ascends, ring-iff, ring-only, ring-size, ring-once}
-use Rattle.list.proofs.ThresholdLaws.{threshold-none, threshold-pairs, threshold-iff, threshold-in}
+use Rattle.list.proofs.TermsLaws as of-terms
+use Rattle.list.proofs.TermsLaws.{for-ascends, for-once, for-only, for-size, threshold-pairs, threshold-iff}
+use Rattle.list.proofs.RowLaws.{Placed, ring-ascends, ring-iff, ring-size}
 use Rattle.walk.specs.declared.Blocker.{Blocker}
 use Rattle.walk.specs.declared.Edge.{Edge}
 use Rattle.walk.specs.declared.Hit.the-variants.{Point as PointHit, Side}
@@ -68,14 +69,13 @@ use Rattle.walk.specs.RingWalk.{pairWalk}
 use Rattle.walk.specs.Claims.{BlocksPair, BlocksPairBySide, overP, overQ}
 use Rattle.walk.proofs.Meaning as of-walk
 use Rattle.join.specs.Work.{pageOpened}
-use Rattle.join.specs.Sheets.{walksOf}
+use Rattle.join.specs.Sheets.{walksBy}
 use Rattle.join.specs.Threshold.{walksFor, smaller}
-use Rattle.join.specs.Self.{selfWalks}
 use Rattle.join.proofs.Meaning as of-join
 use Rattle.ring.specs.Numbers.{sheetsNo, positionNo, pointNo, filterNo, ringNo}
 use Rattle.ring.specs.Answers.{assetOf, filteredTo, walkedClear}
-use Rattle.ring.specs.Page.{sourceOf, pageGiven, pageAnswer}
-use Rattle.ring.specs.Own.{ownSource, ownGiven}
+use Rattle.ring.specs.Page.{pageNo, sourceOf, pageGiven}
+use Rattle.ring.specs.Own.{ownNo}
 use Rattle.ring.specs.Partners.{partnersCount, partnersGiven}
 use Rattle.ring.specs.declared.Pointed.{Pointed}
 use Rattle.ring.specs.declared.Pointed.the-variants.{At}
@@ -84,7 +84,7 @@ use Rattle.ring.specs.declared.Walked.{Walked}
 use Rattle.ring.specs.declared.Walked.the-variants.{Done}
 use Rattle.ring.specs.declared.Paged.{Paged}
 use Rattle.ring.specs.declared.Partnered.{Partnered}
-use Rattle.words.proofs.FirstLaws.{first-passes, first-last, answer-given}
+use Rattle.words.proofs.FirstLaws.{none-applies, first-passes, first-last, answer-given}
 use Rattle.ring.proofs.HeadLaws.{sheets-both, sheets-open}
 use Rattle.ring.proofs.NumberLaws.{position-in}
 use Rattle.ring.proofs.FilterLaws.{filter-given}
@@ -105,7 +105,7 @@ use Rattle.runs.specs.Run.{leafNo, runNo, runGiven, runAnswer}
 use Rattle.runs.proofs.DecideLaws.{leaf-here}
 use Rattle.runs.proofs.Meaning as of-run
 use Rattle.runs.proofs.Once as of-runs
-use Rattle.demands.specs.Promises.{OpenAnswers, PointAnswers, FilterAnswers, RingAnswers, PageAnswers, OwnAnswers, PartnersAnswers, PackAnswers, RunAnswers}
+use Rattle.demands.specs.Promises.{OpenAnswers, PointAnswers, FilterAnswers, RingAnswers, PageAnswers, OwnAnswers, OfKind, TermsAnswers, PartnersAnswers, PackAnswers, RunAnswers}
 use Rattle.demands.proofs.ByRow.{InTurn, in-turn}
 
 -- the words are a sheet: "every well-formed sheet"
@@ -201,30 +201,100 @@ module _ (P Q : List ℤ) (p-opens : WellFormed P) (q-opens : WellFormed Q) wher
 
   -- ---- pages
 
-  -- "0 for the full list"
-  pub threshold-full : thresholdList 0 (pointsOf P) (pointsOf Q) ≡ ringList (pointsOf P) (pointsOf Q)
-  threshold-full = threshold-none (pointsOf P) (pointsOf Q)
-
   rise-p : Rising (idAt (pointsOf P)) (length (pointsOf P))
   rise-p = of-join.points-rise (facts P p-opens)
 
   rise-q : Rising (idAt (pointsOf Q)) (length (pointsOf Q))
   rise-q = of-join.points-rise (facts Q q-opens)
 
-  page-is : (key : Key) (size t : ℕ) (r : Paged) → InRange key size t → PageAnswers P Q key size t r → r ≡ pageGiven P Q key size t
-  page-is key size t r h a = a .promised ∙ of-page.page-served P Q key size t sheets (h .q-in) (h .p-in) (h .some) (h .most) (h .fair)
+  -- ---- pages, of any terms: of two sheets, the full list or that of t; or of one sheet in both places, the self join
 
-  -- "The page holds both editions, the key, the first `size` ring pairs strictly after the key (fewer if fewer follow), their number and an end mark, set exactly
-  -- when no ring pair follows the last one shown, or follows the key if none is shown." "Unused pairs are three zeros." "Pages and books now carry t, 0 for the full list".
-  pub page-pairs : (key : Key) (size t : ℕ) (r : Paged) → InRange key size t → PageAnswers P Q key size t r
-      → (r .number ≡ 0) × (r .page ≡ pageOf (sourceOf P Q t) (thresholdList t (pointsOf P) (pointsOf Q)) key size)
-  unfolding pageGiven
-  page-pairs key size t r h a = let e = page-is key size t r h a in (ap (λ (x : Paged). x .number) e, ap (λ (x : Paged). x .page) e)
+  module _ (a : Terms) where
+    -- the list of the terms, of these points
+    abbrev pub List-of : List Pair
+    List-of = listFor a (pointsOf P) (pointsOf Q)
+
+    module _ (key : Key) (size : ℕ) (r : Paged) (answers : TermsAnswers a P Q key size r) where
+      -- what is answered with 0, and what is in range, is the page of the list with the count of the walks
+      pub answered : r .number ≡ 0 → (1 ≤ size) × (size ≤ 16) × (r ≡ pageGiven a P Q key size)
+      unfolding pageNo ownNo
+      answered zero = go (a .own) refl answers
+        where
+          go : (k : Bool) → a .own ≡ k → OfKind k a P Q key size r → (1 ≤ size) × (size ≤ 16) × (r ≡ pageGiven a P Q key size)
+          go false e x =
+              let ask : Request = record { key = key; size = size; threshold = a .threshold } in
+              let no : pageNo P Q ask ≡ 0 = sym (of-page.page-no P Q ask) ∙ sym (ap (λ (y : Paged). y .number) (x .promised)) ∙ zero in
+              let s = size-fits size (none-applies _ .0 no 3) in
+              (s .0, s .1, x .promised ∙ of-page.page-answered P Q ask no ∙ ap (λ (y : Terms). pageGiven y P Q key size) (λ i. record { threshold = a .threshold; own = sym e i }))
+          go true e x =
+              let no : ownNo P key size ≡ 0 = sym (of-own.own-no P key size) ∙ sym (ap (λ (y : Paged). y .number) (x .2 .promised)) ∙ zero in
+              let s = size-fits size (none-applies _ .0 no 2) in
+              (s .0, s .1, x .2 .promised ∙ of-own.own-answered P key size no ∙ ap (λ (y : List ℤ). pageGiven alone P y key size) (x .0) ∙ ap (λ (y : Terms). pageGiven y P Q key size) (λ i. record { threshold = sym (x .1) i; own = sym e i }))
+
+      module _ (h : InRange key size (a .threshold)) where
+        -- a key, a size and a t in range are served
+        pub served : r .number ≡ 0
+        served = go (a .own) answers
+          where
+            go : (k : Bool) → OfKind k a P Q key size r → r .number ≡ 0
+            go false x = unfold pageGiven in ap (λ (y : Paged). y .number) (x .promised ∙ of-page.page-served P Q (record { key = key; size = size; threshold = a .threshold }) sheets (h .q-in) (h .p-in) (h .some) (h .most) (h .fair))
+            go true x = unfold pageGiven in ap (λ (y : Paged). y .number) (x .2 .promised ∙ of-own.own-served P key size p-opens (h .q-in) (h .p-in) (h .some) (h .most))
+
+        page-is : r ≡ pageGiven a P Q key size
+        page-is = answered served .2
+
+        -- "The page holds both editions, the key, the first `size` ring pairs strictly after the key (fewer if fewer follow), their number and an end mark, set exactly
+        -- when no ring pair follows the last one shown, or follows the key if none is shown." "Unused pairs are three zeros." "Pages and books now carry t, 0 for the full
+        -- list"; of a self join "with one edition in both fields and t 0".
+        pub page-pairs : (r .number ≡ 0) × (r .page ≡ pageOf (sourceOf P Q a) List-of key size)
+        unfolding pageGiven
+        page-pairs = (ap (λ (x : Paged). x .number) page-is, ap (λ (x : Paged). x .page) page-is)
+
+        -- "Each pair in pages [..] now has its squared diameter beside the ids": that of the places of the two records with these ids.
+        pub pair-size : (v : Pair) → List·Memᴰ v (pagePairs (r .page))
+            → (j i : ℕ) → j < points Q → i < points P → idAt (pointsOf Q) j ≡ v .q → idAt (pointsOf P) i ≡ v .p → v .size ≡ sizeOf (spotOf Q j) (spotOf P i)
+        pair-size v m j i j-in i-in e f =
+            let s : pagePairs (r .page) ≡ shown List-of key size = ap pagePairs (page-pairs .1) ∙ page-shows key (sourceOf P Q a) List-of size in
+            for-size a (pointsOf P) (pointsOf Q) rise-p rise-q v (shown-member List-of key size v (subst (List·Memᴰ v) s m)) j i (omega (arith, length-points Q)) (omega (arith, length-points P)) e f
+            ∙ ap₂ sizeOf (spot-of Q j j-in) (spot-of P i i-in)
+
+        -- "Beside the page stands its count of nodes opened": that of the walks as they are defined, the filter walks' kept sets on sixteen words. "With t above 0 a page's
+        -- count takes in all kept partners of each chamber reached, the last one too": `walksFor` of join/specs/Threshold. Of a self join "the filter passes over q, and kept
+        -- partners of higher id get one ring walk": `walksBy` of join/specs/Sheets.
+        pub page-opened : r .opened ≡ pageOpened (walksFor (walksBy a 16 P Q) (points P) (a .threshold)) key size (points P) (points Q)
+        unfolding pageGiven
+        page-opened = ap (λ (x : Paged). x .opened) page-is
+
+    -- Following the pages from (0, 0), each next key the last pair shown, whatever the sizes from 1 to 16, gives the whole list, each pair once. `ask` is the page
+    -- request: for every key and size it gives an answer that the promise admits.
+    pub pages-list : a .threshold ≤ lastThreshold → (ask : Key → ℕ → Paged) → ((key : Key) (size : ℕ) → TermsAnswers a P Q key size (ask key size))
+        → (sizes : ℕ → ℕ) → ((k : ℕ) → sizeNo (sizes k) ≡ 0)
+        → followed (length List-of) sizes (λ key size. ask key size .page) start ≡ List-of
+    pages-list most ask x sizes s =
+        of-page.followed-list a P Q (facts P p-opens) (facts Q q-opens) ask
+        (λ k n qi pi some few. page-is k n (ask k n) (x k n) (record { q-in = qi; p-in = pi; some = some; most = few; fair = most })) sizes s
+
+    -- "The list runs by q id, then p id": each pair stands strictly after the one before it,
+    pub list-ascends : ascends start List-of ≡ true
+    list-ascends = for-ascends a (pointsOf P) (pointsOf Q) rise-p rise-q
+
+    -- so "each once, by ids": no two pairs of it have the same ids.
+    pub list-once : (k h : ℕ) → k < h → h < length List-of → keyOf (getD List-of k none) ≡ keyOf (getD List-of h none) → ⊥
+    list-once = for-once a (pointsOf P) (pointsOf Q) rise-p rise-q
+
+    -- It holds no pair but those that the rule of the terms makes of two records, each with the squared diameter of their places.
+    pub list-only : (v : Pair) → List·Memᴰ v List-of → Placed (listedFor a (pointsOf P) (pointsOf Q)) (pairAt (pointsOf P) (pointsOf Q)) (length (pointsOf P)) (length (pointsOf Q)) v
+    list-only = for-only a (pointsOf P) (pointsOf Q) rise-p rise-q
 
   -- "0 for the full list"
-  pub page-full : (key : Key) (size : ℕ) (r : Paged) → InRange key size 0 → PageAnswers P Q key size 0 r
-      → r .page ≡ pageOf (sourceOf P Q 0) (ringList (pointsOf P) (pointsOf Q)) key size
-  page-full key size r h a = page-pairs key size 0 r h a .1 ∙ ap (λ (l : List Pair). pageOf (sourceOf P Q 0) l key size) threshold-full
+  pub full-list : listFor full (pointsOf P) (pointsOf Q) ≡ ringList (pointsOf P) (pointsOf Q)
+  full-list = of-terms.full-list (pointsOf P) (pointsOf Q)
+
+  -- ---- which chambers have at least t partners
+
+  -- the pairs of the chamber with this id in the full list
+  abbrev pub pairsWith : ℕ → List Pair
+  pairsWith id = chamberPairs id (ringList (pointsOf P) (pointsOf Q))
 
   -- the size of a listed pair, by the words of the sheets
   listed-size : (v : Pair) → List·Memᴰ v (ringList (pointsOf P) (pointsOf Q))
@@ -233,45 +303,13 @@ module _ (P Q : List ℤ) (p-opens : WellFormed P) (q-opens : WellFormed Q) wher
       ring-size (pointsOf P) (pointsOf Q) rise-p rise-q v m j i (omega (arith, length-points Q)) (omega (arith, length-points P)) e f
       ∙ ap₂ sizeOf (spot-of Q j j-in) (spot-of P i i-in)
 
-  -- "Each pair in pages [..] now has its squared diameter beside the ids": that of the places of the two records with these ids.
-  pub pair-size : (key : Key) (size t : ℕ) (r : Paged) → InRange key size t → PageAnswers P Q key size t r → (v : Pair) → List·Memᴰ v (pagePairs (r .page))
-      → (j i : ℕ) → j < points Q → i < points P → idAt (pointsOf Q) j ≡ v .q → idAt (pointsOf P) i ≡ v .p → v .size ≡ sizeOf (spotOf Q j) (spotOf P i)
-  pair-size key size t r h a v m =
-      let l = thresholdList t (pointsOf P) (pointsOf Q) in
-      let s : pagePairs (r .page) ≡ shown l key size = ap pagePairs (page-pairs key size t r h a .1) ∙ page-shows key (sourceOf P Q t) l size in
-      listed-size v (threshold-in (pointsOf P) (pointsOf Q) rise-p rise-q t v (shown-member l key size v (subst (List·Memᴰ v) s m)))
-
-  -- "Beside the page stands its count of nodes opened": that of the walks as they are defined, the filter walks' kept sets on sixteen words. "With t above 0 a page's count
-  -- takes in all kept partners of each chamber reached, the last one too": `walksFor` of join/specs/Threshold.
-  pub page-opened : (key : Key) (size t : ℕ) (r : Paged) → InRange key size t → PageAnswers P Q key size t r
-      → r .opened ≡ pageOpened (walksFor (walksOf 16 P Q) (points P) t) key size (points P) (points Q)
-  unfolding pageGiven
-  page-opened key size t r h a = ap (λ (x : Paged). x .opened) (page-is key size t r h a)
-
-  -- Following the pages from (0, 0), each next key the last pair shown, whatever the sizes from 1 to 16, gives the whole list of t, each pair once. `ask` is the page
-  -- request: for every key and size it gives an answer that the promise admits.
-  pub pages-list : (t : ℕ) → t ≤ lastThreshold → (ask : Key → ℕ → Paged) → ((key : Key) (size : ℕ) → PageAnswers P Q key size t (ask key size))
-      → (sizes : ℕ → ℕ) → ((k : ℕ) → sizeNo (sizes k) ≡ 0)
-      → followed (length (thresholdList t (pointsOf P) (pointsOf Q))) sizes (λ key size. ask key size .page) start ≡ thresholdList t (pointsOf P) (pointsOf Q)
-  pages-list t most ask a sizes s =
-      let asked : Key → ℕ → Page = λ key size. ask key size .page in
-      let defined : Key → ℕ → Page = λ key size. pageAnswer P Q key size t .page in
-      let same : asked ≡ defined = λ i key size. a key size .promised i .page in
-      ap (λ (f : Key → ℕ → Page). followed (length (thresholdList t (pointsOf P) (pointsOf Q))) sizes f start) same ∙ of-page.pages-list P Q sheets t most sizes s
-
-  -- ---- which chambers have at least t partners
-
-  -- the pairs of the chamber with this id in the full list
-  abbrev pub pairsWith : ℕ → List Pair
-  pairsWith id = chamberPairs id (ringList (pointsOf P) (pointsOf Q))
-
   -- A pair stands in the list of t exactly if it stands in the full list and its chamber has at least t pairs there.
-  pub threshold-exact : (t : ℕ) (v : Pair) → List·Memᴰ v (thresholdList t (pointsOf P) (pointsOf Q)) ↔ (List·Memᴰ v (ringList (pointsOf P) (pointsOf Q)) × (t ≤ length (pairsWith (v .q))))
+  pub threshold-exact : (t : ℕ) (v : Pair) → List·Memᴰ v (listFor (withT t) (pointsOf P) (pointsOf Q)) ↔ (List·Memᴰ v (ringList (pointsOf P) (pointsOf Q)) × (t ≤ length (pairsWith (v .q))))
   threshold-exact t v = threshold-iff (pointsOf P) (pointsOf Q) rise-p rise-q t v
 
   -- "list all such chambers by id with all their pairs": of a chamber that has at least t pairs the list of t has them all, of another none.
   pub threshold-whole : (t j : ℕ) → j < points Q
-      → chamberPairs (idAt (pointsOf Q) j) (thresholdList t (pointsOf P) (pointsOf Q)) ≡ cond (leb t (length (pairsWith (idAt (pointsOf Q) j)))) (pairsWith (idAt (pointsOf Q) j)) []
+      → chamberPairs (idAt (pointsOf Q) j) (listFor (withT t) (pointsOf P) (pointsOf Q)) ≡ cond (leb t (length (pairsWith (idAt (pointsOf Q) j)))) (pairsWith (idAt (pointsOf Q) j)) []
   threshold-whole t j j-in = threshold-pairs (pointsOf P) (pointsOf Q) rise-p rise-q t j (omega (arith, length-points Q))
 
   -- "For one q id and a t, give the smaller of t and the number of its pairs in the list, and a yes exactly when that is t."
@@ -312,14 +350,6 @@ module _ (P Q : List ℤ) (p-opens : WellFormed P) (q-opens : WellFormed Q) wher
   list-exact j i j-in i-in =
       ring-iff (pointsOf P) (pointsOf Q) rise-p rise-q j i (omega (arith, length-points Q)) (omega (arith, length-points P))
 
-  -- it holds no pair but those of two such records,
-  pub list-only : (v : Pair) → List·Memᴰ v (ringList (pointsOf P) (pointsOf Q)) → Placed (ringPair (pointsOf P) (pointsOf Q)) (pairAt (pointsOf P) (pointsOf Q)) (length (pointsOf P)) (length (pointsOf Q)) v
-  list-only v m = ring-only (pointsOf P) (pointsOf Q) rise-p rise-q v m
-
-  -- "each once".
-  pub list-once : (a b : ℕ) → a < b → b < length (ringList (pointsOf P) (pointsOf Q)) → getD (ringList (pointsOf P) (pointsOf Q)) a none ≡ getD (ringList (pointsOf P) (pointsOf Q)) b none → ⊥
-  list-once a b h k e = ring-once (pointsOf P) (pointsOf Q) rise-p rise-q a b h k e
-
   -- ---- nobody is left with an empty sheet
 
   -- "every pump house and chamber at the least distance of all such couples is a ring pair", and so it is listed;
@@ -335,12 +365,12 @@ module _ (P Q : List ℤ) (p-opens : WellFormed P) (q-opens : WellFormed Q) wher
     never-empty = of-nearest.never-empty (pointsOf P) (pointsOf Q) (omega (arith, length-points P)) (omega (arith, length-points Q))
 
     -- and its first page shows a pair.
-    pub first-visit : (size : ℕ) (r : Paged) → InRange start size 0 → PageAnswers P Q start size 0 r → 0 < r .page .count
+    pub first-visit : (size : ℕ) (r : Paged) → InRange start size 0 → PageAnswers P Q (record { key = start; size = size; threshold = 0 }) r → 0 < r .page .count
     unfolding pageOf shown
     first-visit size r h a =
         let l = ringList (pointsOf P) (pointsOf Q) in
         let all : after start l ≡ l = after-all start l (ring-ascends (pointsOf P) (pointsOf Q) (of-join.points-rise (facts P p-opens)) (of-join.points-rise (facts Q q-opens))) in
-        let e : r .page .count ≡ length (take size l) = ap (λ (g : Page). g .count) (page-full start size r h a) ∙ ap (λ (x : List Pair). length (take size x)) all in
+        let e : r .page .count ≡ length (take size l) = ap (λ (g : Page). g .count) (page-pairs full start size r a h .1 ∙ ap (λ (x : List Pair). pageOf (sourceOf P Q full) x start size) full-list) ∙ ap (λ (x : List Pair). length (take size x)) all in
         omega (arith, e, length-take size l, never-empty, h .some)
 
   -- ---- one run per leaf
@@ -461,76 +491,34 @@ module _ (P Q : List ℤ) (p-opens : WellFormed P) (q-opens : WellFormed Q) wher
       back y =
           of-leaf.run-listed P Q (facts P p-opens) (facts Q q-opens) (y .leaf) (y .is-leaf .here) (y .is-leaf .level) x (subst (List·Memᴰ x) (is (y .leaf) (y .is-leaf)) (y .in-run))
 
--- "It depends on the points alone": whatever the editions, the orders and the trees of two pairs of sheets.
-module _ (P P′ Q Q′ : List ℤ) (p-opens : WellFormed P) (p-opens′ : WellFormed P′) (q-opens : WellFormed Q) (q-opens′ : WellFormed Q′) (same-p : pointsOf P ≡ pointsOf P′) (same-q : pointsOf Q ≡ pointsOf Q′) where
-  pub same-list : (t : ℕ) → thresholdList t (pointsOf P) (pointsOf Q) ≡ thresholdList t (pointsOf P′) (pointsOf Q′)
-  same-list t = of-join.same-list P P′ Q Q′ same-p same-q t
+-- "It depends on the points alone": whatever the editions, the orders and the trees of two pairs of sheets; of any terms.
+module _ (P P′ Q Q′ : List ℤ) (p-opens : WellFormed P) (p-opens′ : WellFormed P′) (q-opens : WellFormed Q) (q-opens′ : WellFormed Q′) (same-p : pointsOf P ≡ pointsOf P′) (same-q : pointsOf Q ≡ pointsOf Q′) (a : Terms) where
+  pub same-list : listFor a (pointsOf P) (pointsOf Q) ≡ listFor a (pointsOf P′) (pointsOf Q′)
+  same-list = of-join.same-list P P′ Q Q′ same-p same-q a
 
-  pub list-by-points : (key : Key) (size t : ℕ) (r r′ : Paged) → InRange key size t → PageAnswers P Q key size t r → PageAnswers P′ Q′ key size t r′
+  pub list-by-points : (key : Key) (size : ℕ) (r r′ : Paged) → InRange key size (a .threshold) → TermsAnswers a P Q key size r → TermsAnswers a P′ Q′ key size r′
       → (r .page .pairs ≡ r′ .page .pairs) × (r .page .count ≡ r′ .page .count) × (r .page .end ≡ r′ .page .end)
-  list-by-points key size t r r′ h a b =
-      let e = page-pairs P Q p-opens q-opens key size t r h a .1 in
-      let f = page-pairs P′ Q′ p-opens′ q-opens′ key size t r′ h b .1 in
-      let l = of-join.list-by-points P P′ Q Q′ same-p same-q t (sourceOf P Q t) (sourceOf P′ Q′ t) key size in
-      (ap (λ (g : Page). g .pairs) e ∙ l .0 ∙ sym (ap (λ (g : Page). g .pairs) f), ap (λ (g : Page). g .count) e ∙ l .1 ∙ sym (ap (λ (g : Page). g .count) f), ap (λ (g : Page). g .end) e ∙ l .2 ∙ sym (ap (λ (g : Page). g .end) f))
+  list-by-points key size r r′ h x y =
+      of-page.given-by-points a P P′ Q Q′ key size same-p same-q r r′ (page-is P Q p-opens q-opens a key size r x h) (page-is P′ Q′ p-opens′ q-opens′ a key size r′ y h)
 
 -- ---- the self join of one sheet
 
--- "pairs of two different records of one sheet, lower id first, in order of lower then higher id, blocked by the other records of that sheet under request 3's rule"
+-- "pairs of two different records of one sheet, lower id first, in order of lower then higher id, blocked by the other records of that sheet under request 3's rule". Its
+-- pages, their counts, and following them: `page-pairs`, `page-opened`, `pages-list` of the terms `alone`, of the sheet in both places.
 module _ (S : List ℤ) (opens : WellFormed S) where
-  rise-s : Rising (idAt (pointsOf S)) (length (pointsOf S))
-  rise-s = of-join.points-rise (facts S opens)
-
   -- Two records, of which the first has the lower id, are listed exactly if no other record of the sheet blocks their pair.
   pub own-exact : (j i : ℕ) → j < length (pointsOf S) → i < length (pointsOf S) → idAt (pointsOf S) j < idAt (pointsOf S) i
-      → List·Memᴰ (pairAt (pointsOf S) (pointsOf S) j i) (selfList (pointsOf S))
+      → List·Memᴰ (pairAt (pointsOf S) (pointsOf S) j i) (listFor alone (pointsOf S) (pointsOf S))
       ↔ ((k : ℕ) → k < length (pointsOf S) → (k ≡ j → ⊥) → (k ≡ i → ⊥) → blocks (spotAt (pointsOf S) j) (spotAt (pointsOf S) i) (spotAt (pointsOf S) k) ≡ false)
-  own-exact = of-self.self-exact (pointsOf S) rise-s
+  own-exact = of-terms.self-exact (pointsOf S) (of-join.points-rise (facts S opens))
 
-  -- Nothing else is listed: every listed pair is of two records of the sheet, the lower id first, with the squared diameter of their places.
-  pub own-only : (v : Pair) → List·Memᴰ v (selfList (pointsOf S)) → Placed (selfPair (pointsOf S)) (pairAt (pointsOf S) (pointsOf S)) (length (pointsOf S)) (length (pointsOf S)) v
-  own-only = of-self.self-only (pointsOf S) rise-s
+  -- A listed pair has the lower id first: a record is never listed with itself, nor two records both ways.
+  pub own-low : (v : Pair) → List·Memᴰ v (listFor alone (pointsOf S) (pointsOf S)) → v .q < v .p
+  own-low = of-terms.self-low (pointsOf S) (of-join.points-rise (facts S opens))
 
-  pub own-low : (v : Pair) → List·Memᴰ v (selfList (pointsOf S)) → v .q < v .p
-  own-low = of-self.self-low (pointsOf S) rise-s
-
-  pub own-size : (v : Pair) → List·Memᴰ v (selfList (pointsOf S)) → (j i : ℕ) → j < length (pointsOf S) → i < length (pointsOf S) → idAt (pointsOf S) j ≡ v .q → idAt (pointsOf S) i ≡ v .p
-      → v .size ≡ sizeOf (spotAt (pointsOf S) j) (spotAt (pointsOf S) i)
-  own-size = of-self.self-size (pointsOf S) rise-s
-
-  -- and nothing twice
-  pub own-listed-once : (a b : ℕ) → a < b → b < length (selfList (pointsOf S)) → getD (selfList (pointsOf S)) a none ≡ getD (selfList (pointsOf S)) b none → ⊥
-  own-listed-once = of-self.self-once (pointsOf S) rise-s
-
-  own-is : (key : Key) (size : ℕ) (r : Paged) → InRange key size 0 → OwnAnswers S key size r → r ≡ ownGiven S key size
-  own-is key size r h a = a .promised ∙ of-own.own-served S key size opens (h .q-in) (h .p-in) (h .some) (h .most)
-
-  -- "Pages, counts, end mark and book work as before, with one edition in both fields and t 0".
-  pub own-pairs : (key : Key) (size : ℕ) (r : Paged) → InRange key size 0 → OwnAnswers S key size r → (r .number ≡ 0) × (r .page ≡ pageOf (ownSource S) (selfList (pointsOf S)) key size)
-  unfolding ownGiven
-  own-pairs key size r h a = let e = own-is key size r h a in (ap (λ (x : Paged). x .number) e, ap (λ (x : Paged). x .page) e)
-
-  -- The count beside the page is that of the defined walks: "the filter passes over q, and kept partners of higher id get one ring walk".
-  pub own-opened : (key : Key) (size : ℕ) (r : Paged) → InRange key size 0 → OwnAnswers S key size r → r .opened ≡ pageOpened (selfWalks 16 S) key size (points S) (points S)
-  unfolding ownGiven
-  own-opened key size r h a = ap (λ (x : Paged). x .opened) (own-is key size r h a)
-
-  -- Following the pages from (0, 0), whatever their sizes from 1 to 16, gives the list.
-  pub own-pages : (ask : Key → ℕ → Paged) → ((key : Key) (size : ℕ) → OwnAnswers S key size (ask key size)) → (sizes : ℕ → ℕ) → ((i : ℕ) → sizeNo (sizes i) ≡ 0)
-      → followed (length (selfList (pointsOf S))) sizes (λ k n. ask k n .page) start ≡ selfList (pointsOf S)
-  own-pages ask a sizes s =
-      ap (λ (f : Key → ℕ → Page). followed (length (selfList (pointsOf S))) sizes f start) (λ i k n. a k n .promised i .page) ∙ of-own.own-list S opens sizes s
-
--- It depends on the points alone.
-module _ (S S′ : List ℤ) (opens : WellFormed S) (opens′ : WellFormed S′) (same : pointsOf S ≡ pointsOf S′) where
-  pub own-by-points : (key : Key) (size : ℕ) (r r′ : Paged) → InRange key size 0 → OwnAnswers S key size r → OwnAnswers S′ key size r′
-      → (r .page .pairs ≡ r′ .page .pairs) × (r .page .count ≡ r′ .page .count) × (r .page .end ≡ r′ .page .end)
-  unfolding pageOf
-  own-by-points key size r r′ h a b =
-      let e = own-pairs S opens key size r h a .1 in
-      let f = own-pairs S′ opens′ key size r′ h b .1 in
-      let s = ownSource S in
-      (ap (λ (g : Page). g .pairs) e ∙ ap (λ (l : List Point). pageOf s (selfList l) key size .pairs) same ∙ sym (ap (λ (g : Page). g .pairs) f), ap (λ (g : Page). g .count) e ∙ ap (λ (l : List Point). pageOf s (selfList l) key size .count) same ∙ sym (ap (λ (g : Page). g .count) f), ap (λ (g : Page). g .end) e ∙ ap (λ (l : List Point). pageOf s (selfList l) key size .end) same ∙ sym (ap (λ (g : Page). g .end) f))
+  -- The self join's page request answers as that of its terms.
+  pub own-answers : (key : Key) (size : ℕ) (r : Paged) → OwnAnswers S key size r → TermsAnswers alone S S key size r
+  own-answers key size r x = (refl, refl, x)
 
 -- ---- the return trip
 

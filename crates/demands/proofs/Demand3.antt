@@ -3,11 +3,11 @@
 -- when it holds all, and while it is open with room for all, each page that answers its own next request adds a pair or closes it."
 --
 -- The premises are in specs/World: `History w b s` is a book b with its slots s after any such history, every step of which is an answer that the promise of a shipped
--- call admits (`Book::begin`, `ring::page::page`, `ring::own::own_page`, `Book::take`). `bookList w b` is the list of the book's t, of its two editions: "demand 3 holds for each
--- t's list"; and of a self join's book the self join's list of its edition: "the three demands hold for it".
+-- call admits (`Book::begin`, `ring::page::page`, `ring::own::own_page`, `Book::take`). `bookList w b` is the list of the book's terms, of the points of its editions: "demand 3 holds for
+-- each t's list", and of a self join "the three demands hold for it".
 --
 --     held-prefix     it holds the first so many pairs of its list
---     held-size       each with the squared diameter of the places of its two records; held-own-size: and so of a self join
+--     held-size       each with the squared diameter of the places of its two records
 --     own-kind        no page of a self join enters a two-sheet book, nor one of two sheets a self join's: 22
 --     closed-all      it is closed only when it holds all
 --     progress        its own page is given, is taken, and adds a pair or closes it
@@ -15,9 +15,9 @@
 --     next-is-last    its next key is its last pair
 --     can-ask, can-close    where there is a sheet of each of its editions, a book can ask, and so be closed
 -- Assumes nothing.
-use mathlib.Core.Path.{_≡_, refl, sym, ap, subst, _∙_}
+use mathlib.Core.Path.{_≡_, refl, sym, ap, ap₂, subst, _∙_}
 use mathlib.Core.Bool.{Bool, true, false, cond}
-use mathlib.Core.Logic.{_⊎_, inl, inr, ⊎-elim}
+use mathlib.Core.Logic.{_⊎_, ⊎-elim}
 use mathlib.Core.List.{List, [], List·Memᴰ, Memᴰ·append-left}
 use Prim.Native.Nat.{ℕ, zero, suc, _+_, _≤_, _<_}
 use native.Mathlib.Omega.{arith}
@@ -26,27 +26,29 @@ use lib.ListN.{length, take, drop, take-append-drop}
 use Rattle.integers.proofs.Bools.{decide}
 use Rattle.words.specs.Range.{lastId}
 use Rattle.plane.specs.Point.{Point, idAt, spotAt}
+use Rattle.words.specs.Word.{num}
+use Rattle.sheet.specs.Limits.{form1}
+use Rattle.sheet.specs.Layout.{edition}
 use Rattle.sheet.specs.Places.{pointsOf}
+use Rattle.sheet.specs.Open.{openNo}
 use Rattle.list.specs.declared.Key.{Key}
 use Rattle.list.specs.declared.Pair.{Pair}
 use Rattle.list.specs.declared.Source.{Source}
 use Rattle.list.specs.declared.Page.{Page}
 use Rattle.list.specs.Pairs.{start, lastOr}
-use Rattle.list.specs.Pages.{lastThreshold, sameKind, shown, pageOf}
-use Rattle.list.specs.RingList.{sizeOf, thresholdList}
-use Rattle.list.specs.SelfList.{selfList}
+use Rattle.list.specs.Pages.{sameKind, shown, pageOf}
+use Rattle.list.specs.declared.Terms.{Terms}
+use Rattle.list.specs.declared.Request.{Request}
+use Rattle.list.specs.RingList.{sizeOf}
+use Rattle.list.specs.Rows.{Rising}
+use Rattle.list.specs.Terms.{listFor}
 use Rattle.list.proofs.Order.{last-holds}
-use Rattle.list.proofs.PageLaws.{size-fits, shown-count, length-padded}
-use Rattle.list.proofs.RowLaws.{ring-size, ring-keys}
-use Rattle.list.proofs.ThresholdLaws.{threshold-in}
-use Rattle.list.proofs.SelfLaws.{self-keys, self-size}
+use Rattle.list.proofs.PageLaws.{shown-count, length-padded}
+use Rattle.list.proofs.TermsLaws.{for-size, for-keys}
 use Rattle.join.proofs.Meaning.{points-sound}
-use Rattle.ring.specs.Page.{pageNo, sourceOf, pageGiven, pageAnswer}
-use Rattle.ring.specs.Own.{ownNo, ownSource, ownGiven, ownAnswer}
+use Rattle.ring.specs.Page.{sourceOf, pageGiven, pageAnswer}
+use Rattle.ring.specs.Own.{ownAnswer}
 use Rattle.ring.specs.declared.Paged.{Paged}
-use Rattle.words.proofs.FirstLaws.{none-applies}
-use Rattle.ring.proofs.PageLaws.{page-answered}
-use Rattle.ring.proofs.OwnLaws as of-own
 use Rattle.book.specs.declared.Book.{Book}
 use Rattle.book.specs.declared.Next.the-variants as next
 use Rattle.book.specs.declared.Asked.{Asked}
@@ -57,9 +59,9 @@ use Rattle.book.specs.World.{World, Honest, Reached, listOf, ownPage}
 use Rattle.book.proofs.Story as of-story
 use Rattle.book.proofs.SliceLaws as of-slice
 use Rattle.book.proofs.TakeLaws as of-take
-use Rattle.demands.specs.Promises.{Place, NextAnswers, TakeAnswers}
-use Rattle.demands.specs.World.{Editions, PumpSheet, ChamberSheet, AssetSheet, bookList, AnsweredTwo, AnsweredOne, Answered, History, began, took, lent, AsksTwo, AsksOne, Asks, OwnPage, Asking, stops, asks}
-use Rattle.demands.proofs.Demand1 as demand1
+use Rattle.demands.specs.Promises as of-promise
+use Rattle.demands.specs.Promises.{Place, TermsAnswers, NextAnswers, TakeAnswers}
+use Rattle.demands.specs.World.{Editions, OfKind, Sheets, pumpsOf, chambersOf, bookList, Answered, History, began, took, lent, Asks, OwnPage, Asking, stops, asks}
 use Rattle.demands.proofs.Demand2 as demand2
 
 module _ (w : Editions) where
@@ -75,34 +77,51 @@ module _ (w : Editions) where
         assets-sound = λ e. points-sound (w .assets e) (w .assets-open e);
       }
 
-  -- the list of two sheets of this world is that of their editions
-  list-is : (P Q : List ℤ) → PumpSheet w P → ChamberSheet w Q → (t : ℕ) → thresholdList t (pointsOf P) (pointsOf Q) ≡ listOf worldOf (sourceOf P Q t)
-  unfolding sourceOf
-  list-is P Q p q t = ap (λ (x : List Point). thresholdList t x (pointsOf Q)) (p .same) ∙ ap (thresholdList t (pointsOf (w .pumps (sourceOf P Q t .«p_edition»)))) (q .same)
+  -- the sheets of a request open, and hold the points of their editions
+  module _ (a : Terms) (P Q : List ℤ) (sheets : Sheets w a P Q) where
+    p-opens : openNo form1 P ≡ 0
+    p-opens = go (a .own) sheets
+      where
+        go : (k : Bool) → OfKind w k P Q → openNo form1 P ≡ 0
+        go false x = x .0 .opens
+        go true x = x .0 .opens
 
-  own-list-is : (S : List ℤ) → AssetSheet w S → selfList (pointsOf S) ≡ listOf worldOf (ownSource S)
-  unfolding ownSource
-  own-list-is S p = ap selfList (p .same)
+    q-opens : openNo form1 Q ≡ 0
+    q-opens = go (a .own) sheets
+      where
+        go : (k : Bool) → OfKind w k P Q → openNo form1 Q ≡ 0
+        go false x = x .1 .opens
+        go true x = x .1 .opens
+
+    q-points : of-world.chambersOf worldOf (sourceOf P Q a) ≡ pointsOf Q
+    unfolding sourceOf
+    q-points = go (a .own) sheets
+      where
+        go : (k : Bool) → OfKind w k P Q → cond k (pointsOf (w .assets (num (edition Q)))) (pointsOf (w .chambers (num (edition Q)))) ≡ pointsOf Q
+        go false x = sym (x .1 .same)
+        go true x = sym (x .1 .same)
+
+    module _ (key : Key) (size : ℕ) (r : Paged) (answers : TermsAnswers a P Q key size r) where
+      p-points : of-world.pumpsOf worldOf (sourceOf P Q a) ≡ pointsOf P
+      unfolding sourceOf
+      p-points = go (a .own) sheets answers
+        where
+          go : (k : Bool) → OfKind w k P Q → of-promise.OfKind k a P Q key size r → cond k (pointsOf (w .assets (num (edition Q)))) (pointsOf (w .pumps (num (edition P)))) ≡ pointsOf P
+          go false x y = sym (x .0 .same)
+          go true x y = sym (x .0 .same ∙ ap (λ (z : List ℤ). pointsOf (w .assets (num (edition z)))) (y .0))
+
+      -- so a page that was answered is of the list of its source
+      pub page-of : r .number ≡ 0 → (1 ≤ size) × (size ≤ 16) × (r .page ≡ pageOf (sourceOf P Q a) (listOf worldOf (sourceOf P Q a)) key size)
+      unfolding pageGiven sourceOf
+      page-of zero =
+          let z = demand2.answered P Q p-opens q-opens a key size r answers zero in
+          (z .0, z .1, ap (λ (x : Paged). x .page) (z .2) ∙ ap₂ (λ (x y : List Point). pageOf (sourceOf P Q a) (listFor a x y) key size) (sym p-points) (sym q-points))
 
   -- "not altered or invented": a page that was answered is honest
-  honest-two : (g : Page) → AnsweredTwo w g → Honest worldOf g
-  unfolding pageNo pageGiven sourceOf
-  honest-two g a =
-      let no : pageNo (a .P) (a .Q) (a .key) (a .size) (a .t) ≡ 0 = sym (demand1.page-no (a .P) (a .Q) (a .key) (a .size) (a .t) (a .r) (a .answers) .0) ∙ a .given in
-      let sizes = size-fits (a .size) (none-applies _ .0 no 3) in
-      of-story.honest-from worldOf (sourceOf (a .P) (a .Q) (a .t)) (a .key) (a .size) (pointsOf (a .P)) (pointsOf (a .Q)) g refl (sizes .0) (sizes .1) (sym (a .p-sheet .same)) (sym (a .q-sheet .same))
-      (a .is ∙ ap (λ (x : Paged). x .page) (a .answers .promised ∙ page-answered (a .P) (a .Q) (a .key) (a .size) (a .t) no))
-
-  honest-one : (g : Page) → AnsweredOne w g → Honest worldOf g
-  unfolding ownNo ownGiven ownSource
-  honest-one g a =
-      let no : ownNo (a .S) (a .key) (a .size) ≡ 0 = sym (demand1.own-no (a .S) (a .key) (a .size) (a .r) (a .answers) .0) ∙ a .given in
-      let sizes = size-fits (a .size) (none-applies _ .0 no 2) in
-      of-story.honest-own worldOf (ownSource (a .S)) (a .key) (a .size) (pointsOf (a .S)) g refl (sizes .0) (sizes .1) (sym (a .sheet .same))
-      (a .is ∙ ap (λ (x : Paged). x .page) (a .answers .promised ∙ of-own.own-answered (a .S) (a .key) (a .size) no))
-
   pub honest : (g : Page) → Answered w g → Honest worldOf g
-  honest g a = ⊎-elim (honest-two g) (honest-one g) a
+  honest g x =
+      let z = page-of (x .terms) (x .P) (x .Q) (x .sheets) (x .key) (x .size) (x .r) (x .answers) (x .given) in
+      record { of = sourceOf (x .P) (x .Q) (x .terms); after = x .key; size = x .size; some = omega (arith, z .0); most = z .1; is = x .is ∙ z .2 }
 
   reached : {b : Book} {s : List Pair} → History w b s → Reached worldOf b s
   reached (began s b slots a) = of-world.began s b slots (sym (a .promised))
@@ -118,6 +137,21 @@ module _ (w : Editions) where
       → (b .held ≤ length s) × (b .held ≤ length (bookList w b)) × (take (b .held) s ≡ take (b .held) (bookList w b))
   held-prefix h = of-story.held-prefix worldOf (reached h)
 
+  -- the ids in either place of a book's list ascend
+  pumps-rise : (s : Source) → Rising (idAt (pumpsOf w s)) (length (pumpsOf w s))
+  pumps-rise s = go (s .terms .own)
+    where
+      go : (k : Bool) → Rising (idAt (cond k (pointsOf (w .assets (s .«q_edition»))) (pointsOf (w .pumps (s .«p_edition»))))) (length (cond k (pointsOf (w .assets (s .«q_edition»))) (pointsOf (w .pumps (s .«p_edition»)))))
+      go true = worldOf .assets-sound (s .«q_edition») .rising
+      go false = worldOf .pumps-sound (s .«p_edition») .rising
+
+  chambers-rise : (s : Source) → Rising (idAt (chambersOf w s)) (length (chambersOf w s))
+  chambers-rise s = go (s .terms .own)
+    where
+      go : (k : Bool) → Rising (idAt (cond k (pointsOf (w .assets (s .«q_edition»))) (pointsOf (w .chambers (s .«q_edition»))))) (length (cond k (pointsOf (w .assets (s .«q_edition»))) (pointsOf (w .chambers (s .«q_edition»)))))
+      go true = worldOf .assets-sound (s .«q_edition») .rising
+      go false = worldOf .chambers-sound (s .«q_edition») .rising
+
   -- a held pair is one of its list
   in-list : {b : Book} {s : List Pair} → History w b s → (v : Pair) → List·Memᴰ v (take (b .held) s) → List·Memᴰ v (listOf worldOf (b .source))
   in-list {b} h v m =
@@ -125,24 +159,11 @@ module _ (w : Editions) where
       subst (List·Memᴰ v) (take-append-drop (b .held) l) (Memᴰ·append-left (drop (b .held) l) (subst (List·Memᴰ v) (held-prefix h .2) m))
 
   -- "What a book holds is still the first so many of the list, sizes included": of each pair that it holds, the size is the squared diameter of the places of its two records
-  pub held-size : {b : Book} {s : List Pair} → History w b s → b .source .own ≡ false → (v : Pair) → List·Memᴰ v (take (b .held) s)
-      → (j i : ℕ) → j < length (worldOf .chambers (b .source .«q_edition»)) → i < length (worldOf .pumps (b .source .«p_edition»))
-      → idAt (worldOf .chambers (b .source .«q_edition»)) j ≡ v .q → idAt (worldOf .pumps (b .source .«p_edition»)) i ≡ v .p
-      → v .size ≡ sizeOf (spotAt (worldOf .chambers (b .source .«q_edition»)) j) (spotAt (worldOf .pumps (b .source .«p_edition»)) i)
-  held-size {b} h two v m =
-      let P = worldOf .pumps (b .source .«p_edition») in
-      let Q = worldOf .chambers (b .source .«q_edition») in
-      let rp = worldOf .pumps-sound (b .source .«p_edition») .rising in
-      let rq = worldOf .chambers-sound (b .source .«q_edition») .rising in
-      ring-size P Q rp rq v (threshold-in P Q rp rq (b .source .threshold) v (subst (List·Memᴰ v) (of-story.two-list worldOf (b .source) two) (in-list h v m)))
-
-  -- and so of a self join's
-  pub held-own-size : {b : Book} {s : List Pair} → History w b s → b .source .own ≡ true → (v : Pair) → List·Memᴰ v (take (b .held) s)
-      → (j i : ℕ) → j < length (worldOf .assets (b .source .«q_edition»)) → i < length (worldOf .assets (b .source .«q_edition»))
-      → idAt (worldOf .assets (b .source .«q_edition»)) j ≡ v .q → idAt (worldOf .assets (b .source .«q_edition»)) i ≡ v .p
-      → v .size ≡ sizeOf (spotAt (worldOf .assets (b .source .«q_edition»)) j) (spotAt (worldOf .assets (b .source .«q_edition»)) i)
-  held-own-size {b} h one v m =
-      self-size (worldOf .assets (b .source .«q_edition»)) (worldOf .assets-sound (b .source .«q_edition») .rising) v (subst (List·Memᴰ v) (of-story.own-list worldOf (b .source) one) (in-list h v m))
+  pub held-size : {b : Book} {s : List Pair} → History w b s → (v : Pair) → List·Memᴰ v (take (b .held) s)
+      → (j i : ℕ) → j < length (chambersOf w (b .source)) → i < length (pumpsOf w (b .source))
+      → idAt (chambersOf w (b .source)) j ≡ v .q → idAt (pumpsOf w (b .source)) i ≡ v .p
+      → v .size ≡ sizeOf (spotAt (chambersOf w (b .source)) j) (spotAt (pumpsOf w (b .source)) i)
+  held-size {b} h v m = for-size (b .source .terms) _ _ (pumps-rise (b .source)) (chambers-rise (b .source)) v (in-list h v m)
 
   -- "calls itself closed only when it holds all"
   pub closed-all : {b : Book} {s : List Pair} → History w b s → b .closed ≡ true
@@ -157,24 +178,7 @@ module _ (w : Editions) where
 
   -- the keys of the book's list are in range
   keys-in : (b : Book) (v : Pair) → List·Memᴰ v (bookList w b) → (v .q ≤ lastId) × (v .p ≤ lastId)
-  keys-in b v m = go (b .source .own) m
-    where
-      S : List Point
-      S = worldOf .assets (b .source .«q_edition»)
-
-      P : List Point
-      P = worldOf .pumps (b .source .«p_edition»)
-
-      Q : List Point
-      Q = worldOf .chambers (b .source .«q_edition»)
-
-      go : (o : Bool) → List·Memᴰ v (cond o (selfList (pointsOf (w .assets (b .source .«q_edition»)))) (thresholdList (b .source .threshold) (pointsOf (w .pumps (b .source .«p_edition»))) (pointsOf (w .chambers (b .source .«q_edition»))))) → (v .q ≤ lastId) × (v .p ≤ lastId)
-      go true m = self-keys (worldOf .assets (b .source .«q_edition»)) (worldOf .assets-sound (b .source .«q_edition») .rising) v m
-      go false m =
-          let rp = worldOf .pumps-sound (b .source .«p_edition») .rising in
-          let rq = worldOf .chambers-sound (b .source .«q_edition») .rising in
-          ring-keys (worldOf .pumps (b .source .«p_edition»)) (worldOf .chambers (b .source .«q_edition»)) rp rq v
-          (threshold-in (worldOf .pumps (b .source .«p_edition»)) (worldOf .chambers (b .source .«q_edition»)) rp rq (b .source .threshold) v m)
+  keys-in b v m = for-keys (b .source .terms) (pumpsOf w (b .source)) (chambersOf w (b .source)) (pumps-rise (b .source)) (chambers-rise (b .source)) v m
 
   module _ {b : Book} {s : List Pair} (h : History w b s) {g : Page} (o : OwnPage w b s g) where
     key-last : o .key ≡ lastOr start (take (b .held) s)
@@ -183,8 +187,8 @@ module _ (w : Editions) where
     key-due : o .key ≡ lastKey (b .held) s
     key-due = key-last ∙ sym (of-slice.last-held (b .held) s (held-prefix h .0))
 
-    in-range : (t : ℕ) → t ≤ lastThreshold → demand2.InRange (o .key) (o .size) t
-    in-range t fair =
+    in-range : demand2.InRange (o .key) (o .size) (b .source .terms .threshold)
+    in-range =
         let l = bookList w b in
         let z = last-holds (λ k. (k .q ≤ lastId) × (k .p ≤ lastId)) start (take (b .held) l) (omega arith, omega arith) (λ v m. keys-in b v (subst (List·Memᴰ v) (take-append-drop (b .held) l) (Memᴰ·append-left (drop (b .held) l) m))) in
         let k : o .key ≡ lastOr start (take (b .held) l) = key-last ∙ ap (lastOr start) (held-prefix h .2) in
@@ -193,33 +197,21 @@ module _ (w : Editions) where
           p-in = omega (arith, ap (λ (x : Key). x .p) k, z .1);
           some = o .some;
           most = o .most;
-          fair = fair;
+          fair = of-story.begun-fair worldOf (reached h) .t-most;
         }
 
     -- the request is served, with the page of the book's list
     given : (o .r .number ≡ 0) × (o .r .page ≡ pageOf (b .source) (listOf worldOf (b .source)) (o .key) (o .size))
-    given = ⊎-elim two one (o .request)
-      where
-        two : AsksTwo w (b .source) (o .key) (o .size) (o .r) → (o .r .number ≡ 0) × (o .r .page ≡ pageOf (b .source) (listOf worldOf (b .source)) (o .key) (o .size))
-        two q =
-            let t = b .source .threshold in
-            let e = demand2.page-pairs (q .P) (q .Q) (q .p-sheet .opens) (q .q-sheet .opens) (o .key) (o .size) t (o .r) (in-range t (of-story.begun-fair worldOf (reached h) .t-most)) (q .answers) in
-            (e .0, e .1 ∙ ap (λ (l : List Pair). pageOf (sourceOf (q .P) (q .Q) t) l (o .key) (o .size)) (list-is (q .P) (q .Q) (q .p-sheet) (q .q-sheet) t) ∙ ap (λ (x : Source). pageOf x (listOf worldOf x) (o .key) (o .size)) (q .of-book))
-
-        one : AsksOne w (b .source) (o .key) (o .size) (o .r) → (o .r .number ≡ 0) × (o .r .page ≡ pageOf (b .source) (listOf worldOf (b .source)) (o .key) (o .size))
-        one q =
-            let e = demand2.own-pairs (q .S) (q .sheet .opens) (o .key) (o .size) (o .r) (in-range 0 (omega arith)) (q .answers) in
-            (e .0, e .1 ∙ ap (λ (l : List Pair). pageOf (ownSource (q .S)) l (o .key) (o .size)) (own-list-is (q .S) (q .sheet)) ∙ ap (λ (x : Source). pageOf x (listOf worldOf x) (o .key) (o .size)) (q .of-book))
+    given =
+        let q = o .request in
+        let zero = demand2.served (q .P) (q .Q) (p-opens _ (q .P) (q .Q) (q .sheets)) (q-opens _ (q .P) (q .Q) (q .sheets)) (b .source .terms) (o .key) (o .size) (o .r) (q .answers) in-range in
+        (zero, page-of (b .source .terms) (q .P) (q .Q) (q .sheets) (o .key) (o .size) (o .r) (q .answers) zero .2 ∙ ap (λ (x : Source). pageOf x (listOf worldOf x) (o .key) (o .size)) (q .of-book))
 
     -- so it is a page that was answered
     own-answered : Answered w g
     own-answered =
-        ⊎-elim
-        (λ (q : AsksTwo w (b .source) (o .key) (o .size) (o .r)).
-        inl (record { P = q .P; Q = q .Q; p-sheet = q .p-sheet; q-sheet = q .q-sheet; key = o .key; size = o .size; t = b .source .threshold; r = o .r; answers = q .answers; given = given .0; is = o .is }))
-        (λ (q : AsksOne w (b .source) (o .key) (o .size) (o .r)).
-        inr (record { S = q .S; sheet = q .sheet; key = o .key; size = o .size; r = o .r; answers = q .answers; given = given .0; is = o .is }))
-        (o .request)
+        let q = o .request in
+        record { terms = b .source .terms; P = q .P; Q = q .Q; sheets = q .sheets; key = o .key; size = o .size; r = o .r; answers = q .answers; given = given .0; is = o .is }
 
     own-is : g ≡ ownPage worldOf b s (o .size)
     own-is = o .is ∙ given .1 ∙ ap (λ (k : Key). pageOf (b .source) (listOf worldOf (b .source)) k (o .size)) key-due
@@ -285,34 +277,29 @@ module _ (w : Editions) where
       (m .0, m .1, asks (r .page) t s′ o (refl, refl) (m .2))
 
   -- any page request on such sheets is answered
-  serves-two : (of : Source) (size : ℕ) (P Q : List ℤ) → PumpSheet w P → ChamberSheet w Q → sourceOf P Q (of .threshold) ≡ of → (key : Key) → (r : Paged) × Asks w of key size r
-  serves-two of size P Q p q e key =
-      let somewhere : Place = record { address = (0, 0); name = 0 } in
-      (pageAnswer P Q key size (of .threshold), inl (record { P = P; Q = Q; p-sheet = p; q-sheet = q; of-book = e; answers = record { κs = ([], ([], tt)); p-at = somewhere; q-at = somewhere; promised = refl } }))
+  somewhere : Place
+  somewhere = record { address = (0, 0); name = 0 }
 
-  serves-one : (of : Source) (size : ℕ) (S : List ℤ) → AssetSheet w S → ownSource S ≡ of → (key : Key) → (r : Paged) × Asks w of key size r
-  serves-one of size S p e key =
-      let somewhere : Place = record { address = (0, 0); name = 0 } in
-      (ownAnswer S key size, inr (record { S = S; sheet = p; of-book = e; answers = record { κs = ([], tt); w-at = somewhere; promised = refl } }))
+  serves : (of : Source) (size : ℕ) (P Q : List ℤ) → Sheets w (of .terms) P Q → (of .terms .own ≡ true → (P ≡ Q) × (of .terms .threshold ≡ 0)) → sourceOf P Q (of .terms) ≡ of → (key : Key) → (r : Paged) × Asks w of key size r
+  serves of size P Q sheets alike e key =
+      let x = go (of .terms .own) alike in
+      (x .0, record { P = P; Q = Q; sheets = sheets; of-book = e; answers = x .1 })
+    where
+      go : (k : Bool) → (k ≡ true → (P ≡ Q) × (of .terms .threshold ≡ 0)) → (r : Paged) × of-promise.OfKind k (of .terms) P Q key size r
+      go false f =
+          let ask : Request = record { key = key; size = size; threshold = of .terms .threshold } in
+          (pageAnswer P Q ask, record { κs = ([], ([], tt)); p-at = somewhere; q-at = somewhere; promised = refl })
+      go true f = (ownAnswer P key size, (f refl .0, f refl .1, record { κs = ([], tt); w-at = somewhere; promised = refl }))
 
-  pub can-ask : (k : ℕ) {b : Book} {s : List Pair} → History w b s → (P Q : List ℤ) → PumpSheet w P → ChamberSheet w Q → sourceOf P Q (b .source .threshold) ≡ b .source → (size : ℕ) → 1 ≤ size → size ≤ 16
-      → (b′ : Book) × (s′ : List Pair) × Asking w k b s b′ s′
-  can-ask k {b} h P Q p q e size some most = ask-on k h size some most (b .source) refl (serves-two (b .source) size P Q p q e)
+  pub can-ask : (k : ℕ) {b : Book} {s : List Pair} → History w b s → (P Q : List ℤ) → Sheets w (b .source .terms) P Q → (b .source .terms .own ≡ true → P ≡ Q) → sourceOf P Q (b .source .terms) ≡ b .source
+      → (size : ℕ) → 1 ≤ size → size ≤ 16 → (b′ : Book) × (s′ : List Pair) × Asking w k b s b′ s′
+  can-ask k {b} h P Q sheets alike e size some most =
+      ask-on k h size some most (b .source) refl (serves (b .source) size P Q sheets (λ o. (alike o, of-story.begun-fair worldOf (reached h) .no-t o)) e)
 
-  pub can-close : {b : Book} {s : List Pair} → History w b s → length (bookList w b) ≤ length s → (P Q : List ℤ) → PumpSheet w P → ChamberSheet w Q → sourceOf P Q (b .source .threshold) ≡ b .source
+  pub can-close : {b : Book} {s : List Pair} → History w b s → length (bookList w b) ≤ length s → (P Q : List ℤ) → Sheets w (b .source .terms) P Q → (b .source .terms .own ≡ true → P ≡ Q) → sourceOf P Q (b .source .terms) ≡ b .source
       → (b′ : Book) × (s′ : List Pair) × Asking w (suc (length (bookList w b))) b s b′ s′ × (b′ .closed ≡ true)
-  can-close {b} h room P Q p q e =
-      let m = can-ask (suc (length (bookList w b))) h P Q p q e 16 (omega arith) (omega arith) in
-      (m .0, m .1, m .2, closes h room (omega arith) (m .2))
-
-  pub can-ask-own : (k : ℕ) {b : Book} {s : List Pair} → History w b s → (S : List ℤ) → AssetSheet w S → ownSource S ≡ b .source → (size : ℕ) → 1 ≤ size → size ≤ 16
-      → (b′ : Book) × (s′ : List Pair) × Asking w k b s b′ s′
-  can-ask-own k {b} h S p e size some most = ask-on k h size some most (b .source) refl (serves-one (b .source) size S p e)
-
-  pub can-close-own : {b : Book} {s : List Pair} → History w b s → length (bookList w b) ≤ length s → (S : List ℤ) → AssetSheet w S → ownSource S ≡ b .source
-      → (b′ : Book) × (s′ : List Pair) × Asking w (suc (length (bookList w b))) b s b′ s′ × (b′ .closed ≡ true)
-  can-close-own {b} h room S p e =
-      let m = can-ask-own (suc (length (bookList w b))) h S p e 16 (omega arith) (omega arith) in
+  can-close {b} h room P Q sheets alike e =
+      let m = can-ask (suc (length (bookList w b))) h P Q sheets alike e 16 (omega arith) (omega arith) in
       (m .0, m .1, m .2, closes h room (omega arith) (m .2))
 
 -- "Pages and books now say their kind, so that no self join's page enters a two-sheet book": where the kinds differ, an open book that its slots can hold refuses a page by 22.

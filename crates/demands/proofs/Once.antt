@@ -10,6 +10,7 @@ use lib.IntN.{ℤ}
 use denote.Ref.{RefT}
 use Rattle.list.specs.declared.Key.{Key}
 use Rattle.list.specs.declared.Pair.{Pair}
+use Rattle.list.specs.declared.Request.{Request}
 use Rattle.list.specs.declared.Source.{Source}
 use Rattle.list.specs.declared.Page.{Page}
 use Rattle.ring.specs.declared.Head.{Head}
@@ -61,8 +62,8 @@ filter-once P Q j r r′ a b = of-ring.filter-once P Q j r r′ (a .promised) (b
 pub ring-once : (P Q : List ℤ) (j i : ℕ) (r r′ : Walked) → RingAnswers P Q j i r → RingAnswers P Q j i r′ → r ≡ r′
 ring-once P Q j i r r′ a b = of-ring.ring-once P Q j i r r′ (a .promised) (b .promised)
 
-pub page-once : (P Q : List ℤ) (key : Key) (size t : ℕ) (r r′ : Paged) → PageAnswers P Q key size t r → PageAnswers P Q key size t r′ → r ≡ r′
-page-once P Q key size t r r′ a b = of-page.page-once P Q key size t r r′ (a .promised) (b .promised)
+pub page-once : (P Q : List ℤ) (ask : Request) (r r′ : Paged) → PageAnswers P Q ask r → PageAnswers P Q ask r′ → r ≡ r′
+page-once P Q ask r r′ a b = of-page.page-once P Q ask r r′ (a .promised) (b .promised)
 
 pub own-once : (S : List ℤ) (key : Key) (size : ℕ) (r r′ : Paged) → OwnAnswers S key size r → OwnAnswers S key size r′ → r ≡ r′
 own-once S key size r r′ a b = of-own.own-once S key size r r′ (a .promised) (b .promised)
@@ -132,8 +133,8 @@ view-filter-once p q j r r′ x y = of-view.filter-once p p q q j r r′ refl re
 pub view-ring-once : (p q : Sheet) (j i : ℕ) (r r′ : Walked) → ViewRings p q j i r → ViewRings p q j i r′ → r ≡ r′
 view-ring-once p q j i r r′ x y = of-view.ring-once p p q q j i r r′ refl refl x y
 
-pub view-page-once : (p q : Sheet) (key : Key) (size t : ℕ) (r r′ : Paged) → ViewPages p q key size t r → ViewPages p q key size t r′ → r ≡ r′
-view-page-once p q key size t r r′ x y = of-view.page-once p p q q key size t r r′ refl refl x y
+pub view-page-once : (p q : Sheet) (ask : Request) (r r′ : Paged) → ViewPages p q ask r → ViewPages p q ask r′ → r ≡ r′
+view-page-once p q ask r r′ x y = of-view.page-once p p q q ask r r′ refl refl x y
 
 pub view-own-once : (d : Sheet) (key : Key) (size : ℕ) (r r′ : Paged) → ViewOwnPages d key size r → ViewOwnPages d key size r′ → r ≡ r′
 view-own-once d key size r r′ x y = of-view.own-once d d key size r r′ refl x y

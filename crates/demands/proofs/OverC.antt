@@ -16,6 +16,7 @@ use contract.Lifetimes.{Lfts}
 use contract.Monad.{Fun, fact}
 use Rattle.list.specs.declared.Key.{Key}
 use Rattle.list.specs.declared.Pair.{Pair}
+use Rattle.list.specs.declared.Request.{Request}
 use Rattle.list.specs.declared.Source.{Source}
 use Rattle.list.specs.declared.Page.{Page}
 use Rattle.walk.specs.declared.Hit.{Hit}
@@ -157,8 +158,8 @@ own-over S key size r a = record { κs = a .κs; w-at = a .w-at; promised = a .p
 pub partners-over : (P Q : List ℤ) (id t : ℕ) (r : Partnered) → PartnersC P Q id t r → PartnersAnswers P Q id t r
 partners-over P Q id t r a = record { κs = a .κs; p-at = a .p-at; q-at = a .q-at; promised = a .promised }
 
-pub page-over : (P Q : List ℤ) (key : Key) (size t : ℕ) (r : Paged) → PageC P Q key size t r → PageAnswers P Q key size t r
-page-over P Q key size t r a = record { κs = a .κs; p-at = a .p-at; q-at = a .q-at; promised = a .promised }
+pub page-over : (P Q : List ℤ) (ask : Request) (r : Paged) → PageC P Q ask r → PageAnswers P Q ask r
+page-over P Q ask r a = record { κs = a .κs; p-at = a .p-at; q-at = a .q-at; promised = a .promised }
 
 pub shortest-over : (P Q : List ℤ) (k : ℕ) (r : Shortlist) → ShortC P Q k r → ShortAnswers P Q k r
 shortest-over P Q k r a = record { κs = a .κs; p-at = a .p-at; q-at = a .q-at; promised = a .promised }
@@ -246,8 +247,8 @@ filter-c-once P Q j r r′ a b = once.filter-once P Q j r r′ (filter-over P Q 
 pub walk-c-once : (P Q : List ℤ) (j i : ℕ) (r r′ : WalkAnswer) → WalkC P Q j i r → WalkC P Q j i r′ → r ≡ r′
 walk-c-once P Q j i r r′ a b = a .promised ∙ sym (b .promised)
 
-pub page-c-once : (P Q : List ℤ) (key : Key) (size t : ℕ) (r r′ : Paged) → PageC P Q key size t r → PageC P Q key size t r′ → r ≡ r′
-page-c-once P Q key size t r r′ a b = once.page-once P Q key size t r r′ (page-over P Q key size t r a) (page-over P Q key size t r′ b)
+pub page-c-once : (P Q : List ℤ) (ask : Request) (r r′ : Paged) → PageC P Q ask r → PageC P Q ask r′ → r ≡ r′
+page-c-once P Q ask r r′ a b = once.page-once P Q ask r r′ (page-over P Q ask r a) (page-over P Q ask r′ b)
 
 pub own-c-once : (S : List ℤ) (key : Key) (size : ℕ) (r r′ : Paged) → OwnC S key size r → OwnC S key size r′ → r ≡ r′
 own-c-once S key size r r′ a b = once.own-once S key size r r′ (own-over S key size r a) (own-over S key size r′ b)

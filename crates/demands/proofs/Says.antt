@@ -16,6 +16,7 @@ use contract.Monad.{Fun, fact}
 use denote.Ref.{RefT}
 use Rattle.list.specs.declared.Key.{Key}
 use Rattle.list.specs.declared.Pair.{Pair}
+use Rattle.list.specs.declared.Request.{Request}
 use Rattle.list.specs.declared.Page.{Page}
 use Rattle.ring.specs.declared.Pointed.{Pointed}
 use Rattle.ring.specs.declared.Filtered.{Filtered}
@@ -74,10 +75,10 @@ module _ {M : Type 1} (𝓤 : URA M) (H : Heap 𝓤) (A : Atoms 𝓤) (mem : Mem
       ≡ fact 𝓤 (ViewRings p q j i r)
   view-ring-says κs p q j i r = refl
 
-  pub view-page-says : (κs : Lfts 2) (p q : Sheet) (key : Key) (size t : ℕ) (r : Paged)
-      → view-page.ensures-1 𝓤 H κs A mem run p q key size t (record { entry = p; exit = p }) (record { entry = q; exit = q }) (record { entry = key; exit = key }) (record { entry = size; exit = size }) (record { entry = t; exit = t }) r
-      ≡ fact 𝓤 (ViewPages p q key size t r)
-  view-page-says κs p q key size t r = refl
+  pub view-page-says : (κs : Lfts 2) (p q : Sheet) (ask : Request) (r : Paged)
+      → view-page.ensures-1 𝓤 H κs A mem run p q ask (record { entry = p; exit = p }) (record { entry = q; exit = q }) (record { entry = ask; exit = ask }) r
+      ≡ fact 𝓤 (ViewPages p q ask r)
+  view-page-says κs p q ask r = refl
 
   pub view-own-page-says : (κs : Lfts 1) (d : Sheet) (key : Key) (size : ℕ) (r : Paged)
       → view-own-page.ensures-1 𝓤 H κs A mem run d key size (record { entry = d; exit = d }) (record { entry = key; exit = key }) (record { entry = size; exit = size }) r ≡ fact 𝓤 (ViewOwnPages d key size r)

@@ -7,6 +7,7 @@ use lib.IntN.{ℤ}
 use contract.Lifetimes.{Lfts}
 use Rattle.list.specs.declared.Key.{Key}
 use Rattle.list.specs.declared.Pair.{Pair}
+use Rattle.list.specs.declared.Request.{Request}
 use Rattle.list.specs.declared.Source.{Source}
 use Rattle.ring.specs.declared.Head.{Head}
 use Rattle.ring.specs.declared.Filtered.{Filtered}
@@ -74,12 +75,12 @@ pub record WalkC (P Q : List ℤ) (j i : ℕ) (r : WalkAnswer) : Type 0 where
   pub q-at : Place
   pub promised : walk-c.Post κs (slice p-at P, (slice q-at Q, (j, (i, tt)))) r (slice p-at P, (slice q-at Q, (j, (i, tt))))
 
--- `ring_page(P, Q, key, size, t)` answers r
-pub record PageC (P Q : List ℤ) (key : Key) (size t : ℕ) (r : Paged) : Type 0 where
+-- `ring_page(P, Q, ask)` answers r
+pub record PageC (P Q : List ℤ) (ask : Request) (r : Paged) : Type 0 where
   pub κs : Lfts 2
   pub p-at : Place
   pub q-at : Place
-  pub promised : page-c.Post κs (slice p-at P, (slice q-at Q, (key, (size, (t, tt))))) r (slice p-at P, (slice q-at Q, (key, (size, (t, tt)))))
+  pub promised : page-c.Post κs (slice p-at P, (slice q-at Q, (ask, tt))) r (slice p-at P, (slice q-at Q, (ask, tt)))
 
 -- `ring_own_page(S, key, size)` answers r
 pub record OwnC (S : List ℤ) (key : Key) (size : ℕ) (r : Paged) : Type 0 where

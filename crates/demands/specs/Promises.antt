@@ -1,4 +1,4 @@
--- What the shipped calls promise, under one name for each call: `PageAnswers P Q key size t r` says that r is an answer which the `ensures` of the page request
+-- What the shipped calls promise, under one name for each call: `PageAnswers P Q ask r` says that r is an answer which the `ensures` of the page request
 -- admits, where the words P and Q, the key, the size and the threshold t are handed in. The theorems of this crate start from these, so whoever weakens an `ensures` breaks them.
 --
 -- `Post` of a call is its `ensures`, read as a plain claim: of the lifetimes κs of what is lent, the arguments, the answer, and the arguments at exit.
@@ -6,6 +6,7 @@
 -- The calls over slices of records (`Book::next_key`, `Book::take`, `runs::leaf_run`) and over views (`view::open`, `point_at`, `filter_walk_at`, `ring_walk_at`, `page_at`, `own_page_at`, `partners_at`, `nearest_at`) have no such reading.
 -- Theirs is stated here, and proofs/Says shows that it is their `ensures`, word for word.
 use mathlib.Core.Path.{_≡_}
+use mathlib.Core.Bool.{Bool, true, false}
 use mathlib.Core.List.{List}
 use Prim.Native.Nat.{ℕ}
 use lib.IntN.{ℤ}
@@ -15,7 +16,9 @@ use contract.Lifetimes.{Lfts}
 use denote.Ref.{RefT, now}
 use Rattle.list.specs.declared.Key.{Key}
 use Rattle.list.specs.declared.Pair.{Pair}
+use Rattle.list.specs.declared.Request.{Request}
 use Rattle.list.specs.declared.Source.{Source}
+use Rattle.list.specs.declared.Terms.{Terms}
 use Rattle.list.specs.declared.Page.{Page}
 use Rattle.ring.specs.Answers.{pointed, filtered, walked}
 use Rattle.ring.specs.Page.{pageAnswer}
@@ -106,18 +109,26 @@ pub record RingAnswers (P Q : List ℤ) (j i : ℕ) (r : Walked) : Type 0 where
   pub q-at : Place
   pub promised : ring-walk.Post κs (slice p-at P, (slice q-at Q, (j, (i, tt)))) r (slice p-at P, (slice q-at Q, (j, (i, tt))))
 
--- `ring::page::page(P, Q, key, size, t)` answers r
-pub record PageAnswers (P Q : List ℤ) (key : Key) (size t : ℕ) (r : Paged) : Type 0 where
+-- `ring::page::page(P, Q, ask)` answers r
+pub record PageAnswers (P Q : List ℤ) (ask : Request) (r : Paged) : Type 0 where
   pub κs : Lfts 2
   pub p-at : Place
   pub q-at : Place
-  pub promised : page.Post κs (slice p-at P, (slice q-at Q, (key, (size, (t, tt))))) r (slice p-at P, (slice q-at Q, (key, (size, (t, tt)))))
+  pub promised : page.Post κs (slice p-at P, (slice q-at Q, (ask, tt))) r (slice p-at P, (slice q-at Q, (ask, tt)))
 
 -- `ring::own::own_page(S, key, size)` answers r
 pub record OwnAnswers (S : List ℤ) (key : Key) (size : ℕ) (r : Paged) : Type 0 where
   pub κs : Lfts 1
   pub w-at : Place
   pub promised : own-page.Post κs (slice w-at S, (key, (size, tt))) r (slice w-at S, (key, (size, tt)))
+
+-- An answer of the page request of these terms: of two sheets, or of a self join, which is of the one sheet in both places and has no t.
+abbrev pub OfKind : Bool → Terms → List ℤ → List ℤ → Key → ℕ → Paged → Type 0
+OfKind false a P Q key size r = PageAnswers P Q (record { key = key; size = size; threshold = a .threshold }) r
+OfKind true a P Q key size r = (P ≡ Q) × (a .threshold ≡ 0) × OwnAnswers P key size r
+
+abbrev pub TermsAnswers : Terms → List ℤ → List ℤ → Key → ℕ → Paged → Type 0
+TermsAnswers a P Q key size r = OfKind (a .own) a P Q key size r
 
 -- `ring::partners::partners(P, Q, id, t)` answers r
 pub record PartnersAnswers (P Q : List ℤ) (id t : ℕ) (r : Partnered) : Type 0 where
@@ -232,9 +243,9 @@ ViewFilters p q j r = r ≡ filtered (now (p .words)) (now (q .words)) j
 abbrev pub ViewRings : Sheet → Sheet → ℕ → ℕ → Walked → Type 0
 ViewRings p q j i r = r ≡ walked (now (p .words)) (now (q .words)) j i
 
--- `view::page_at(p, q, key, size, t)` answers r
-abbrev pub ViewPages : Sheet → Sheet → Key → ℕ → ℕ → Paged → Type 0
-ViewPages p q key size t r = r ≡ pageAnswer (now (p .words)) (now (q .words)) key size t
+-- `view::page_at(p, q, ask)` answers r
+abbrev pub ViewPages : Sheet → Sheet → Request → Paged → Type 0
+ViewPages p q ask r = r ≡ pageAnswer (now (p .words)) (now (q .words)) ask
 
 -- `view::own_page_at(d, key, size)` answers r
 abbrev pub ViewOwnPages : Sheet → Key → ℕ → Paged → Type 0

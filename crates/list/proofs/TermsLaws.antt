@@ -10,7 +10,7 @@
 --     self-iff, self-exact      two records of one set, the lower id first, are listed exactly if no record of it, no other record of it, blocks the pair; self-low: never the higher id first
 -- Assumes nothing.
 use mathlib.Core.Path.{_≡_, refl, sym, ap, _∙_}
-use mathlib.Core.Bool.{Bool, true, false, cond, not, _&&_, _||_}
+use mathlib.Core.Bool.{Bool, true, false, cond, not, _&&_}
 use mathlib.Core.Logic.{_↔_}
 use mathlib.Core.List.{List, [], List·Memᴰ}
 use Prim.Native.Nat.{ℕ, _≤_, _<_}
@@ -29,7 +29,7 @@ use Rattle.list.specs.declared.Source.{Source}
 use Rattle.list.specs.declared.Terms.{Terms}
 use Rattle.list.specs.Pairs.{start, none, keyOf, ascends, chamberPairs}
 use Rattle.list.specs.Pages.{pageOf, followed}
-use Rattle.list.specs.Rows.{row, atLeast, listBy, Rising}
+use Rattle.list.specs.Rows.{atLeast, listBy, Rising}
 use Rattle.list.specs.RingList.{unblocked, ringPair, sizeOf, pairAt, ringList, partnersOf, Sound}
 use Rattle.list.specs.Terms.{full, withT, alone, pairFor, listedFor, listFor}
 use Rattle.list.proofs.Order.{once-key}

@@ -12,6 +12,7 @@ use Rattle.sheet.specs.Layout.{points, nodes}
 use Rattle.sheet.specs.Open.{sheetNo}
 use Rattle.ring.specs.Answers.{pointed, filtered, walked}
 use Rattle.list.specs.declared.Key.{Key}
+use Rattle.list.specs.declared.Request.{Request}
 use Rattle.ring.specs.Page.{pageAnswer}
 use Rattle.ring.specs.Own.{ownAnswer}
 use Rattle.ring.specs.Partners.{partnersAnswer}
@@ -59,9 +60,9 @@ ring-once p p′ q q′ j i r r′ v w e f = e ∙ ap (λ (x : List ℤ). walked
 pub own-once : (d d′ : Sheet) (key : Key) (size : ℕ) (r r′ : Paged) → now (d .words) ≡ now (d′ .words) → r ≡ ownAnswer (now (d .words)) key size → r′ ≡ ownAnswer (now (d′ .words)) key size → r ≡ r′
 own-once d d′ key size r r′ w e f = e ∙ ap (λ (x : List ℤ). ownAnswer x key size) w ∙ sym f
 
-pub page-once : (p p′ q q′ : Sheet) (key : Key) (size t : ℕ) (r r′ : Paged) → now (p .words) ≡ now (p′ .words) → now (q .words) ≡ now (q′ .words)
-    → r ≡ pageAnswer (now (p .words)) (now (q .words)) key size t → r′ ≡ pageAnswer (now (p′ .words)) (now (q′ .words)) key size t → r ≡ r′
-page-once p p′ q q′ key size t r r′ v w e f = e ∙ ap (λ (x : List ℤ). pageAnswer x (now (q .words)) key size t) v ∙ ap (λ (y : List ℤ). pageAnswer (now (p′ .words)) y key size t) w ∙ sym f
+pub page-once : (p p′ q q′ : Sheet) (ask : Request) (r r′ : Paged) → now (p .words) ≡ now (p′ .words) → now (q .words) ≡ now (q′ .words)
+    → r ≡ pageAnswer (now (p .words)) (now (q .words)) ask → r′ ≡ pageAnswer (now (p′ .words)) (now (q′ .words)) ask → r ≡ r′
+page-once p p′ q q′ ask r r′ v w e f = e ∙ ap (λ (x : List ℤ). pageAnswer x (now (q .words)) ask) v ∙ ap (λ (y : List ℤ). pageAnswer (now (p′ .words)) y ask) w ∙ sym f
 
 pub partners-once : (p p′ q q′ : Sheet) (id t : ℕ) (r r′ : Partnered) → now (p .words) ≡ now (p′ .words) → now (q .words) ≡ now (q′ .words)
     → r ≡ partnersAnswer (now (p .words)) (now (q .words)) id t → r′ ≡ partnersAnswer (now (p′ .words)) (now (q′ .words)) id t → r ≡ r′
