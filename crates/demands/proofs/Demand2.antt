@@ -5,6 +5,7 @@
 --     kept-partner       the filter walk keeps every ring partner.  kept-count, kept-unused: its count is that of the positions kept, and unused bits are 0
 --     clear-iff          the ring walk is clear exactly for a ring pair; point-blocks, side-blocks: what it names does block, and a side that it names is the first that qualifies
 --     pair-exact         a ring pair is a kept position whose ring walk is clear, and no other
+--     made-list          the pairs made with exact kept sets and ring walks are the list, as lists; filter-list: with those of the filter walk and the ring walk
 --     page-pairs         a page of any terms (t, kind) is that of their list: pairs, number, end mark.  page-opened: the count beside it is that of the defined walks
 --     pair-size          each pair that a page shows has the squared diameter of the places of its two records
 --     pages-list         following the pages from (0, 0) gives the list.  list-ascends, list-once: it runs by q id, then p id, each once, by ids.  list-only: nothing else is in it
@@ -16,6 +17,7 @@
 --     opened-at-most-m   one walk of one sheet opens at most its nodes
 --     run-pairs          a leaf's run stores the ring pairs of its chambers, by place, then p id, and touches no other slot.  run-exact, run-only: these and no others.  run-order: in this order.  run-size: each with its squared diameter
 --     run-opened         the count beside it is that of the defined walks.  run-at-most-m: its walk of P opens at most the nodes of P
+--     run-ruled          what the walk keeps for a chamber no other chamber of the leaf rules out.  run-skipped, run-opens: a box is skipped exactly when each chamber skips it
 --     runs-list          a pair is listed exactly if the run of one leaf has it, and then no other leaf's has it.  stored-once: no run has it twice
 --     own-exact          the self join of one sheet: two different records, lower id first, exactly if no other record blocks.  own-low: never the higher id first
 --     return-trip        pack, then open, gives the same points back
@@ -34,7 +36,7 @@ use Rattle.integers.proofs.Bools.{decide}
 use Rattle.words.specs.Range.{lastId}
 use Rattle.words.proofs.TabLaws.{at-tab}
 use Rattle.plane.specs.Point.{Point, pointAt, idAt, spotAt}
-use Rattle.plane.specs.Rule.{blocks}
+use Rattle.plane.specs.Rule.{blocks, drops}
 use Rattle.sheet.specs.Limits.{form1}
 use Rattle.sheet.specs.Layout.{points, nodes, edition}
 use Rattle.sheet.specs.Nodes.{levelOf, countOf}
@@ -50,7 +52,7 @@ use Rattle.list.specs.declared.Terms.{Terms}
 use Rattle.list.specs.declared.Request.{Request}
 use Rattle.list.specs.Pairs.{start, none, keyOf, ascends, after, chamberPairs}
 use Rattle.list.specs.Pages.{sizeNo, pageOf, pagePairs, shown, followed, lastThreshold}
-use Rattle.list.specs.Rows.{Rising}
+use Rattle.list.specs.Rows.{listBy, Rising}
 use Rattle.list.specs.RingList.{ringPair, sizeOf, pairAt, ringList}
 use Rattle.list.specs.Terms.{full, withT, alone, listedFor, listFor}
 use Rattle.list.proofs.PageLaws.{size-fits, page-shows, shown-member}
@@ -59,12 +61,12 @@ use Rattle.list.proofs.Order.{after-all}
 use Rattle.list.proofs.NearestLaws as of-nearest
 use Rattle.list.proofs.TermsLaws as of-terms
 use Rattle.list.proofs.TermsLaws.{for-ascends, for-once, for-only, for-size, threshold-pairs, threshold-iff}
-use Rattle.list.proofs.RowLaws.{Placed, ring-ascends, ring-iff, ring-size}
+use Rattle.list.proofs.RowLaws.{list-same, Placed, ring-ascends, ring-iff, ring-size}
 use Rattle.walk.specs.declared.Blocker.{Blocker}
 use Rattle.walk.specs.declared.Edge.{Edge}
 use Rattle.walk.specs.declared.Hit.the-variants.{Point as PointHit, Side}
 use Rattle.walk.specs.declared.Answer.{Answer}
-use Rattle.walk.specs.FilterWalk.{filterKept}
+use Rattle.walk.specs.FilterWalk.{Kept, soFar, filterKept}
 use Rattle.walk.specs.RingWalk.{pairWalk}
 use Rattle.walk.specs.Claims.{BlocksPair, BlocksPairBySide, overP, overQ}
 use Rattle.walk.proofs.Meaning as of-walk
@@ -96,9 +98,9 @@ use Rattle.ring.proofs.PartnersLaws as of-partners
 use Rattle.pack.specs.Pack.{pointsIn}
 use Rattle.pack.specs.Claims.{Returned}
 use Rattle.pack.proofs.ReturnTrip as of-pack
-use Rattle.leaf.specs.LeafWalk.{chamberAt, chamberSpot, leafKept}
+use Rattle.leaf.specs.LeafWalk.{chamberAt, chamberSpot, skips, leafVisit, leafKept, leafKeeps}
 use Rattle.leaf.specs.LeafRun.{leafList, leafOpened}
-use Rattle.leaf.proofs.LeafLaws.{chamber-in, leaf-few, leaf-opened}
+use Rattle.leaf.proofs.LeafLaws.{chamber-in, leaf-few, leaf-free, box-skipped, box-opened, leaf-opened}
 use Rattle.leaf.proofs.RunLaws as of-leaf
 use Rattle.runs.specs.declared.Run.{Run}
 use Rattle.runs.specs.Run.{leafNo, runNo, runGiven, runAnswer}
@@ -206,6 +208,18 @@ module _ (P Q : List ℤ) (p-opens : WellFormed P) (q-opens : WellFormed Q) wher
 
   rise-q : Rising (idAt (pointsOf Q)) (length (pointsOf Q))
   rise-q = of-join.points-rise (facts Q q-opens)
+
+  -- So the pairs made with kept sets and ring walks, chamber by chamber, are the list: an equation of lists, of whatever kept sets and walks are exact.
+  pub made-list : (keeps clears : ℕ → ℕ → Bool) → ((j i : ℕ) → j < points Q → i < points P → ringPair (pointsOf P) (pointsOf Q) j i ≡ (keeps j i && clears j i))
+      → listBy (λ j i. keeps j i && clears j i) (pairAt (pointsOf P) (pointsOf Q)) (points P) (points Q) ≡ ringList (pointsOf P) (pointsOf Q)
+  unfolding ringList
+  made-list keeps clears exact =
+      list-same (λ j i. keeps j i && clears j i) (ringPair (pointsOf P) (pointsOf Q)) (pairAt (pointsOf P) (pointsOf Q)) (points P) (points Q) (λ j i h g. sym (exact j i h g))
+      ∙ ap₂ (λ (n m : ℕ). listBy (ringPair (pointsOf P) (pointsOf Q)) (pairAt (pointsOf P) (pointsOf Q)) n m) (sym (length-points P)) (sym (length-points Q))
+
+  pub filter-list : (f : ℕ → Filtered) (r : ℕ → ℕ → Walked) → ((j : ℕ) → j < points Q → FilterAnswers P Q j (f j)) → ((j i : ℕ) → j < points Q → i < points P → RingAnswers P Q j i (r j i))
+      → listBy (λ j i. kept (f j .bits) i && walkedClear (r j i)) (pairAt (pointsOf P) (pointsOf Q)) (points P) (points Q) ≡ ringList (pointsOf P) (pointsOf Q)
+  filter-list f r a b = made-list (λ j i. kept (f j .bits) i) (λ j i. walkedClear (r j i)) (λ j i h g. pair-exact j h i g (f j) (r j i) (a j h) (b j i h g))
 
   -- ---- pages, of any terms: of two sheets, the full list or that of t; or of one sheet in both places, the self join
 
@@ -379,6 +393,21 @@ module _ (P Q : List ℤ) (p-opens : WellFormed P) (q-opens : WellFormed Q) wher
   pub record LeafOf (v : ℕ) : Type 0 where
     pub here : v < nodes Q
     pub level : levelOf Q (points Q) v ≡ 0
+
+  -- "another chamber of the leaf rules out a partner just as a kept pump house does": what the leaf's walk, whose nodes are counted, keeps for a chamber is ruled out by no
+  -- other chamber of the leaf.
+  pub run-ruled : (v : ℕ) → LeafOf v → (k i : ℕ) → k < countOf Q (points Q) v → i < points P → leafKeeps (chamberSpot Q v) (countOf Q (points Q) v) 16 P k i ≡ true
+      → (h : ℕ) → h < countOf Q (points Q) v → (h ≡ k → ⊥) → drops (chamberSpot Q v k) (chamberSpot Q v h) (spotOf P i) ≡ false
+  run-ruled v o k i k-in i-in = leaf-free (chamberSpot Q v) (countOf Q (points Q) v) 16 P (facts P p-opens) (leaf-few Q (facts Q q-opens) v (o .here) (o .level)) (fits P p-opens) k i k-in (omega (arith, fits P p-opens))
+
+  -- "A box is skipped exactly when each chamber of the leaf skips it": then no node is opened and nothing is kept; as soon as one does not, it is opened and counted.
+  pub run-skipped : (v j : ℕ) (go : Kept → Kept) (s : Kept) → ((k : ℕ) → k < countOf Q (points Q) v → skips (chamberSpot Q v) (countOf Q (points Q) v) 16 P (points P) j (s .bits) k ≡ true)
+      → leafVisit (chamberSpot Q v) (countOf Q (points Q) v) 16 P (points P) j go s ≡ s
+  run-skipped v = box-skipped (chamberSpot Q v) (countOf Q (points Q) v) 16 P (points P)
+
+  pub run-opens : (v j : ℕ) (go : Kept → Kept) (s : Kept) (k : ℕ) → k < countOf Q (points Q) v → skips (chamberSpot Q v) (countOf Q (points Q) v) 16 P (points P) j (s .bits) k ≡ false
+      → leafVisit (chamberSpot Q v) (countOf Q (points Q) v) 16 P (points P) j go s ≡ go (soFar (s .bits) (s .opened + 1))
+  run-opens v = box-opened (chamberSpot Q v) (countOf Q (points Q) v) 16 P (points P)
 
   module _ (v : ℕ) (o : LeafOf v) (slots : List Pair) (r : Run) (slots′ : List Pair) (a : RunAnswers P Q v slots r slots′) where
     leaf-there : leafNo Q v ≡ 0

@@ -250,6 +250,13 @@ module _ (w : Editions) where
       (progress h o e room r s′ t .2))
       (decide (b .closed))
 
+  -- what asks and takes goes on from one history to the next, with one list
+  pub goes-on : {k : ℕ} {b b′ : Book} {s s′ : List Pair} → History w b s → Asking w k b s b′ s′ → History w b′ s′ × (b′ .source ≡ b .source)
+  goes-on h (stops b s) = (h, refl)
+  goes-on h (asks {b = b} {slots = s} g r s′ o t more) =
+      let m = goes-on (took g r s′ h (own-answered h o) t) more in
+      (m .0, m .1 ∙ ap (λ (x : Taken). x .book .source) (t .0) ∙ of-take.same-book-source b s g)
+
   -- None of this is empty talk: where there is a sheet of each of its two editions, or one of a self join's edition, a book can ask any number of times, and so it can be closed.
   ask-on : (k : ℕ) {b : Book} {s : List Pair} → History w b s → (size : ℕ) → 1 ≤ size → size ≤ 16 → (of : Source) → b .source ≡ of → ((key : Key) → (r : Paged) × Asks w of key size r)
       → (b′ : Book) × (s′ : List Pair) × Asking w k b s b′ s′

@@ -9,8 +9,8 @@
 --     near-filter-pairs  a pump house is a ring partner of the chamber exactly if it is kept and its ring walk is clear: the pairs so made are the list's
 --     near-opened        it opens at most the nodes of P
 -- Assumes nothing.
-use mathlib.Core.Path.{_≡_, sym, ap, subst, _∙_}
-use mathlib.Core.Bool.{_&&_}
+use mathlib.Core.Path.{_≡_, refl, sym, ap, subst, _∙_}
+use mathlib.Core.Bool.{Bool, _&&_}
 use mathlib.Core.List.{List}
 use Prim.Native.Nat.{ℕ, min, _+_, _-_, _≤_, _<_}
 use native.Mathlib.Omega.{arith}
@@ -23,20 +23,23 @@ use Rattle.sheet.specs.Layout.{points, nodes}
 use Rattle.sheet.specs.Places.{spotOf, pointsOf}
 use Rattle.sheet.specs.Open.{Opens}
 use Rattle.sheet.proofs.SheetLaws.{open-facts, form1-fair}
-use Rattle.list.specs.RingList.{ringPair}
+use Rattle.list.specs.Rows.{listBy}
+use Rattle.list.specs.RingList.{ringPair, pairAt, ringList}
 use Rattle.bits.specs.Set.{kept}
 use Rattle.walk.specs.RingWalk.{clear, pairWalk}
 use Rattle.near.specs.NearWalk.{nearOrder, nearKept}
 use Rattle.near.specs.Room.{wiped}
 use Rattle.near.specs.Claims.{NotAfter, times}
 use Rattle.near.proofs.Meaning as of-near
+use Rattle.walk.proofs.Meaning as of-walk
 use Rattle.ring.specs.declared.Filtered.{Filtered}
-use Rattle.ring.specs.Answers.{filteredTo}
+use Rattle.ring.specs.declared.Walked.{Walked}
+use Rattle.ring.specs.Answers.{filteredTo, walkedClear}
 use Rattle.nearest.specs.declared.Found.{Found}
 use Rattle.nearest.specs.Nearest.{standsAt, noPoint, nearAt, nearestAt}
 use Rattle.nearest.proofs.Meaning as of-nearest
-use Rattle.demands.specs.Promises.{NearestAnswers, NearFilterAnswers}
-use Rattle.demands.proofs.Demand2.{WellFormed, sheets, fits}
+use Rattle.demands.specs.Promises.{RingAnswers, NearestAnswers, NearFilterAnswers}
+use Rattle.demands.proofs.Demand2.{WellFormed, sheets, fits, clear-iff, made-list}
 
 -- the order in which the pump houses stand for a place: by squared distance to it, on a tie by position
 module _ (P : List ℤ) (opens : WellFormed P) (q : Spot) where
@@ -98,3 +101,14 @@ module _ (P Q : List ℤ) (p-opens : WellFormed P) (q-opens : WellFormed Q) (id 
     pub near-opened : r .opened ≤ nodes P
     unfolding filteredTo
     near-opened = subst (λ (x : Filtered). x .opened ≤ nodes P) (sym kept-is) (of-near.near-opened-at-most-m 16 P (spotOf Q j) p-facts (fits P p-opens))
+
+-- "Pairs made with its kept set equal the list": of the filter that goes nearest first and the ring walk, asked for each chamber, as lists.
+pub near-filter-list : (P Q : List ℤ) (p-opens : WellFormed P) (q-opens : WellFormed Q) (ws : List ℕ) → points P + nodes P ≤ length ws
+    → (f : ℕ → Filtered) (t : ℕ → List ℕ) (r : ℕ → ℕ → Walked)
+    → ((j : ℕ) → j < points Q → NearFilterAnswers P Q (idAt (pointsOf Q) j) ws (f j) (t j)) → ((j i : ℕ) → j < points Q → i < points P → RingAnswers P Q j i (r j i))
+    → listBy (λ j i. kept (f j .bits) i && walkedClear (r j i)) (pairAt (pointsOf P) (pointsOf Q)) (points P) (points Q) ≡ ringList (pointsOf P) (pointsOf Q)
+near-filter-list P Q p-opens q-opens ws enough f t r a b =
+    made-list P Q p-opens q-opens (λ j i. kept (f j .bits) i) (λ j i. walkedClear (r j i))
+    (λ j i h g.
+    near-filter-pairs P Q p-opens q-opens (idAt (pointsOf Q) j) j h refl ws enough (f j) (t j) (a j h) i g
+    ∙ ap (λ (c : Bool). kept (f j .bits) i && c) (of-walk.pair-clear P Q (open-facts form1 form1-fair P p-opens) (open-facts form1 form1-fair Q q-opens) j i h g ∙ sym (clear-iff P Q p-opens q-opens j h i g (r j i) (b j i h g))))

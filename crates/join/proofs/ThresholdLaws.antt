@@ -21,6 +21,7 @@ use Rattle.walk.proofs.SiftLaws.{oneIf, sum-cap}
 use Rattle.list.specs.declared.Key.{Key}
 use Rattle.list.specs.declared.Pair.{Pair}
 use Rattle.list.specs.Rows.{row, atLeast, Rising, Named}
+use Rattle.list.proofs.RowLaws.{row-same}
 use Rattle.list.proofs.ThresholdLaws.{least-none}
 use Rattle.join.specs.declared.Draft.{Draft}
 use Rattle.join.specs.Walks.{Walks}
@@ -42,11 +43,6 @@ row-many rule pair j (suc k) i = go (rule j i) _ ∙ omega (arith, row-many rule
     go : (t : Bool) (l : List Pair) → length (cond t (pair j i ∷ l) l) ≡ oneIf t + length l
     go true l = omega arith
     go false l = omega arith
-
-pub row-same : (a b : ℕ → ℕ → Bool) (pair : ℕ → ℕ → Pair) (j k i : ℕ) → ((x : ℕ) → i ≤ x → x < i + k → a j x ≡ b j x) → row a pair j k i ≡ row b pair j k i
-unfolding row
-row-same a b pair j zero i e = refl
-row-same a b pair j (suc k) i e = rw (e i (omega arith) (omega arith), row-same a b pair j k (i + 1) (λ x h g. e x (omega arith) (omega arith)))
 
 -- ---- what the walks find
 

@@ -1,18 +1,18 @@
 -- What the filter walk of a leaf run brings about: of every chamber of the leaf, each position is kept for it, or a kept one drops it, or another chamber does.
 -- Assumes nothing.
-use mathlib.Core.Path.{_≡_, refl, sym, ap, subst, _∙_}
+use mathlib.Core.Path.{_≡_, refl, sym, ap, ap₂, subst, _∙_}
 use mathlib.Core.Bool.{Bool, true, false, cond, not, _&&_, _||_}
 use mathlib.Core.Logic.{_⊎_, inl, inr, ⊎-elim}
 use mathlib.Core.List.{List}
 use Prim.Native.Nat.{ℕ, zero, suc, _+_, _*_, _<_, _≤_}
 use native.Mathlib.Omega.{arith}
 use lib.Dec.{eqb, ltb}
-use borrow.Author.Tests.{ltb-true, ltb-false}
+use borrow.Author.Tests.{ltb-true, ltb-false, ne-eqb, not-true, not-false}
 use lib.IntN.{ℤ}
 use lib.ListN.{length}
-use Rattle.integers.proofs.Bools.{and-left, and-right, and-both, decide, clash, test-iff}
+use Rattle.integers.proofs.Bools.{and-left, and-right, and-both, or-false-right, decide, clash, test-iff}
 use Rattle.words.specs.All.{allB}
-use Rattle.words.proofs.AllLaws.{all-at}
+use Rattle.words.proofs.AllLaws.{all-at, all-make}
 use Rattle.plane.specs.declared.Spot.{Spot}
 use Rattle.plane.specs.Rule.{drops, dropsBox}
 use Rattle.plane.proofs.RuleLaws.{box-drops}
@@ -58,6 +58,10 @@ some-of (suc n) p e =
         (λ (t : allB n (λ i. not (p i)) ≡ true). clash e (ap not (and-both _ _ t (ap not f))))
         (λ (t : allB n (λ i. not (p i)) ≡ false). ap not t)
         (decide (allB n (λ i. not (p i))))
+
+-- where it holds at none, it fails at each
+none-of : (n : ℕ) (p : ℕ → Bool) → someB n p ≡ false → (i : ℕ) → i < n → p i ≡ false
+none-of n p e i h = not-true (p i) (all-at (λ i. not (p i)) n (not-false (allB n (λ i. not (p i))) e) i h)
 
 or-cases : (a b : Bool) → (a || b) ≡ true → (a ≡ true) ⊎ (b ≡ true)
 or-cases true b e = inl refl
@@ -110,10 +114,11 @@ module _ (q : ℕ → Spot) (c words : ℕ) (w : List ℤ) (n : ℕ) where
   abbrev pub Settled : ℕ → List ℕ → ℕ → Type 0
   Settled h b i = (kept b (slot words h i) ≡ true) ⊎ (Beaten h b i ⊎ Ruled h i)
 
-  -- sixteen sets, in those of the chambers no position past the points
+  -- sixteen sets, in those of the chambers no position past the points, and none that another chamber of the leaf rules out
   pub record Right (b : List ℕ) : Type 0 where
     pub long : length b ≡ 16 * words
     pub low : (h i : ℕ) → i < 64 * words → kept b (slot words h i) ≡ true → i < n
+    pub free : (h i : ℕ) → h < c → i < 64 * words → kept b (slot words h i) ≡ true → (g : ℕ) → g < c → (g ≡ h → ⊥) → drops (q h) (q g) (spotOf w i) ≡ false
 
   pub record Grows (b b′ : List ℕ) : Type 0 where
     pub stays : (i : ℕ) → kept b i ≡ true → kept b′ i ≡ true
@@ -156,6 +161,12 @@ module _ (q : ℕ → Spot) (c words : ℕ) (w : List ℤ) (n : ℕ) where
         fits : slot words h i < 64 * length b
         fits = omega (arith, slot-fits words h i (omega arith) (omega arith), r .long)
 
+        -- no other chamber rules it out
+        passed : ruledOut q c words w n (λ p. drops (q h) p (spotOf w i)) h b ≡ false → (f : ℕ) → f < c → (f ≡ h → ⊥) → drops (q h) (q f) (spotOf w i) ≡ false
+        passed e f fc ne =
+            let z = none-of c (λ g. not (eqb g h) && drops (q h) (q g) (spotOf w i)) (or-false-right (someB n (λ p. kept b (slot words h p) && drops (q h) (spotOf w p) (spotOf w i))) _ (unfold ruledOut in e)) f fc in
+            sym (ap (λ (a : Bool). not a && drops (q h) (q f) (spotOf w i)) (ne-eqb f h ne)) ∙ z
+
         go : (t : Bool) → ruledOut q c words w n (λ p. drops (q h) p (spotOf w i)) h b ≡ t → Does Right Grows (λ s g. Settled g s i) b (cond t b (with b (slot words h i))) (λ g. g ≡ h)
         go true e = record { good = r; more = record { stays = λ j x. x }; done = λ g z. subst (λ (x : ℕ). Settled x b i) (sym z) (settle _ h i b (λ p x. x) e) }
         go false e =
@@ -170,6 +181,15 @@ module _ (q : ℕ → Spot) (c words : ℕ) (w : List ℤ) (n : ℕ) where
                         let t : slot words h j ≡ slot words h i = ap (λ (a : ℕ). slot words a j) (sym s) ∙ z in
                         omega (arith, t))
                         (λ (z : kept b (slot words g j) ≡ true). r .low g j x z)
+                        (kept-only b (slot words h i) (slot words g j) fits y);
+                    free = λ g j a x y f fc ne.
+                        ⊎-elim
+                        (λ (z : slot words g j ≡ slot words h i).
+                        let s : g ≡ h = slot-set words g h j i x (omega arith) z in
+                        let t : slot words h j ≡ slot words h i = ap (λ (a : ℕ). slot words a j) (sym s) ∙ z in
+                        let same : j ≡ i = omega (arith, t) in
+                        ap₂ (λ (a b : ℕ). drops (q a) (q f) (spotOf w b)) s same ∙ passed e f fc (λ z. ne (z ∙ sym s)))
+                        (λ (z : kept b (slot words g j) ≡ true). r .free g j a x z f fc ne)
                         (kept-only b (slot words h i) (slot words g j) fits y);
                   };
               more = record { stays = λ j x. kept-more b (slot words h i) j fits x };
@@ -220,6 +240,23 @@ module _ (q : ℕ → Spot) (c words : ℕ) (w : List ℤ) (n : ℕ) where
       pub leaf-does : (m ≡ 0 → n ≡ 0) → (k : Kept) → Good k → Does Good More Met k (walkAll w n m (leafVisit q c words w n) (leafTake q c words w n) k) (λ r. r < n)
       leaf-does z = all-does Good More Met leaf-steps w n m ok (leafVisit q c words w n) (leafTake q c words w n) take-does visit-does z
 
+-- ---- a box
+
+module _ (q : ℕ → Spot) (c words : ℕ) (w : List ℤ) (n : ℕ) where
+  -- "A box is skipped exactly when each chamber of the leaf skips it": then nothing changes ..
+  pub box-skipped : (j : ℕ) (go : Kept → Kept) (k : Kept) → ((h : ℕ) → h < c → skips q c words w n j (k .bits) h ≡ true) → leafVisit q c words w n j go k ≡ k
+  unfolding leafVisit
+  box-skipped j go k each = ap (λ (t : Bool). cond t k (go (soFar (k .bits) (k .opened + 1)))) (all-make (skips q c words w n j (k .bits)) c each)
+
+  -- .. and as soon as one chamber does not, the node is opened, and counted
+  pub box-opened : (j : ℕ) (go : Kept → Kept) (k : Kept) (h : ℕ) → h < c → skips q c words w n j (k .bits) h ≡ false → leafVisit q c words w n j go k ≡ go (soFar (k .bits) (k .opened + 1))
+  unfolding leafVisit
+  box-opened j go k h l e =
+      ⊎-elim
+      (λ (t : allB c (skips q c words w n j (k .bits)) ≡ true). clash (all-at (skips q c words w n j (k .bits)) c t h l) e)
+      (λ (t : allB c (skips q c words w n j (k .bits)) ≡ false). ap (λ (x : Bool). cond x k (go (soFar (k .bits) (k .opened + 1)))) t)
+      (decide (allB c (skips q c words w n j (k .bits))))
+
 -- ---- nodes opened
 
 module _ (q : ℕ → Spot) (c words : ℕ) (w : List ℤ) (n : ℕ) where
@@ -253,7 +290,7 @@ module _ (q : ℕ → Spot) (c words : ℕ) (w : List ℤ) (o : Opens w (points 
   module _ (few : c ≤ 16) (enough : points w ≤ 64 * words) where
     whole : Does (λ (k : Kept). Right q c words w (points w) (k .bits)) (λ (k k′ : Kept). Grows q c words w (points w) (k .bits) (k′ .bits)) (λ (k : Kept) (r : ℕ). (h : ℕ) → h < c → Settled q c words w (points w) h (k .bits) (orderOf w (points w) r)) (soFar (none (16 * words)) 0) (leafKept q c words w) (λ r. r < points w)
     unfolding leafKept
-    whole = leaf-does q c words w (points w) few enough (nodes w) (o .ordered) (o .table) (o .tight) (o .empty) (soFar (none (16 * words)) 0) (record { long = none-length (16 * words); low = λ h i l e. clash e (none-kept (16 * words) (slot words h i)) })
+    whole = leaf-does q c words w (points w) few enough (nodes w) (o .ordered) (o .table) (o .tight) (o .empty) (soFar (none (16 * words)) 0) (record { long = none-length (16 * words); low = λ h i l e. clash e (none-kept (16 * words) (slot words h i)); free = λ h i a l e. clash e (none-kept (16 * words) (slot words h i)) })
 
     pub leaf-long : length (leafKept q c words w .bits) ≡ 16 * words
     leaf-long = whole .good .long
@@ -261,6 +298,10 @@ module _ (q : ℕ → Spot) (c words : ℕ) (w : List ℤ) (o : Opens w (points 
     -- every kept position is below n
     pub leaf-below : (h i : ℕ) → i < 64 * words → leafKeeps q c words w h i ≡ true → i < points w
     leaf-below = whole .good .low
+
+    -- "another chamber of the leaf rules out a partner just as a kept pump house does": what is kept for a chamber no other chamber of the leaf rules out
+    pub leaf-free : (h i : ℕ) → h < c → i < 64 * words → leafKeeps q c words w h i ≡ true → (g : ℕ) → g < c → (g ≡ h → ⊥) → drops (q h) (q g) (spotOf w i) ≡ false
+    leaf-free = whole .good .free
 
     -- for each chamber every position below n is settled
     pub leaf-settled : (h : ℕ) → h < c → (i : ℕ) → i < points w → Settled q c words w (points w) h (leafKept q c words w .bits) i

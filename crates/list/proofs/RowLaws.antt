@@ -3,7 +3,7 @@
 use mathlib.Core.Path.{_≡_, refl, sym, ap, ap₂, _∙_}
 use mathlib.Core.Bool.{Bool, true, false, cond}
 use mathlib.Core.Logic.{_↔_, ⊎-elim}
-use mathlib.Core.List.{List, _∷_, List·Memᴰ, List·Memᴰ·head, List·Memᴰ·tail, List·Memᴰ·not-nil, List·Memᴰ·cases-cons, Memᴰ·append-left, Memᴰ·append-right, List·Memᴰ·append-cases}
+use mathlib.Core.List.{List, _∷_, _++_, List·Memᴰ, List·Memᴰ·head, List·Memᴰ·tail, List·Memᴰ·not-nil, List·Memᴰ·cases-cons, Memᴰ·append-left, Memᴰ·append-right, List·Memᴰ·append-cases}
 use Prim.Native.Nat.{ℕ, zero, suc, _+_, _≤_, _<_}
 use native.Mathlib.Omega.{arith}
 use native.Mathlib.Numerals.{add-one}
@@ -104,6 +104,23 @@ module _ (rule : ℕ → ℕ → Bool) (pair : ℕ → ℕ → Pair) (nq np : �
       (λ (x : j ≡ t). rw x (Memᴰ·append-left (rows rule pair np k (t + 1)) (placed-row t np 0 u (omega arith) (omega arith) e)))
       (λ (x : j < t). Memᴰ·append-right (row rule pair j np 0) (placed-rows k (j + 1) t u (omega arith) (omega arith) c e))
       (eq-or-lt-of-le a)
+
+-- ---- rules that agree make one list
+
+pub row-same : (a b : ℕ → ℕ → Bool) (pair : ℕ → ℕ → Pair) (j k i : ℕ) → ((x : ℕ) → i ≤ x → x < i + k → a j x ≡ b j x) → row a pair j k i ≡ row b pair j k i
+unfolding row
+row-same a b pair j zero i e = refl
+row-same a b pair j (suc k) i e = rw (e i (omega arith) (omega arith), row-same a b pair j k (i + 1) (λ x h g. e x (omega arith) (omega arith)))
+
+rows-same : (a b : ℕ → ℕ → Bool) (pair : ℕ → ℕ → Pair) (n k j : ℕ) → ((y x : ℕ) → j ≤ y → y < j + k → x < n → a y x ≡ b y x) → rows a pair n k j ≡ rows b pair n k j
+unfolding rows
+rows-same a b pair n zero j e = refl
+rows-same a b pair n (suc k) j e =
+    ap₂ (λ (x y : List Pair). x ++ y) (row-same a b pair j n 0 (λ x h g. e j x (omega arith) (omega arith) (omega arith))) (rows-same a b pair n k (j + 1) (λ y x h g l. e y x (omega arith) (omega arith) l))
+
+pub list-same : (a b : ℕ → ℕ → Bool) (pair : ℕ → ℕ → Pair) (np nq : ℕ) → ((j i : ℕ) → j < nq → i < np → a j i ≡ b j i) → listBy a pair np nq ≡ listBy b pair np nq
+unfolding listBy
+list-same a b pair np nq e = rows-same a b pair np nq 0 (λ y x h g l. e y x (omega arith) l)
 
 -- ---- rows by ids that rise
 
