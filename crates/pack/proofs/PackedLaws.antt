@@ -1,34 +1,34 @@
 -- The words of a packed sheet, part by part; a list that is written word by word; and a node's side from the boxes already written.
 -- Assumes nothing.
 use mathlib.Core.Path.{_≡_, refl, sym, ap, subst, _∙_}
-use mathlib.Core.Bool.{Bool, true, false}
+use mathlib.Core.Bool.{true, false, _&&_}
 use mathlib.Core.Logic.{⊎-elim}
 use mathlib.Core.List.{List, []}
 use Prim.Native.Nat.{ℕ, zero, suc, _+_, _*_, _-_, _/_, _%_, _<_, _≤_}
-use native.Mathlib.Nat.{le-antisymm}
 use native.Mathlib.Omega.{arith}
 use lib.Dec.{ltb, eqb}
 use lib.IntN.{ℤ, pos}
 use lib.ListN.{length, set, length-set}
 use lib.Seq.{getD-set-same, getD-set-other, ext-getD}
-use borrow.Author.Tests.{lt-ltb, le-ltb, ltb-true, ltb-false, ne-eqb}
-use Rattle.integers.proofs.Bools.{decide}
-use Rattle.words.specs.Word.{at, num}
+use borrow.Author.Tests.{lt-ltb, le-ltb, ltb-true, ltb-false, ne-eqb, eqb-true, eqb-false}
+use Rattle.integers.proofs.Bools.{and-both, decide}
+use Rattle.words.specs.Word.{at, num, eqZ, isBelow}
 use Rattle.words.specs.All.{tab}
-use Rattle.words.proofs.AllLaws.{below-suc}
+use Rattle.words.proofs.AllLaws.{all-make, below-suc}
 use Rattle.words.proofs.TabLaws.{length-tab, at-tab}
 use Rattle.sheet.specs.declared.Due.{Due}
+use Rattle.sheet.specs.declared.Sides.{Sides}
 use Rattle.sheet.specs.Layout.{rootWord}
-use Rattle.sheet.specs.Order.{orderOf}
-use Rattle.sheet.specs.Boxes.{best, sideOf, coordOf, partOf}
+use Rattle.sheet.specs.Order.{orderWord, rankWord, orderOf, rankOf, placeOk, orderOk}
+use Rattle.sheet.specs.Boxes.{best, sideOf, coordOf, partOf, bestSides, Readable}
 use Rattle.sheet.proofs.Permute.{same?}
 use Rattle.sheet.proofs.BoxLaws.{best-cong}
 use Rattle.pack.specs.Tree.{nodesFor, planOf, planCount}
 use Rattle.pack.specs.Order.{placeIn, orderListOk}
 use Rattle.pack.specs.Packed.{flatWord, coordIn, boxSide, nodeWord, bodyWord, trailerWord, packWord, sheetSize, packed}
-use Rattle.pack.specs.Work.{Holds, nodeRead, headWord, sidesPut, boxPut}
-use Rattle.pack.proofs.OrderLaws.{place-hit, list-below, list-back, list-place}
-use Rattle.pack.proofs.TableLaws.{Planned, node-stood, count-range, plan-child, plan-leaf}
+use Rattle.pack.specs.Work.{Holds, nodeRead, headWord, sidesPut}
+use Rattle.pack.proofs.OrderLaws.{place-hit, place-is, list-word, list-below, list-back, list-place}
+use Rattle.pack.proofs.TableLaws.{Planned, num-of, plan-few, node-stood, count-range, plan-child, plan-leaf}
 
 -- ---- the words, part by part
 
@@ -228,6 +228,25 @@ module _ (p o : List ℤ) (n size : ℕ) (w : List ℤ) (k : ℕ) (ok : orderLis
             (decide (ltb j (4 * n)));
       }
 
+-- ---- the order, once it is written
+
+module _ (p o w : List ℤ) (n : ℕ) (h : Holds w (bodyWord p o n) (5 * n)) where
+  order-same : (i : ℕ) → i < n → orderWord w n i ≡ at o i
+  order-same i g = h .word (3 * n + i) (omega arith) ∙ order-word p o n i g
+
+  rank-same : (i : ℕ) → i < n → rankWord w n i ≡ pos (placeIn o i n)
+  rank-same i g = h .word (4 * n + i) (omega arith) ∙ rank-word p o n i g
+
+  pub order-right : orderListOk o n ≡ true → orderOk w n ≡ true
+  unfolding orderOk placeOk rankOf isBelow
+  order-right ok =
+      all-make (placeOk w n) n
+      (λ i g.
+      let r = list-place o n ok i g in
+      and-both (isBelow n (orderWord w n i) && isBelow n (rankWord w n i)) _
+      (and-both (isBelow n (orderWord w n i)) (isBelow n (rankWord w n i)) (ap (isBelow n) (order-same i g) ∙ list-word o n ok i g) (ap (isBelow n) (rank-same i g) ∙ lt-ltb (placeIn o i n) n r))
+      (ap (λ (j : ℕ). eqZ (orderWord w n j) (pos i)) (num-of _ _ (rank-same i g)) ∙ ap (λ (z : ℤ). eqZ z (pos i)) (order-same (placeIn o i n) r) ∙ place-is o i n r))
+
 -- ---- a node's box from what is written before it
 
 module _ (p o w : List ℤ) (n j : ℕ) (ok : orderListOk o n ≡ true) (h : Holds w (bodyWord p o n) (5 * n + 7 * j)) where
@@ -240,15 +259,6 @@ module _ (p o w : List ℤ) (n j : ℕ) (ok : orderListOk o n ≡ true) (h : Hol
   coord-read q k g =
       let b = list-below o n ok k g in
       rw (order-read k g) (h .word (3 * num (at o k) + 1 + q % 2) (omega arith) ∙ point-word p o n (3 * num (at o k) + 1 + q % 2) (omega arith))
-
-  -- a leaf's parts, read from the point words and the order list
-  pub point-part : (q k i : ℕ) → k < n → i ≡ 3 * num (at o k) + 1 + q % 2 → at p i ≡ partOf w n true q k
-  unfolding partOf coordIn
-  point-part q k i g e = ap (λ (x : ℕ). at p x) e ∙ sym (coord-read q k g)
-
-  pub point-first : (q k i : ℕ) → k < n → i ≡ 3 * num (at o k) + 1 + q % 2 → at p i ≡ best q (partOf w n true q) k 0
-  unfolding best
-  point-first = point-part
 
   pub side-read : (q k : ℕ) → q < 4 → k < j → sideOf w n q k ≡ boxSide p o n q (planOf n k .level) k
   unfolding sideOf
@@ -319,10 +329,13 @@ head-is w n d (suc zero) l = refl
 head-is w n d (suc (suc zero)) l = refl
 head-is w n d (suc (suc (suc f))) l = absurd (omega arith)
 
--- the four sides that a pass over all parts has found are the box
-pub put-found : (w : List ℤ) (n : ℕ) (leaf : Bool) (j a i c : ℕ) {r : List ℤ} {x y u v : ℤ} → r ≡ sidesPut w (5 * n + 7 * j + 3) x y u v → i ≤ c → c ≤ i → x ≡ best 0 (partOf w n leaf 0) a i → y ≡ best 1 (partOf w n leaf 1) a i → u ≡ best 2 (partOf w n leaf 2) a i → v ≡ best 3 (partOf w n leaf 3) a i → r ≡ boxPut w n leaf j a c
-unfolding boxPut
-put-found w n leaf j a i c f g h e₀ e₁ e₂ e₃ = f ∙ rw (e₀, e₁, e₂, e₃, le-antisymm g h)
+-- so what it covers can be read, once the order is written
+pub parts-reach : (w : List ℤ) (n j : ℕ) (d : Due) (c : ℕ) → n ≤ 60000 → j < nodesFor n → d ≡ planOf n j → c ≡ planCount d → orderOk w n ≡ true → 5 * n + 7 * nodesFor n ≤ length w → Readable w n (eqb (d .level) 0) (d .next + (c - 1))
+parts-reach w n j d c g h e f o l =
+    record {
+      place = λ t. (omega arith, o, omega (arith, leaf-reach n j d g h e (eqb-true (d .level) 0 t)));
+      node = λ t. let r = child-reach n j d g h e (eqb-false (d .level) 0 t) in (omega (arith, plan-few n), omega arith);
+    }
 
 -- the box of node j more
 module _ (p o w : List ℤ) (n j : ℕ) (ok : orderListOk o n ≡ true) (d : Due) (s : d ≡ planOf n j) (le : n ≤ 60000) (b : j < nodesFor n) (l : 5 * n + 7 * (j + 1) ≤ length w) (h : Holds w (bodyWord p o n) (5 * n + 7 * j + 3)) where
@@ -330,20 +343,19 @@ module _ (p o w : List ℤ) (n j : ℕ) (ok : orderListOk o n ≡ true) (d : Due
   side-is f g =
       ap (λ (x : Due). nodeRead w n x f) s ∙ read-is p o w n j ok (holds-fewer w (bodyWord p o n) _ (5 * n + 7 * j) (omega arith) h) (omega arith) b f g
 
-  pub box-more : (leaf : Bool) (a c : ℕ) → leaf ≡ eqb (d .level) 0 → a ≡ d .next → c ≡ planCount d - 1 → Holds (boxPut w n leaf j a c) (bodyWord p o n) (5 * n + 7 * (j + 1))
-  unfolding boxPut sidesPut nodeRead
-  box-more leaf a c e₁ e₂ e₃ =
+  pub box-more : (x : Sides) (c : ℕ) → c ≡ planCount d - 1 → x ≡ bestSides w n (eqb (d .level) 0) (d .next) c → Holds (sidesPut w (5 * n + 7 * j + 3) x) (bodyWord p o n) (5 * n + 7 * (j + 1))
+  unfolding sidesPut nodeRead bestSides
+  box-more x c e f =
       let k = 5 * n + 7 * j + 3 in
-      let v : ℕ → ℤ = λ q. best q (partOf w n leaf q) a c in
-      let same : (q : ℕ) → v q ≡ best q (partOf w n (eqb (d .level) 0) q) (d .next) (planCount d - 1) = λ q. rw (e₁, e₂, e₃) refl in
-      let w₀ = set w k (v 0) in
-      let w₁ = set w₀ (k + 1) (v 1) in
-      let w₂ = set w₁ (k + 2) (v 2) in
+      let best-is = f ∙ ap (bestSides w n (eqb (d .level) 0) (d .next)) e in
+      let w₀ = set w k (x .xmin) in
+      let w₁ = set w₀ (k + 1) (x .ymin) in
+      let w₂ = set w₁ (k + 2) (x .xmax) in
       let l₀ : length w₀ ≡ length w = simp length-set in
       let l₁ : length w₁ ≡ length w = simp length-set in
       let l₂ : length w₂ ≡ length w = simp length-set in
-      let h₀ = holds-more w (bodyWord p o n) k (v 0) (omega arith) (same 0 ∙ side-is 3 (omega arith)) h in
-      let h₁ = holds-more w₀ (bodyWord p o n) (k + 1) (v 1) (omega arith) (same 1 ∙ side-is 4 (omega arith) ∙ ap (bodyWord p o n) (omega arith)) h₀ in
-      let h₂ = holds-more w₁ (bodyWord p o n) (k + 2) (v 2) (omega arith) (same 2 ∙ side-is 5 (omega arith) ∙ ap (bodyWord p o n) (omega arith)) (holds-fewer w₁ (bodyWord p o n) (k + 1 + 1) (k + 2) (omega arith) h₁) in
-      let h₃ = holds-more w₂ (bodyWord p o n) (k + 3) (v 3) (omega arith) (same 3 ∙ side-is 6 (omega arith) ∙ ap (bodyWord p o n) (omega arith)) (holds-fewer w₂ (bodyWord p o n) (k + 2 + 1) (k + 3) (omega arith) h₂) in
+      let h₀ = holds-more w (bodyWord p o n) k (x .xmin) (omega arith) (ap (λ (y : Sides). y .xmin) best-is ∙ side-is 3 (omega arith)) h in
+      let h₁ = holds-more w₀ (bodyWord p o n) (k + 1) (x .ymin) (omega arith) (ap (λ (y : Sides). y .ymin) best-is ∙ side-is 4 (omega arith) ∙ ap (bodyWord p o n) (omega arith)) h₀ in
+      let h₂ = holds-more w₁ (bodyWord p o n) (k + 2) (x .xmax) (omega arith) (ap (λ (y : Sides). y .xmax) best-is ∙ side-is 5 (omega arith) ∙ ap (bodyWord p o n) (omega arith)) (holds-fewer w₁ (bodyWord p o n) (k + 1 + 1) (k + 2) (omega arith) h₁) in
+      let h₃ = holds-more w₂ (bodyWord p o n) (k + 3) (x .ymax) (omega arith) (ap (λ (y : Sides). y .ymax) best-is ∙ side-is 6 (omega arith) ∙ ap (bodyWord p o n) (omega arith)) (holds-fewer w₂ (bodyWord p o n) (k + 2 + 1) (k + 3) (omega arith) h₂) in
       holds-fewer _ (bodyWord p o n) (k + 3 + 1) (5 * n + 7 * (j + 1)) (omega arith) h₃

@@ -1,7 +1,7 @@
 -- The return trip: what the packer writes is opened, and has the same points. For any limits that leave room for the tree.
 -- Assumes nothing.
 use mathlib.Core.Path.{_≡_, refl, sym, ap, subst, _∙_}
-use mathlib.Core.Bool.{true, false, _&&_, Bool·beq}
+use mathlib.Core.Bool.{true, false, Bool·beq}
 use mathlib.Core.Logic.{⊎-elim}
 use mathlib.Core.List.{List}
 use Prim.Native.Nat.{ℕ, zero, suc, _+_, _*_, _-_, _<_, _≤_}
@@ -9,9 +9,9 @@ use native.Mathlib.Omega.{arith}
 use lib.Dec.{eqb}
 use lib.IntN.{ℤ, pos}
 use lib.ListN.{length}
-use borrow.Author.Tests.{lt-ltb, le-ltb, le-leb, eq-eqb, ne-eqb, eqb-true, eqb-false}
+use borrow.Author.Tests.{le-ltb, le-leb, eq-eqb, ne-eqb, eqb-true, eqb-false}
 use Rattle.integers.proofs.Bools.{and-both, decide}
-use Rattle.words.specs.Word.{at, eqZ, within, isBelow}
+use Rattle.words.specs.Word.{at, within}
 use Rattle.words.specs.Range.{editionOk, editionWord}
 use Rattle.words.specs.All.{tab}
 use Rattle.words.proofs.Signs.{eq-eqZ}
@@ -24,20 +24,18 @@ use Rattle.words.specs.First.{given, first}
 use Rattle.sheet.specs.Layout.{form, edition, mWord, nWord, root, span, points, nodes, rootWord, countsOk, layoutOk, trailerNo}
 use Rattle.sheet.specs.Points.{fieldsOk, risesOk, pointOk, pointsOk}
 use Rattle.sheet.specs.Places.{spotOf, pointOf, pointsOf}
-use Rattle.sheet.specs.Order.{orderWord, rankWord, rankOf, placeOk, orderOk}
 use Rattle.sheet.specs.Nodes.{nodesOk}
 use Rattle.sheet.specs.Boxes.{tightSide, tightOk}
 use Rattle.sheet.specs.Open.{bodyNo, openNo}
 use Rattle.sheet.proofs.BoxLaws.{best-cong}
 use Rattle.pack.specs.Tree.{oneLeft, nodesFrom, nodesFor, planOf}
-use Rattle.pack.specs.Order.{placeIn, orderListOk}
+use Rattle.pack.specs.Order.{orderListOk}
 use Rattle.pack.specs.Packed.{boxSide, trailerWord, packed}
 use Rattle.pack.specs.Pack.{pointsIn, packNo, packOut}
 use Rattle.pack.specs.Claims.{Roomy, Returned}
 use Rattle.pack.proofs.PackLaws.{pack-facts, range-few, range-edition, out-refused, out-packed}
-use Rattle.pack.proofs.OrderLaws.{list-word, list-place, place-is}
 use Rattle.pack.proofs.TableLaws.{num-of, plan-few, plan-some, plan-child, plan-leaf, table-right, node-stood, count-range, level-is, first-is, count-is}
-use Rattle.pack.proofs.PackedLaws.{point-word, order-word, rank-word, packed-size, packed-body, packed-trail, packed-plan, coord-read, side-read}
+use Rattle.pack.proofs.PackedLaws.{point-word, order-right, holds-fewer, packed-size, packed-body, packed-trail, packed-plan, coord-read, side-read}
 
 in-range : (a b : ℕ) → a ≤ b → within (pos 0) (pos b) (pos a) ≡ true
 unfolding within
@@ -46,12 +44,6 @@ in-range a b g = rw (le-leb 0 a (omega arith), le-leb a b g)
 module _ (p o : List ℤ) (n ed : ℕ) where
   point-same : (i : ℕ) → i < 3 * n → at (packed p o n ed) i ≡ at p i
   point-same i h = packed-body p o n ed .word i (omega arith) ∙ point-word p o n i h
-
-  order-same : (i : ℕ) → i < n → orderWord (packed p o n ed) n i ≡ at o i
-  order-same i h = packed-body p o n ed .word (3 * n + i) (omega arith) ∙ order-word p o n i h
-
-  rank-same : (i : ℕ) → i < n → rankWord (packed p o n ed) n i ≡ pos (placeIn o i n)
-  rank-same i h = packed-body p o n ed .word (4 * n + i) (omega arith) ∙ rank-word p o n i h
 
   -- ---- the trailer
 
@@ -116,17 +108,6 @@ module _ (p o : List ℤ) (n ed : ℕ) where
       same i h = rw (point-same (3 * i) (omega arith), point-same (3 * i + 1) (omega arith), point-same (3 * i + 2) (omega arith), point-same (3 * (i - 1)) (omega arith))
 
   module _ (ok : orderListOk o n ≡ true) where
-    order-right : orderOk (packed p o n ed) n ≡ true
-    unfolding orderOk placeOk rankOf isBelow
-    order-right =
-        all-make (placeOk (packed p o n ed) n) n
-        (λ i h.
-        let w = packed p o n ed in
-        let r = list-place o n ok i h in
-        and-both (isBelow n (orderWord w n i) && isBelow n (rankWord w n i)) _
-        (and-both (isBelow n (orderWord w n i)) (isBelow n (rankWord w n i)) (ap (isBelow n) (order-same i h) ∙ list-word o n ok i h) (ap (isBelow n) (rank-same i h) ∙ lt-ltb (placeIn o i n) n r))
-        (ap (λ (j : ℕ). eqZ (orderWord w n j) (pos i)) (num-of _ _ (rank-same i h)) ∙ ap (λ (z : ℤ). eqZ z (pos i)) (order-same (placeIn o i n) r) ∙ place-is o i n r))
-
     -- the packer's box is the tightest
     side-tight : n ≤ 4294967296 → (q l j : ℕ) → j < nodesFor n → planOf n j .level ≡ l → boxSide p o n q l j ≡ tightSide (packed p o n ed) n q l j
     unfolding boxSide tightSide
@@ -185,7 +166,7 @@ module _ (p o : List ℤ) (n ed : ℕ) where
   unfolding openNo bodyNo nodesOk first given
   packed-opens lim r h e f g =
       let le : n ≤ 4294967296 = omega (arith, r .low) in
-      rw (trailer-right lim r h e, points-is, nodes-is, points-right lim f, order-right g, zero-right, table-right (packed p o n ed) n (packed-plan p o n ed) le, boxes-right g le)
+      rw (trailer-right lim r h e, points-is, nodes-is, points-right lim f, order-right p o (packed p o n ed) n (holds-fewer _ _ _ _ (omega arith) (packed-body p o n ed)) g, zero-right, table-right (packed p o n ed) n (packed-plan p o n ed) le, boxes-right g le)
 
   -- with the same points, in the same order
   pub packed-points : pointsOf (packed p o n ed) ≡ pointsIn n p

@@ -1,20 +1,30 @@
 -- What the functions that write a sheet say of their work: how far they have come, and how the next node and its words are made from what is there.
 -- No promise of `pack` cites these.
 use mathlib.Core.Path.{_≡_}
-use mathlib.Core.Bool.{Bool, cond}
+use mathlib.Core.Bool.{true, cond}
 use mathlib.Core.List.{List}
-use Prim.Native.Nat.{ℕ, _+_, _*_, _-_, _<_}
+use Prim.Native.Nat.{ℕ, _+_, _-_, _<_}
 use lib.Dec.{eqb, ltb}
 use lib.IntN.{ℤ, pos}
 use lib.ListN.{set}
 use Rattle.words.specs.Word.{at}
 use Rattle.sheet.specs.declared.Due.{Due}
+use Rattle.sheet.specs.declared.Sides.{Sides}
 use Rattle.sheet.specs.Boxes.{best, partOf}
 use Rattle.pack.specs.Tree.{planCount}
+use Rattle.pack.specs.Order.{orderListOk}
+use Rattle.pack.specs.Packed.{bodyWord}
 
 -- the first i words of w are f 0, f 1, ..
 pub record Holds (w : List ℤ) (f : ℕ → ℤ) (i : ℕ) : Type 0 where
   pub word : (k : ℕ) → k < i → at w k ≡ f k
+
+-- the first i words of w are those of a sheet of n points, whatever its points and its order are
+pub record Written (w : List ℤ) (n i : ℕ) : Type 0 where
+  pub points : List ℤ
+  pub order : List ℤ
+  pub ordered : orderListOk order n ≡ true
+  pub holds : Holds w (bodyWord points order n) i
 
 -- what is planned of node j + 1, from what is planned of node j; `Stood` of proofs/PlanLaws shows that it is `planOf`
 unfoldable pub follow : ℕ → Due → Due
@@ -36,10 +46,5 @@ unfoldable pub headWord : Due → ℕ → ℤ
 headWord d f = cond (eqb f 0) (pos (d .level)) (cond (eqb f 1) (pos (d .next)) (pos (planCount d)))
 
 -- w with four sides written from k on
-unfoldable pub sidesPut : List ℤ → ℕ → ℤ → ℤ → ℤ → ℤ → List ℤ
-sidesPut w k xmin ymin xmax ymax = set (set (set (set w k xmin) (k + 1) ymin) (k + 2) xmax) (k + 3) ymax
-
--- w with the box of node j written: of a leaf or not, the best of its parts a to a + c
-unfoldable pub boxPut : List ℤ → ℕ → Bool → ℕ → ℕ → ℕ → List ℤ
-boxPut w n leaf j a c =
-    sidesPut w (5 * n + 7 * j + 3) (best 0 (partOf w n leaf 0) a c) (best 1 (partOf w n leaf 1) a c) (best 2 (partOf w n leaf 2) a c) (best 3 (partOf w n leaf 3) a c)
+unfoldable pub sidesPut : List ℤ → ℕ → Sides → List ℤ
+sidesPut w k o = set (set (set (set w k (o .xmin)) (k + 1) (o .ymin)) (k + 2) (o .xmax)) (k + 3) (o .ymax)

@@ -1,67 +1,79 @@
 -- Laws of boxes: the test from the table, a node's box against those of the nodes that it covers, is the document's, against the points below it.
 -- Assumes nothing.
 use mathlib.Core.Path.{_≡_, refl, sym, ap, _∙_}
-use mathlib.Core.Bool.{Bool, true, false, cond}
+use mathlib.Core.Bool.{Bool, true, false, _&&_}
+use mathlib.Core.Logic.{⊎-elim}
 use mathlib.Core.List.{List}
-use Prim.Native.Nat.{ℕ, zero, suc, _+_, _*_, _-_, _%_, _<_, _≤_}
-use native.Mathlib.Nat.{le-antisymm}
+use Prim.Native.Nat.{ℕ, zero, suc, _+_, _*_, _-_, _<_, _≤_}
 use native.Mathlib.Numerals.{add-one}
 use native.Mathlib.Omega.{arith}
-use lib.Dec.{eqb, ltb}
+use lib.Dec.{eqb}
 use lib.IntN.{ℤ, pos}
+use lib.ListN.{length}
+use lib.Signed.{mag}
+use mir.Syntax.{w32}
+use mir.Val.{toZ, ofZ}
 use borrow.Author.Tests.{eq-eqb, ne-eqb, eqb-true, eqb-false}
-use Rattle.words.specs.Word.{at, eqZ, minZ, maxZ}
+use Rattle.words.specs.Word.{at, eqZ}
 use Rattle.words.specs.All.{allB}
-use Rattle.integers.proofs.Bools.{test-iff}
-use Rattle.words.proofs.Signs.{eqZ-eq, eq-eqZ}
+use Rattle.integers.proofs.Bools.{decide, test-iff}
+use Rattle.words.proofs.Signs.{eqZ-eq, eq-eqZ, handed}
 use Rattle.words.proofs.AllLaws.{all-at, all-make}
-use Rattle.sheet.specs.Order.{orderOf}
+use Rattle.sheet.specs.declared.Sides.{Sides}
+use Rattle.sheet.specs.Order.{orderOf, orderOk}
 use Rattle.sheet.specs.Nodes.{levelWord, levelOf, firstOf, countOf, tableOk}
-use Rattle.sheet.specs.Boxes.{sideOf, coordOf, better, best, partOf, tightSide, tightOk, sideOk, sidesAre, boxIs, boxOk, boxesOk}
+use Rattle.sheet.specs.Boxes.{sideOf, coordOf, better, best, partOf, tightSide, tightOk, sideOk, partSides, around, bestSides, sidesAre, Readable, boxOk, boxesOk}
 use Rattle.sheet.proofs.TreeLaws.{run-at, child, leaf}
 
 best-more : (q : ℕ) (v : ℕ → ℤ) (a i : ℕ) → better q (best q v a i) (v (a + (i + 1))) ≡ best q v a (i + 1)
 unfolding best
 best-more q v a i = rw add-one
 
--- one part more, of a side that bounds from below, and of one that bounds from above
-pub least-more : (q : ℕ) (v : ℕ → ℤ) (a i : ℕ) {x y z : ℤ} → ltb q 2 ≡ true → z ≡ minZ x y → x ≡ best q v a i → y ≡ v (a + (i + 1)) → z ≡ best q v a (i + 1)
-unfolding better
-least-more q v a i {x} {y} {z} t e f g =
-    e ∙ rw (f, g) (sym (ap (λ (b : Bool). cond b (minZ (best q v a i) (v (a + (i + 1)))) (maxZ (best q v a i) (v (a + (i + 1))))) t) ∙ best-more q v a i)
+-- one part more, all four sides
+pub around-more : (w : List ℤ) (n : ℕ) (leaf : Bool) (a i : ℕ) {o p r : Sides} → r ≡ around o p → o ≡ bestSides w n leaf a i → p ≡ partSides w n leaf (a + (i + 1)) → r ≡ bestSides w n leaf a (i + 1)
+unfolding around bestSides partSides
+around-more w n leaf a i e f g =
+    e ∙ rw (f, g)
+    (λ x. record { xmin = best-more 0 (partOf w n leaf 0) a i x; ymin = best-more 1 (partOf w n leaf 1) a i x; xmax = best-more 2 (partOf w n leaf 2) a i x; ymax = best-more 3 (partOf w n leaf 3) a i x })
 
-pub greatest-more : (q : ℕ) (v : ℕ → ℤ) (a i : ℕ) {x y z : ℤ} → ltb q 2 ≡ false → z ≡ maxZ x y → x ≡ best q v a i → y ≡ v (a + (i + 1)) → z ≡ best q v a (i + 1)
-unfolding better
-greatest-more q v a i {x} {y} {z} t e f g =
-    e ∙ rw (f, g) (sym (ap (λ (b : Bool). cond b (minZ (best q v a i) (v (a + (i + 1)))) (maxZ (best q v a i) (v (a + (i + 1))))) t) ∙ best-more q v a i)
+-- the first alone
+pub around-one : (w : List ℤ) (n : ℕ) (leaf : Bool) (a : ℕ) → partSides w n leaf a ≡ bestSides w n leaf a 0
+unfolding partSides bestSides best
+around-one w n leaf a = refl
 
--- the words that are a leaf's parts, and those of a higher node
-pub leaf-part : (w : List ℤ) (n q k h : ℕ) → h ≡ 3 * orderOf w n k + 1 + q % 2 → at w h ≡ partOf w n true q k
-unfolding partOf coordOf
-leaf-part w n q k h e = ap (λ (i : ℕ). at w i) e
+-- what can be read up to a part can be read before it
+pub readable-fewer : (w : List ℤ) (n : ℕ) (leaf : Bool) (i k : ℕ) → i ≤ k → Readable w n leaf k → Readable w n leaf i
+readable-fewer w n leaf i k h r =
+    record { place = λ e. let x = r .place e in (x .0, x .1, omega arith); node = λ e. let x = r .node e in (omega arith, omega arith) }
 
-pub inner-part : (w : List ℤ) (n q k h : ℕ) → h ≡ 5 * n + 7 * k + 3 + q → at w h ≡ partOf w n false q k
-unfolding partOf sideOf
-inner-part w n q k h e = ap (λ (i : ℕ). at w i) e
+pub readable-few : (w : List ℤ) (n : ℕ) (leaf : Bool) (k : ℕ) → n ≤ 60000 → Readable w n leaf k → k < 60000
+readable-few w n leaf k h r = ⊎-elim (λ e. let x = r .place e in omega arith) (λ e. let x = r .node e in omega arith) (decide leaf)
 
--- the first of them, alone
-pub leaf-first : (w : List ℤ) (n q k h : ℕ) {z : ℤ} → z ≡ at w h → h ≡ 3 * orderOf w n k + 1 + q % 2 → z ≡ best q (partOf w n true q) k 0
-unfolding best
-leaf-first w n q k h f e = f ∙ leaf-part w n q k h e
+-- the sides of a leaf's part, from the two words at h, and of any other's, from the four
+pub place-sides : (w : List ℤ) (n k h : ℕ) {x y : ℤ} → h ≡ 3 * orderOf w n k + 1 → x ≡ at w h → y ≡ at w (h + 1) → record { xmin = x; ymin = y; xmax = x; ymax = y } ≡ partSides w n true k
+unfolding partSides partOf coordOf
+place-sides w n k h e f g =
+    let x : h ≡ 3 * orderOf w n k + 1 + 0 = omega arith in
+    let y : h + 1 ≡ 3 * orderOf w n k + 1 + 1 = omega arith in
+    rw (f, g, y, x)
 
-pub inner-first : (w : List ℤ) (n q k h : ℕ) {z : ℤ} → z ≡ at w h → h ≡ 5 * n + 7 * k + 3 + q → z ≡ best q (partOf w n false q) k 0
-unfolding best
-inner-first w n q k h f e = f ∙ inner-part w n q k h e
+pub node-sides : (w : List ℤ) (n k h : ℕ) {x y u v : ℤ} → h ≡ 5 * n + 7 * k + 3 → x ≡ at w (h + 0) → y ≡ at w (h + 1) → u ≡ at w (h + 2) → v ≡ at w (h + 3) → record { xmin = x; ymin = y; xmax = u; ymax = v } ≡ partSides w n false k
+unfolding partSides partOf sideOf
+node-sides w n k h e f₀ f₁ f₂ f₃ = rw (f₀, f₁, f₂, f₃, e)
 
--- the test of the four sides that a pass over all parts has found
-pub box-found : (w : List ℤ) (n : ℕ) (leaf : Bool) (j a i c : ℕ) {r : Bool} {x y u v : ℤ} → r ≡ sidesAre w n j x y u v → i ≤ c → c ≤ i → x ≡ best 0 (partOf w n leaf 0) a i → y ≡ best 1 (partOf w n leaf 1) a i → u ≡ best 2 (partOf w n leaf 2) a i → v ≡ best 3 (partOf w n leaf 3) a i → r ≡ boxIs w n leaf j a c
-unfolding boxIs
-box-found w n leaf j a i c f g h e₀ e₁ e₂ e₃ = f ∙ rw (e₀, e₁, e₂, e₃, le-antisymm g h)
+-- a side, as it is read from the struct
+pub back : (z : ℤ) → mag z < 2147483648 → toZ w32 (ofZ w32 z) ≡ z
+back z f = handed f refl
+
+-- node j has the sides o, side by side
+pub sides-same : (w : List ℤ) (n j : ℕ) (o p : Sides) {a b c d : Bool} → p ≡ partSides w n false j → a ≡ eqZ (p .xmin) (o .xmin) → b ≡ eqZ (p .ymin) (o .ymin) → c ≡ eqZ (p .xmax) (o .xmax) → d ≡ eqZ (p .ymax) (o .ymax) → (a && b && c && d) ≡ sidesAre w n j o
+unfolding sidesAre partSides partOf
+sides-same w n j o p e f₀ f₁ f₂ f₃ = rw (f₀, f₁, f₂, f₃, e)
 
 -- the four sides found in one pass are the four tests
-pub box-is : (w : List ℤ) (n j : ℕ) (leaf : Bool) (a c : ℕ) → leaf ≡ eqZ (levelWord w n j) (pos 0) → a ≡ firstOf w n j → c ≡ countOf w n j - 1 → boxIs w n leaf j a c ≡ boxOk w n j
-unfolding boxIs sidesAre boxOk sideOk allB
-box-is w n j leaf a c e f g = rw (e, f, g)
+pub box-is : (w : List ℤ) (n j : ℕ) (leaf : Bool) (a c : ℕ) {o : Sides} {r : Bool} → r ≡ sidesAre w n j o → o ≡ bestSides w n leaf a c → leaf ≡ eqZ (levelWord w n j) (pos 0) → a ≡ firstOf w n j → c ≡ countOf w n j - 1 → r ≡ boxOk w n j
+unfolding bestSides sidesAre boxOk sideOk allB
+box-is w n j leaf a c s t e f g = s ∙ rw (t, e, f, g)
 
 -- equal parts have an equal best
 pub best-cong : (q : ℕ) (u v : ℕ → ℤ) (a c : ℕ) → ((k : ℕ) → a ≤ k → k ≤ a + c → u k ≡ v k) → best q u a c ≡ best q v a c
@@ -86,12 +98,12 @@ module _ (w : List ℤ) (n m : ℕ) (ok : tableOk w n m ≡ true) where
   leaf-test j h = let r = run-at w n m ok j h in rw (r .word, r .level)
 
   -- the last place that a leaf covers is below n, and the last node that another covers stands before it
-  pub leaf-run : (j a c : ℕ) → j < m → eqZ (levelWord w n j) (pos 0) ≡ true → a ≡ firstOf w n j → c ≡ countOf w n j - 1 → a + c < n
+  leaf-run : (j a c : ℕ) → j < m → eqZ (levelWord w n j) (pos 0) ≡ true → a ≡ firstOf w n j → c ≡ countOf w n j - 1 → a + c < n
   leaf-run j a c h e f g =
       let r = run-at w n m ok j h in
       leaf w n m ok j h (eqb-true (levelOf w n j) 0 (sym (leaf-test j h) ∙ e)) (a + c) (omega (arith, r .some))
 
-  pub inner-run : (j a c : ℕ) → j < m → eqZ (levelWord w n j) (pos 0) ≡ false → a ≡ firstOf w n j → c ≡ countOf w n j - 1 → a + c < j
+  inner-run : (j a c : ℕ) → j < m → eqZ (levelWord w n j) (pos 0) ≡ false → a ≡ firstOf w n j → c ≡ countOf w n j - 1 → a + c < j
   inner-run j a c h e f g =
       let r = run-at w n m ok j h in
       child w n m ok j (levelOf w n j - 1) h (up (levelOf w n j) (eqb-false (levelOf w n j) 0 (sym (leaf-test j h) ∙ e))) (a + c) (omega arith) (omega (arith, r .some)) .1
@@ -99,6 +111,14 @@ module _ (w : List ℤ) (n m : ℕ) (ok : tableOk w n m ≡ true) where
       up : (l : ℕ) → (l ≡ 0 → ⊥) → l ≡ suc (l - 1)
       up zero z = absurd (z refl)
       up (suc l) z = omega arith
+
+  -- so what a node covers can be read
+  pub parts-run : n ≤ 60000 → m ≤ 24000 → length w ≡ 5 * n + 7 * m + 6 → orderOk w n ≡ true → (j a c : ℕ) (leaf : Bool) → j < m → leaf ≡ eqZ (levelWord w n j) (pos 0) → a ≡ firstOf w n j → c ≡ countOf w n j - 1 → Readable w n leaf (a + c)
+  parts-run x y z o j a c leaf h e f g =
+      record {
+        place = λ t. (omega arith, o, leaf-run j a c h (sym e ∙ t) f g);
+        node = λ t. let b = inner-run j a c h (sym e ∙ t) f g in (omega arith, omega arith);
+      }
 
   -- the best of a leaf's parts is that of its points, and of another node's that of the boxes that it covers
   best-leaf : (j q : ℕ) → j < m → levelOf w n j ≡ 0 → (a c : ℕ) → best q (partOf w n (eqZ (levelWord w n j) (pos 0)) q) a c ≡ best q (coordOf w n q) a c

@@ -22,7 +22,7 @@ put-nodes-requires c κs =
     let o = c .before .before .before .before .before .before .put-order in
     let p = c .before .before .before .before .before .before .before .before .before .put-points in
     let s = c .before .before .before .before .before .before .before .before .before .before .before in
-    (omega arith, s .pre .1, s .pre .2, s .pre .3, c .before .nodes-for .ensures, omega (arith, sheet-size (s .args .n)), r .ensures _ (o .ensures _ (p .ensures _)))
+    (omega arith, c .before .nodes-for .ensures, omega (arith, sheet-size (s .args .n)), record { points = s .args .p .now; order = s .args .o .now; ordered = s .pre .3; holds = r .ensures _ (o .ensures _ (p .ensures _)) })
 
 put-trailer-requires : tie.Need-put-trailer-requires
 put-trailer-requires c κs = search needs
@@ -31,7 +31,14 @@ same-length : tie.Need-same-length
 same-length c = search needs
 
 returns : tie.Need-returns
-returns c = c .before .put-trailer .ensures _ _ (c .before .before .before .before .put-nodes .ensures)
+returns c =
+    let f = c .before .before .before .before in
+    let a = f .before in
+    let r = a .before .before .before .put-ranks in
+    let o = a .before .before .before .before .before .before .put-order in
+    let p = a .before .before .before .before .before .before .before .before .before .put-points in
+    let s = a .before .before .before .before .before .before .before .before .before .before .before in
+    c .before .put-trailer .ensures _ _ (f .put-nodes .ensures _ _ (s .pre .3) (r .ensures _ (o .ensures _ (p .ensures _))))
 
 pub put-sheet-spec : {M : Type 1} → statement M
 put-sheet-spec =

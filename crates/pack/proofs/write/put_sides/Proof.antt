@@ -1,64 +1,55 @@
+-- `pack::write::put_sides` meets its contract. Assumes nothing.
 use native.Mathlib.Omega.{arith}
 use lib.ListN.{length-set}
-use mir.Syntax.{w32}
-use mir.ValLaws.{toZ-ofZ}
+use Rattle.sheet.proofs.BoxLaws.{back}
 use Rattle.pack.specs.Work.{sidesPut}
 use borrow.Author.Needs.{needs}
 use Rattle.pack.proofs.write.put_sides.Statement.{statement}
 use Rattle.pack.proofs.write.put_sides.Tie as tie
 
--- src/write.rt:101:5
 mul-xmin : tie.Need-mul-xmin
 mul-xmin c = search needs
 
--- src/write.rt:101:5
 slice-set-from-xmin : tie.Need-slice-set-from-xmin
 slice-set-from-xmin c = search needs
 
--- src/write.rt:102:9
 add-ymin : tie.Need-add-ymin
 add-ymin c = search needs
 
--- src/write.rt:102:5
 mul-ymin : tie.Need-mul-ymin
 mul-ymin c = search needs
 
--- src/write.rt:102:5
 slice-set-from-ymin : tie.Need-slice-set-from-ymin
 slice-set-from-ymin c = simp length-set (omega arith)
 
--- src/write.rt:103:9
 add-xmax : tie.Need-add-xmax
 add-xmax c = search needs
 
--- src/write.rt:103:5
 mul-xmax : tie.Need-mul-xmax
 mul-xmax c = search needs
 
--- src/write.rt:103:5
 slice-set-from-xmax : tie.Need-slice-set-from-xmax
 slice-set-from-xmax c = simp length-set (omega arith)
 
--- src/write.rt:104:9
 add-ymax : tie.Need-add-ymax
 add-ymax c = search needs
 
--- src/write.rt:104:5
 mul-ymax : tie.Need-mul-ymax
 mul-ymax c = search needs
 
--- src/write.rt:104:5
 slice-set-from-ymax : tie.Need-slice-set-from-ymax
 slice-set-from-ymax c = simp length-set (omega arith)
 
--- src/write.rt:97:1
 same-length : tie.Need-same-length
 same-length c = search needs
 
--- src/write.rt:97:1
 returns : tie.Need-returns
 unfolding sidesPut
-returns c = rw (toZ-ofZ w32 _ (c .fits .xmin), toZ-ofZ w32 _ (c .fits .ymin), toZ-ofZ w32 _ (c .fits .xmax), toZ-ofZ w32 _ (c .fits .ymax))
+returns c =
+    let s = c .before .before .before .before in
+    let f = c .before .before .before .struct-told .given in
+    let o = s .args .o in
+    λ i. sidesPut (s .args .out .now) (s .args .k) (record { xmin = back (o .xmin) (f .0 .1) i; ymin = back (o .ymin) (f .1 .0 .1) i; xmax = back (o .xmax) (f .1 .1 .0 .1) i; ymax = back (o .ymax) (f .1 .1 .1 .0 .1) i })
 
 pub put-sides-spec : {M : Type 1} → statement M
 put-sides-spec =
