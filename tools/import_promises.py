@@ -30,7 +30,7 @@ def entries(text):
         for found in ENTRY.findall(body):
             words = " ".join(found.split())
             pieces = TITLE.split(words)
-            sentence = pieces[0].strip().strip("*\"").rstrip(".").strip("*\"").rstrip(".")
+            sentence = pieces[0].strip().rstrip(".").strip("*").rstrip(".")
             yield heading.strip(), sentence, dict(zip(pieces[1::2], [one.strip().rstrip(".") for one in pieces[2::2]]))
 
 
@@ -174,6 +174,7 @@ class Reader:
                 found += self.tested(text)
             elif field == "refused":
                 found += self.refused(text)
+                near += [name.split("/")[0] for name in CODE.findall(text) if title == "Edit"]
             elif field == "form":
                 found.append(("form", text))
         return found
