@@ -250,8 +250,16 @@ def brought(source, old_text, new_text, reader):
         after = merged([of_rule.get(number, []) for number in numbers], reader.lines(old.get(sentence, {})), lines)
         for number, one in zip(numbers, after):
             of_rule[number] = one
+    for number, lines in of_rule.items():
+        gone = {one.crate + "/" + one.name for field, what in lines for one in rules.names_of(field, what) if one.kind == "edit" and not reader.tree.homes(one)}
+        said += ["%s: there is no edit %s any more" % (number, edit) for edit in sorted(gone)]
+        of_rule[number] = [line for line in lines if line[0] != "refused" or line[1] not in gone]
     there = {sentence for heading, sentence, _ in entries(new_text)}
-    said += ["the row is gone: %s" % sentence for sentence, _ in ROWS if sentence not in there]
+    said += ["the row is gone: %s" % sentence for sentence in old if sentence not in there]
+    in_rules = {what for lines in of_rule.values() for field, what in lines if field == "refused"}
+    for of, lines in calls.items():
+        said += ["%s: no rule names %s" % (of, name) for field, what in lines for name in CODE.findall(what)
+                 if (name.startswith("refuted ") or re.fullmatch(r"[a-z_]+/[a-z_0-9]+", name)) and name not in in_rules]
     gone = {"call " + ", ".join(CODE.findall(s)) for h, s, _ in entries(old_text) if h == CALLS} - {"call " + ", ".join(CODE.findall(s)) for h, s, _ in entries(new_text) if h == CALLS}
     order = {number: k for k, number in enumerate(of_rule)}
     return head + shown(sorted(of_rule.items(), key=lambda b: order[b[0]])) + "\n" + shown([(of, lines) for of, lines in calls.items() if of not in gone]), said

@@ -86,6 +86,13 @@ class Named:
     def __init__(self, kind, crate, where, name):
         self.kind, self.crate, self.where, self.name = kind, crate, where, name
 
+    def said(self):
+        """As a line would name it alone."""
+        if self.kind == "test":
+            return self.where + (' "%s"' % self.name if self.name else "")
+        apart = {"contract": "::", "edit": "/"}.get(self.kind, " ")
+        return apart.join(part for part in (self.crate, self.where, self.name) if part)
+
 
 def names_of(field, what):
     """The things that a line names."""
@@ -350,7 +357,7 @@ def broken(root, files):
                 wrong.append("%s: %s has a line `%s`, which is no field" % (SOURCE, number, field))
             for one in names_of(field, what):
                 if not tree.homes(one):
-                    wrong.append("%s: %s names `%s` (%s), and there is none" % (SOURCE, number, what, one.name or one.where or one.crate))
+                    wrong.append("%s: %s names `%s`, and there is none" % (SOURCE, number, one.said()))
                 elif one.kind == "definition":
                     defined = True
                 else:
