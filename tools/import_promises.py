@@ -16,6 +16,10 @@ ROWS = []
 with open(os.path.join(os.path.dirname(os.path.abspath(__file__)), "import_promises.txt"), encoding="utf-8") as f:
     ROWS = [(line.split(" | ", 1)[1].strip(), line.split(" | ", 1)[0].split()) for line in f if " | " in line]
 
+# the refutations, and the rules that each is of: a row of several rules does not say which
+with open(os.path.join(os.path.dirname(os.path.abspath(__file__)), "import_refuted.txt"), encoding="utf-8") as f:
+    REFUTED = {line.split()[0]: line.split()[1:] for line in f if line.strip()}
+
 ENTRY = re.compile(r"^- (.*?)(?=^- |^$|\Z)", re.M | re.S)
 TITLE = re.compile(r" ?\*(Definition|Proved by|Tested by|Refused|Refused by|Form|Edit|Wrong answers)\*: ")
 FIELD = {"Definition": "definition", "Proved by": "proved", "Tested by": "tested", "Refused": "refused", "Edit": "refused", "Refused by": "proved", "Form": "form"}
@@ -245,7 +249,7 @@ def brought(source, old_text, new_text, reader):
             continue
         numbers = became[sentence]
         reader.unknown = []
-        lines = reader.lines(fields)
+        lines = [line for line in reader.lines(fields) if not (line[1].startswith("refuted ") and line[1].split()[1] in REFUTED)]
         said += ["%s: %s" % (" ".join(numbers), one) for one in reader.unknown]
         after = merged([of_rule.get(number, []) for number in numbers], reader.lines(old.get(sentence, {})), lines)
         for number, one in zip(numbers, after):
@@ -254,6 +258,16 @@ def brought(source, old_text, new_text, reader):
         gone = {one.crate + "/" + one.name for field, what in lines for one in rules.names_of(field, what) if one.kind == "edit" and not reader.tree.homes(one)}
         said += ["%s: there is no edit %s any more" % (number, edit) for edit in sorted(gone)]
         of_rule[number] = [line for line in lines if line[0] != "refused" or line[1] not in gone]
+    for name, numbers in REFUTED.items():
+        line = ("refused", "refuted " + name)
+        if reader.tree.homes(rules.names_of(*line)[0]):
+            for number in numbers:
+                of_rule[number] += [line] if line not in of_rule[number] else []
+    order = {field: k for k, field in enumerate(rules.FIELDS)}
+    of_rule = {number: sorted(lines, key=lambda line: order.get(line[0], 9)) for number, lines in of_rule.items()}
+    named = {what for lines in of_rule.values() for field, what in lines if field == "refused"}
+    for f in reader.tree.under("crates/refuted/proofs", ".antt"):
+        said += ["no rule names the refutation %s" % name for name in sorted(reader.tree.declared(f)) if name.endswith("-wrong") and "refuted " + name not in named]
     there = {sentence for heading, sentence, _ in entries(new_text)}
     said += ["the row is gone: %s" % sentence for sentence in old if sentence not in there]
     in_rules = {what for lines in of_rule.values() for field, what in lines if field == "refused"}

@@ -294,6 +294,12 @@ def line_of(lines, at, name):
     k = min(there)[1]
     while k > 0 and lines[k - 1].strip().startswith("#["):
         k -= 1
+    # of a refutation the comment may stand above the wrong definition before it
+    up = k
+    while kind == "refutation" and up > 1 and not re.match(r"(?:pub )?\S+-wrong\b", lines[up - 1]):
+        if lines[up - 1].startswith(mark):
+            return k if lines[up - 1].startswith(mark + " --") else up
+        up -= 1
     return k
 
 
