@@ -20,6 +20,11 @@ with open(os.path.join(os.path.dirname(os.path.abspath(__file__)), "import_promi
 with open(os.path.join(os.path.dirname(os.path.abspath(__file__)), "import_refuted.txt"), encoding="utf-8") as f:
     REFUTED = {line.split()[0]: line.split()[1:] for line in f if line.strip()}
 
+# the programs that became one, and the part of it that each is
+PROGRAMS = {"try_" + kind: kind for kind in ("sheets", "walks", "pages", "runs", "shortest", "near", "views")}
+PROGRAMS["examples"] = "the examples"
+ONE_PROGRAM = "trial"
+
 ENTRY = re.compile(r"^- (.*?)(?=^- |^$|\Z)", re.M | re.S)
 TITLE = re.compile(r" ?\*(Definition|Proved by|Tested by|Refused|Refused by|Form|Edit|Wrong answers)\*: ")
 FIELD = {"Definition": "definition", "Proved by": "proved", "Tested by": "tested", "Refused": "refused", "Edit": "refused", "Refused by": "proved", "Form": "form"}
@@ -219,10 +224,20 @@ def merged(blocks, old, new):
             added = without(line, atoms(*line) - fresh)
             of_it = [k for k in range(len(blocks)) if line[0] in lost[k]] or range(len(blocks))
             for k in of_it:
-                if added not in result[k]:
+                has_it = set().union(*[atoms(*one) for one in result[k]] or [set()])
+                if not atoms(*added) <= has_it:
                     result[k].append(added)
     order = {field: k for k, field in enumerate(rules.FIELDS)}
     return [sorted(lines, key=lambda line: order.get(line[0], 9)) for lines in result]
+
+
+def renamed(line, tree):
+    """A line of a program that became a part of another."""
+    field, what = line
+    name, remark = rules.remarked(what)
+    if field != "tested" or name not in PROGRAMS or "crates/%s/src/main.rt" % name in tree.all or "crates/%s/src/main.rt" % ONE_PROGRAM not in tree.all:
+        return line
+    return field, "%s -- %s" % (ONE_PROGRAM, PROGRAMS[name] + (": " + remark if remark else ""))
 
 
 def shown(blocks):
@@ -255,6 +270,7 @@ def brought(source, old_text, new_text, reader):
         for number, one in zip(numbers, after):
             of_rule[number] = one
     for number, lines in of_rule.items():
+        of_rule[number] = lines = [renamed(line, reader.tree) for line in lines]
         gone = {one.crate + "/" + one.name for field, what in lines for one in rules.names_of(field, what) if one.kind == "edit" and not reader.tree.homes(one)}
         said += ["%s: there is no edit %s any more" % (number, edit) for edit in sorted(gone)]
         of_rule[number] = [line for line in lines if line[0] != "refused" or line[1] not in gone]
