@@ -10,7 +10,7 @@ import subprocess
 
 import rules
 
-BASE = "93e5766"
+BASE = "93a5d11"
 # the sentence of a row, and the rules that it became
 ROWS = []
 with open(os.path.join(os.path.dirname(os.path.abspath(__file__)), "import_promises.txt"), encoding="utf-8") as f:
@@ -221,11 +221,11 @@ def merged(blocks, old, new):
     for line in new:
         fresh = atoms(*line) & come
         if fresh:
-            added = without(line, atoms(*line) - fresh)
             of_it = [k for k in range(len(blocks)) if line[0] in lost[k]] or range(len(blocks))
             for k in of_it:
                 has_it = set().union(*[atoms(*one) for one in result[k]] or [set()])
-                if not atoms(*added) <= has_it:
+                added = without(line, atoms(*line) - (fresh - has_it))
+                if added:
                     result[k].append(added)
     order = {field: k for k, field in enumerate(rules.FIELDS)}
     return [sorted(lines, key=lambda line: order.get(line[0], 9)) for lines in result]
