@@ -348,8 +348,13 @@ def broken(root, files):
     numbers, seen = numbers_of(rules), {}
     for number in sorted({n for n in numbers if numbers.count(n) > 1}):
         wrong.append("%s: two rules have the number %s" % (RULES, number))
+    for part in parts_of(rules):
+        for number, sentence in part.rules:
+            wrong += ["%s: %s speaks of %s, which is no rule" % (RULES, number, other) for other in re.findall(r"\b[A-Z]\d+\b", sentence) if other not in numbers]
     for of, lines in blocks_of(source):
         if of.startswith("call "):
+            refuted = [name for _, what in lines for name in re.findall(r"`(refuted [^`]+)`", what)]
+            wrong += ["%s: %s names `%s`, and there is none" % (SOURCE, of, name) for name in refuted if not tree.homes(names_of("refused", name)[0])]
             continue
         if of not in numbers:
             wrong.append("%s: %s is no rule" % (SOURCE, of))
