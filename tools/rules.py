@@ -31,8 +31,8 @@ IN_CODE = re.compile(r"^[ \t]*(?:pub(?:\(crate\))?[ \t]+)?(?:extern[ \t]+\"C\"[ 
 
 HEAD = """Written by `tools/promises` from [RULES.md](RULES.md) and [promises.txt](promises.txt): change those, not this. One entry for each rule. *Definition*: the
 file of a crate's `specs/` that says it, or the code (`src`). *Proved by*: the contract (a function's name) or the law. *Tested by*: the program of the gate, the
-computed table, or the test with the words in it. *Refused*: must-fail edits (`crate/label`), wrong programs that the checker refuses, and refutations (`refuted
-NAME`), wrong readings that a theorem tells from the right one; the comment in each says what it tries. The last part goes through the wrong answers tried of each
+computed table, or the test with the words in it. *Refused*: must-fail edits (`crate/label`), wrong programs that the checker refuses, and refutations, theorems
+of the crate `refuted`, which tell a wrong reading from the right one; the comment in each says what it tries. The last part goes through the wrong answers tried of each
 call."""
 CALLS = """## Wrong answers tried, call by call
 
@@ -152,8 +152,9 @@ def told(field, what):
 
 
 def filled(text):
-    """An entry in lines, its names between backquotes in one line each."""
-    return textwrap.fill(text, LONGEST, initial_indent="- ", subsequent_indent="  ", break_long_words=False, break_on_hyphens=False)
+    """An entry in lines; what stands between backquotes, and a title, is in one line."""
+    whole = re.sub(r"`[^`]*`|\*[A-Z][a-z]+ [a-z]+\*", lambda found: found.group(0).replace(" ", "\0"), text)
+    return textwrap.fill(whole, LONGEST, initial_indent="- ", subsequent_indent="  ", break_long_words=False, break_on_hyphens=False).replace("\0", " ")
 
 
 def entry(number, sentence, lines):
