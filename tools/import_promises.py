@@ -163,8 +163,9 @@ class Reader:
 
     def refused(self, text):
         lines = []
-        for name in CODE.findall(text):
-            lines.append(("refused", name))
+        for name in CODE.findall(re.sub(r"refuted `", "`refuted ", text)):
+            refused = name.startswith("refuted ") or re.fullmatch(r"[a-z_]+/[a-z_0-9]+", name)
+            lines.append(("refused" if refused else "tested", name))
         if "by definition" in text:
             lines.append(("refused", "by definition"))
         return lines
