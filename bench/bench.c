@@ -1,5 +1,6 @@
 /* The proved calls and their plain C twins, on the same sheets in one process. Prints a line for each measure: its name, what was measured on, how long each
-   took in nanoseconds (the best of several runs), and whether their answers agree. */
+   took in nanoseconds (the best of several runs), and whether their answers agree. With an argument each is done once: the answers are compared, and the times
+   say nothing. */
 #include "../include/ring.h"
 #include "twins.h"
 
@@ -89,8 +90,10 @@ static void tell(const char *what, const char *kind, int n, long proved, long tw
     printf("%s %s %d %ld %ld %s\n", what, kind, n, proved, twin, agree ? "agree" : "DIFFER");
 }
 
+static int once;
+
 /* the best of so many runs, each of so many times the work: what is short is done often, so that the clock's step does not count */
-#define BEST(runs, times, best, work) do { best = 1l << 62; for (int run = 0; run < (runs); run++) { long begun = now(); for (int time = 0; time < (times); time++) { work; } long took = now() - begun; if (took < best) best = took; } } while (0)
+#define BEST(runs, times, best, work) do { best = 1l << 62; for (int run = 0; run < (once ? 1 : (runs)); run++) { long begun = now(); for (int time = 0; time < (once ? 1 : (times)); time++) { work; } long took = now() - begun; if (took < best) best = took; } } while (0)
 
 static void packing(const char *what, const char *kind, int n, packed *s, unsigned edition)
 {
@@ -209,8 +212,10 @@ static void running(const char *kind, int n, const packed *p, const packed *q, u
 
 typedef void (*maker)(int);
 
-int main(void)
+int main(int count, char **arguments)
 {
+    (void)arguments;
+    once = count > 1;
     static const char *kinds[] = {"uniform", "clustered", "grid"};
     static const maker makers[] = {uniform, clustered, grid};
     static const int sizes[] = {100, 300, 1000};

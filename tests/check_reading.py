@@ -157,7 +157,7 @@ def book():
     asked += [(taken_alone, editions, own, closed) for editions in ((3, 3), (3, 4)) for own in (False, True) for closed in (False, True)]
     lines = [ask(reading, *given) for ask, *given in asked]
     assert [line[0] for line in lines[:10]] == [0, 0, 0, 0, 15, 15, 15, 0, 15, 0]
-    return types.SimpleNamespace(program="the book", asked=asked, lines=lines)
+    return types.SimpleNamespace(name="the book", asked=asked, lines=lines)
 
 
 def main():

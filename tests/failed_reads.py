@@ -5,21 +5,24 @@ say `refused input`, and must not take the failure for the end of its input.
     tests/failed_reads.py    builds what is not built; says what differs, and exits with 1 then
 """
 import fcntl
+import itertools
 import os
+import struct
 import subprocess
 import sys
 
 TOP = os.path.dirname(os.path.dirname(os.path.abspath(__file__)))
 sys.dont_write_bytecode = True
-sys.path.insert(0, os.path.join(TOP, "tools"))
+sys.path[:0] = [os.path.join(TOP, "tools"), os.path.join(TOP, "tests")]
 
 import kit
+from stored import EXAMPLES, OPEN, PACK, POINT, split
 
 REFUSED = b"refused input\n"
 SHEETS = ["listing", "packing", "opening"]
-CASES = ["try_sheets", "try_walks", "try_pages", "try_runs", "try_shortest", "try_near"]
-# room in a pipe for the longest of the inputs
+# room in a pipe for the longest of the inputs; the tape is longer, and so many cases of its front are given
 ROOM = 1 << 20
+CASES = 400
 
 
 def stored(program, name):
@@ -46,6 +49,15 @@ def printed(program, given, fails):
             os.close(write)
 
 
+def front_of_tape():
+    """The first cases of the tape of `trial`, and the lines that they print: the examples', then one each."""
+    cases = list(itertools.islice(split(stored("trial", "stdin")), CASES))
+    assert [case[0] for case in cases[:1]] == [EXAMPLES] and {case[0] for case in cases[1:]} <= {OPEN, POINT, PACK}
+    with open(os.path.join(TOP, "tests", "fixed", "examples.txt"), "rb") as f:
+        lines = len(f.readlines()) + CASES - 1
+    return b"".join(struct.pack("<%di" % len(case), *case) for case in cases), b"".join(stored("trial", "stdout").splitlines(True)[:lines])
+
+
 def tries():
     """Each: a program, the bytes that it is given, whether a read then fails, and what it must print."""
     for program in SHEETS:
@@ -56,12 +68,11 @@ def tries():
     half = stored("listing", "stdin")[:92]
     yield "listing", half, False, b"refused p 1\n"
     yield "listing", half, True, REFUSED
-    for program in CASES:
-        given, expected = stored(program, "stdin"), stored(program, "stdout")
-        # with the 0 that ends the cases nothing more is read; without it a read fails, or the input breaks off
-        yield program, given, True, expected
-        yield program, given[:-4], True, expected + REFUSED
-        yield program, given[:-4], False, expected + REFUSED
+    given, expected = front_of_tape()
+    # with the 0 that ends the cases nothing more is read; without it a read fails, or the input breaks off
+    yield "trial", given + bytes(4), True, expected
+    yield "trial", given, True, expected + REFUSED
+    yield "trial", given, False, expected + REFUSED
 
 
 def main():

@@ -176,7 +176,7 @@ class Listings(Cases):
                 file.write(given)
         with open(self.path("stdout"), "wb") as file:
             file.write(self.output())
-        print("%s: %d files, %d lines" % (self.program, len(self.files), len(self.lines)))
+        print("%s: %d files, %d lines" % (self.name, len(self.files), len(self.lines)))
 
 
 def cases():

@@ -1,19 +1,15 @@
-#!/usr/bin/env python3
-"""The cases of crates/try_near: pairs of sheets, and for chambers of Q the pump houses nearest first and the filter that goes nearest first.
+"""The part `near` of the tape: pairs of sheets, and for chambers of Q the pump houses nearest first and the filter that goes nearest first.
 
-    make_near.py          writes crates/try_near/stdin and stdout
-
-The input, in words: 1, the lengths of P's and Q's sheet, the number of requests, P's words, Q's words, and for each request 1 or 2 (the pump houses, or the filter),
-the q id, the size and how many of 2,048 numbers are lent; 0 ends it. A negative word stands for the largest number that a call can be given. Each number holds a
+A case, in words: its kind, the lengths of P's and Q's sheet, the number of requests, P's words, Q's words, and for each request 1 or 2 (the pump houses, or the filter),
+the q id, the size and how many of 2,048 numbers are lent. A negative word stands for the largest number that a call can be given. Each number holds a
 mark before the call. A line has what was asked, the number of refusal, then how many of the 2,048 numbers are 0 and how many still hold their mark after the
 call; then the pump houses with their squared distances, or the number of bits set, the nodes opened and the sixteen words of the kept set.
 """
-
 import reading
 import towns
 import trees
 from chance import Chance
-from stored import Asked
+from stored import NEAR, Asked
 
 LARGEST = 2 ** 64 - 1
 LARGEST_ID = 2 ** 32 - 1
@@ -48,7 +44,8 @@ def asked(p, q, request):
 
 
 class Near(Asked):
-    program = "try_near"
+    name = "near"
+    kind = NEAR
 
     def add(self, label, p, q, requests):
         lines = self.put(label, p, q, requests, [asked(p, q, request) for request in requests])
@@ -189,7 +186,3 @@ def cases():
     assert all(out.seen[kind, number] >= 4 for kind in (POINTS, FILTER) for number in numbers) and out.seen[POINTS, 10] >= 8, out.seen
     assert all(out.seen[what] >= 8 for what in ("exactly enough lent", "some left over", "a tie", "fewer than asked", "sixteen", "kept otherwise than in table order", "a node skipped")), out.seen
     return out.cases
-
-
-if __name__ == "__main__":
-    cases().store()

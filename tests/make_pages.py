@@ -1,14 +1,11 @@
-#!/usr/bin/env python3
-"""The cases of crates/try_pages: pairs of sheets with page requests over them: pairs, number, end mark, nodes opened; the question whether a chamber has
+"""The part `pages` of the tape: pairs of sheets with page requests over them: pairs, number, end mark, nodes opened; the question whether a chamber has
 at least t partners; and page requests of self joins, of one sheet each.
 
-    make_pages.py         writes crates/try_pages/stdin and stdout
-
-The input, in words: 1, the lengths of P's and Q's sheet, the number of requests, P's words, Q's words, and for each request the key's q id and p id,
-the size and the threshold; 2 and the same, but for each question a q id and a t; 3, the length of one sheet, 0, the number of requests, its words, and for each
-request the key and the size; 0 ends it. A negative word stands for the largest number that a call can be given. A line has the request, its number of refusal,
-the nodes opened, and the page whole: both editions, the threshold, the kind, the key, the number of pairs, the end mark, sixteen pairs with their sizes; or the
-question, its number of refusal, the count and the yes.
+A case, in words: its kind, the lengths of P's and Q's sheet, the number of requests, P's words, Q's words, and for each request the key's q id and p id,
+the size and the threshold; for each question a q id and a t; of a self join the length of one sheet, 0, the number of requests, its words, and for each request
+the key and the size. A negative word stands for the largest number that a call can be given. A line has the request, its number of refusal, the nodes opened,
+and the page whole: both editions, the threshold, the kind, the key, the number of pairs, the end mark, sixteen pairs with their sizes; or the question, its
+number of refusal, the count and the yes.
 """
 import collections
 
@@ -16,7 +13,7 @@ import reading
 import towns
 import trees
 from chance import Chance
-from stored import Asked
+from stored import OWN, PAGES, PARTNERS, Asked
 
 LARGEST_ID = 2 ** 32 - 1
 LARGEST = 2 ** 64 - 1
@@ -45,7 +42,8 @@ def partners_line(rules, p, q, q_id, t, listed):
 
 
 class Pages(Asked):
-    program = "try_pages"
+    name = "pages"
+    kind = PAGES
 
     def add(self, label, p, q, requests, listed=None):
         requests = [request + (0,) * (4 - len(request)) for request in requests]
@@ -68,7 +66,7 @@ class Pages(Asked):
         for key_q, key_p, size in requests:
             key = tuple(LARGEST_ID if word < 0 else word for word in (key_q, key_p))
             asked.append((own_line, sheet, key, LARGEST if size < 0 else size, listed))
-        for line in self.put(label, sheet, [], requests, asked, kind=3):
+        for line in self.put(label, sheet, [], requests, asked, kind=OWN):
             size = int(line.split(":")[0].split()[3])
             number, _, _, _, _, _, _, _, count, end = map(int, line.split(": ")[1].split()[:10])
             self.seen["own", number] += 1
@@ -78,7 +76,7 @@ class Pages(Asked):
 
     def ask(self, label, p, q, questions, listed=None):
         asked = [(partners_line, p, q) + tuple(LARGEST_ID if word < 0 else word for word in question) + (listed,) for question in questions]
-        for line in self.put(label, p, q, questions, asked, kind=2):
+        for line in self.put(label, p, q, questions, asked, kind=PARTNERS):
             number, count, enough = map(int, line.split(": ")[1].split())
             self.seen["question", number] += 1
             if not number:
@@ -300,7 +298,3 @@ def cases():
     assert all(out.seen[what] >= 10 for what in ("own full last page", "own page amid")), out.seen
     assert all(out.seen["question", number] >= 2 for number in list(range(9)) + [20, 21]), out.seen
     return out.cases
-
-
-if __name__ == "__main__":
-    cases().store()

@@ -1,10 +1,7 @@
-#!/usr/bin/env python3
-"""The cases of crates/try_runs: pairs of sheets with runs of leaves of Q over them: pairs, their number, nodes opened, slots not touched.
+"""The part `runs` of the tape: pairs of sheets with runs of leaves of Q over them: pairs, their number, nodes opened, slots not touched.
 
-    make_runs.py          writes crates/try_runs/stdin and stdout
-
-The input, in words: 1, the lengths of P's and Q's sheet, the number of runs, P's words, Q's words, and for each run the node and how many of 256 slots are
-lent; 0 ends it. A negative word stands for the largest number that a call can be given. Each slot holds a mark before the call. A line has the node and the
+A case, in words: its kind, the lengths of P's and Q's sheet, the number of runs, P's words, Q's words, and for each run the node and how many of 256 slots are
+lent. A negative word stands for the largest number that a call can be given. Each slot holds a mark before the call. A line has the node and the
 slots lent, the number of refusal, the number of pairs, the nodes opened, how many of the 256 slots still hold their mark, and the pairs with their sizes.
 """
 import math
@@ -14,7 +11,7 @@ import towns
 import trees
 from chance import Chance
 from check_reading import runs_are_the_list
-from stored import Asked
+from stored import RUNS, Asked
 
 LARGEST = 2 ** 64 - 1
 SLOTS = 256
@@ -33,7 +30,8 @@ def run_line(rules, p, q, leaf, lent):
 
 
 class Runs(Asked):
-    program = "try_runs"
+    name = "runs"
+    kind = RUNS
 
     def add(self, label, p, q, requests):
         lines = self.put(label, p, q, requests, [(run_line, p, q, number(leaf), number(lent)) for leaf, lent in requests])
@@ -188,7 +186,3 @@ def cases():
     assert all(out.seen[given] >= 8 for given in (0, 1, 2, 3, 4, 5, 6, 7, 8, 16, 19)), out.seen
     assert all(out.seen[what] >= 8 for what in ("exactly enough", "no pair and no slot", "one chamber", "sixteen chambers", "slots left")), out.seen
     return out.cases
-
-
-if __name__ == "__main__":
-    cases().store()

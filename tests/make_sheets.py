@@ -1,13 +1,10 @@
-#!/usr/bin/env python3
-"""The cases of crates/try_sheets: sheets to open and point lists to pack, with the number that each must get.
+"""The part `sheets` of the tape: sheets to open and point lists to pack, with the number that each must get.
 
-    make_sheets.py        writes crates/try_sheets/stdin and stdout
-
-The input, in words, a 0 at its end:
-    1, a length and that many words: a sheet to open
-    2, n (24, 24 and 16 bits, the lowest first), the numbers of point words and of order words, an edition, the length of the lent output, the point
+A case, in words:
+    OPEN, a length and that many words: a sheet to open
+    PACK, n (24, 24 and 16 bits, the lowest first), the numbers of point words and of order words, an edition, the length of the lent output, the point
        words and the order words: to pack. A packed sheet is printed whole and opened; of a refused one it is said whether each lent word is as it was
-    3, a length, that many words and a position, where -1 stands for the largest that a call can be given: a point to read
+    POINT, a length, that many words and a position, where -1 stands for the largest that a call can be given: a point to read
 """
 import collections
 import itertools
@@ -16,7 +13,7 @@ import reading
 import trees
 from chance import Chance
 from faults import BIG, SMALL, faults, node_word, put
-from stored import Cases
+from stored import OPEN, PACK, POINT, Cases
 
 
 # ---------------------------------------------------------------- sheets
@@ -61,7 +58,7 @@ def pack_line(rules, n, point_words, order, edition, lent):
 
 class Sheets:
     def __init__(self):
-        self.cases = Cases("try_sheets")
+        self.cases = Cases("sheets")
         self.seen = collections.Counter()
         self.opened = self.packs = 0
         self.pack_seen = collections.Counter()
@@ -69,7 +66,7 @@ class Sheets:
     def open(self, label, words, expect=None):
         number = reading.open_number(words)
         assert expect is None or number == expect, (label, number, expect)
-        self.cases.add("open: " + label, [1, len(words)] + list(words), [(open_line, words)])
+        self.cases.add("open: " + label, [OPEN, len(words)] + list(words), [(open_line, words)])
         self.seen[number] += 1
         self.opened += 1
 
@@ -77,13 +74,13 @@ class Sheets:
         position = 2 ** 64 - 1 if at < 0 else at
         number, _ = reading.point_call(words, position)
         assert expect is None or number == expect, (label, number, expect)
-        self.cases.add("point: " + label, [3, len(words)] + list(words) + [at], [(point_line, words, position)])
+        self.cases.add("point: " + label, [POINT, len(words)] + list(words) + [at], [(point_line, words, position)])
 
     def pack(self, label, given, expect=None):
         n, point_words, order, edition, lent = given
         number = reading.pack_number(*given)
         assert expect is None or number == expect, (label, number, expect)
-        head = [2, n % 2 ** 24, n // 2 ** 24 % 2 ** 24, n // 2 ** 48, len(point_words), len(order), edition, lent]
+        head = [PACK, n % 2 ** 24, n // 2 ** 24 % 2 ** 24, n // 2 ** 48, len(point_words), len(order), edition, lent]
         self.cases.add("pack: " + label, head + list(point_words) + list(order), [(pack_line, *given)])
         self.pack_seen[number] += 1
         self.packs += 1
@@ -339,7 +336,3 @@ def cases():
     assert out.opened >= 400
     assert all(out.seen[number] >= 10 for number in range(9)), out.seen
     return out.cases
-
-
-if __name__ == "__main__":
-    cases().store()

@@ -1,17 +1,13 @@
-#!/usr/bin/env python3
-"""The cases of crates/try_shortest: pairs of sheets with requests for their shortest circles: number of refusal, number of pairs, pairs.
+"""The part `shortest` of the tape: pairs of sheets with requests for their shortest circles: number of refusal, number of pairs, pairs.
 
-    make_shortest.py      writes crates/try_shortest/stdin and stdout
-
-The input, in words: 1, the lengths of P's and Q's sheet, the number of requests, P's words, Q's words, and for each request k; 0 ends it. A negative word
+A case, in words: its kind, the lengths of P's and Q's sheet, the number of requests, P's words, Q's words, and for each request k. A negative word
 stands for the largest number that a call can be given. A line has k, the number of refusal, the number of pairs, and sixteen pairs with their sizes.
 """
-
 import reading
 import towns
 import trees
 from chance import Chance
-from stored import Asked
+from stored import SHORTEST, Asked
 
 LARGEST = 2 ** 64 - 1
 ALL = list(range(1, 17))
@@ -26,7 +22,8 @@ def shortest_line(rules, p, q, k):
 
 
 class Shortest(Asked):
-    program = "try_shortest"
+    name = "shortest"
+    kind = SHORTEST
 
     def add(self, label, p, q, requests, listed=None):
         lines = self.put(label, p, q, [[k] for k in requests], [(shortest_line, p, q, LARGEST if k < 0 else k) for k in requests])
@@ -149,7 +146,3 @@ def cases():
     assert all(out.seen[number] >= 8 for number in (0, 1, 2, 3, 4, 5, 6, 7, 8, 10)), out.seen
     assert all(out.seen[what] >= 8 for what in ("shorter list", "exactly k", "none", "many pages", "tie at the end", "tie of one chamber at the end", "other by p id", "found late")), out.seen
     return out.cases
-
-
-if __name__ == "__main__":
-    cases().store()

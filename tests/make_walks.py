@@ -1,18 +1,14 @@
-#!/usr/bin/env python3
-"""The cases of crates/try_walks: pairs of sheets with both walks over them: kept words, numbers of bits, hits, nodes opened.
+"""The part `walks` of the tape: pairs of sheets with both walks over them: kept words, numbers of bits, hits, nodes opened.
 
-    make_walks.py         writes crates/try_walks/stdin and stdout
-
-The input, in words: 1, the lengths of P's and Q's sheet, the numbers of filter walks and of ring walks asked, P's words, Q's words, a position j of Q for
-each filter walk, and positions j of Q and i of P for each ring walk; 0 ends it. A position of -1 stands for the largest that a call can be given.
+A case, in words: its kind, the lengths of P's and Q's sheet, the numbers of filter walks and of ring walks asked, P's words, Q's words, a position j of Q for
+each filter walk, and positions j of Q and i of P for each ring walk. A position of -1 stands for the largest that a call can be given.
 """
-
 import reading
 import towns
 import trees
 from chance import Chance
 from check_reading import walks_mean_the_rule
-from stored import Asked
+from stored import WALKS, Asked
 
 LARGEST = 2 ** 64 - 1
 
@@ -34,10 +30,11 @@ def ring_line(rules, p, q, j, i):
 
 
 class Walks(Asked):
-    program = "try_walks"
+    name = "walks"
+    kind = WALKS
 
     def add(self, label, p, q, filters, rings):
-        words = [1, len(p), len(q), len(filters), len(rings)] + p + q + list(filters) + [word for pair in rings for word in pair]
+        words = [self.kind, len(p), len(q), len(filters), len(rings)] + p + q + list(filters) + [word for pair in rings for word in pair]
         asked = [(filter_line, p, q, position(j)) for j in filters] + [(ring_line, p, q, position(j), position(i)) for j, i in rings]
         for line in self.cases.add(label, words, asked):
             kind, said = line.split()[0], line.split(": ")[1].split()
@@ -170,7 +167,3 @@ def cases():
         assert out.seen["named %d" % side] >= 50, (side, out.seen)
     assert out.seen["ring refused 9"] >= 10 and out.seen["filter 9"] >= 10
     return out.cases
-
-
-if __name__ == "__main__":
-    cases().store()

@@ -1,11 +1,43 @@
-"""How the cases of a program are stored: its input as little-endian words, and the lines that it must print."""
+"""How the cases of a program are stored: its input as little-endian words, and the lines that it must print. The program `trial` reads one tape of cases, in
+parts, and each part is itself a tape."""
 import collections
 import os
 import struct
 
 import reading
 
-TOP = os.path.join(os.path.dirname(os.path.abspath(__file__)), "..")
+HERE = os.path.dirname(os.path.abspath(__file__))
+TOP = os.path.join(HERE, "..")
+
+# The kinds of cases on the tape, as crates/trial knows them: a 0 ends it, and 7 is the program's own, for the ring walks of a case of walks.
+EXAMPLES, OPEN, POINT, PACK, VIEWS, WALKS = range(1, 7)
+PAGES, PARTNERS, OWN, RUNS, SHORTEST, NEAR = range(8, 14)
+
+# of the kinds that are asked of two sheets: the words of a request
+WIDTH = {PAGES: 4, PARTNERS: 2, OWN: 3, RUNS: 2, SHORTEST: 1, NEAR: 4}
+
+
+def split(tape):
+    """The cases of a tape one after the other: the words of each."""
+    words = struct.unpack("<%di" % (len(tape) // 4), tape)
+    at = 0
+    while words[at]:
+        kind = words[at]
+        if kind in (EXAMPLES, VIEWS):
+            end = at + 1
+        elif kind == PACK:
+            end = at + 8 + sum(words[at + 4:at + 6])
+        elif kind in (OPEN, POINT):
+            end = at + 2 + words[at + 1] + (kind == POINT)
+        elif kind == WALKS:
+            p, q, filters, rings = words[at + 1:at + 5]
+            end = at + 5 + p + q + filters + 2 * rings
+        else:
+            p, q, count = words[at + 1:at + 4]
+            end = at + 4 + p + q + WIDTH[kind] * count
+        yield words[at:end]
+        at = end
+    assert len(tape) == 4 * at + 4, "the tape goes on after its end"
 
 
 class Cases:
@@ -13,8 +45,8 @@ class Cases:
 
     A line is asked by a function of a reading of the rules and of what is handed to the call."""
 
-    def __init__(self, program):
-        self.program = program
+    def __init__(self, name):
+        self.name = name
         self.words = []
         self.lines = []
         self.labels = []
@@ -29,6 +61,12 @@ class Cases:
         self.asked += asked
         return lines
 
+    def join(self, part):
+        """The cases of a part, after those that stand here."""
+        self.words += part.words
+        self.lines += part.lines
+        self.labels += ["%s: %s" % (part.name, label) for label in part.labels]
+
     def input(self):
         """The bytes that the program reads: the cases, and a 0 that ends them. A word of 32 bits is stored by its bits, whatever its sign."""
         return b"".join(struct.pack("<I", word & 0xFFFFFFFF) for word in self.words + [0])
@@ -37,27 +75,27 @@ class Cases:
         return "".join(line + "\n" for line in self.lines).encode()
 
     def path(self, name):
-        return os.path.join(TOP, "crates", self.program, name)
+        return os.path.join(TOP, "crates", self.name, name)
 
     def store(self):
         for name, content in (("stdin", self.input()), ("stdout", self.output())):
             with open(self.path(name), "wb") as file:
                 file.write(content)
-        print("%s: %d lines, %d bytes of input, %d of output" % (self.program, len(self.lines), len(self.input()), len(self.output())))
+        print("%s: %d lines, %d bytes of input, %d of output" % (self.name, len(self.lines), len(self.input()), len(self.output())))
 
     def differs(self, stored_input, stored_output):
         """Where what is stored differs from what is made, in words, or an empty text."""
         if stored_input != self.input():
             made = self.input()
             at = next((k for k in range(min(len(made), len(stored_input))) if made[k] != stored_input[k]), min(len(made), len(stored_input)))
-            return "crates/%s/stdin differs at byte %d" % (self.program, at)
+            return "crates/%s/stdin differs at byte %d" % (self.name, at)
         if stored_output != self.output():
             stored = stored_output.decode(errors="replace").split("\n")
             made = self.output().decode().split("\n")
             at = next((k for k in range(min(len(made), len(stored))) if made[k] != stored[k]), min(len(made), len(stored)))
             label = self.labels[at] if at < len(self.labels) else "past the last case"
             return "crates/%s/stdout differs at line %d (%s): stored `%s`, expected `%s`" % (
-                self.program, at + 1, label, stored[at] if at < len(stored) else "", made[at] if at < len(made) else "")
+                self.name, at + 1, label, stored[at] if at < len(stored) else "", made[at] if at < len(made) else "")
         return ""
 
     def read(self):
@@ -69,17 +107,30 @@ class Cases:
         return contents
 
 
-class Asked:
-    """The cases of one program that are asked of two sheets each; what was seen in them is counted."""
+class Fixed(Cases):
+    """A part of one case, which has no arguments: the lines that it must print stand in fixed/."""
 
-    program = ""
+    def __init__(self, part, kind):
+        super().__init__(part)
+        self.words = [kind]
+        with open(os.path.join(HERE, "fixed", part + ".txt"), encoding="utf-8") as file:
+            self.lines = file.read().splitlines()
+        self.labels = ["line %d" % (k + 1) for k in range(len(self.lines))]
+
+
+class Asked:
+    """The cases of one part that are asked of two sheets each; what was seen in them is counted."""
+
+    name = ""
+    kind = 0
 
     def __init__(self):
-        self.cases = Cases(self.program)
+        self.cases = Cases(self.name)
         self.pairs = 0
         self.seen = collections.Counter()
 
-    def put(self, label, p, q, requests, asked, kind=1):
+    def put(self, label, p, q, requests, asked, kind=None):
         """A case of two sheets and the words of each request, of a kind that the program knows. Answers the lines that must be printed."""
-        self.pairs += kind == 1
+        self.pairs += kind is None
+        kind = kind or self.kind
         return self.cases.add(label, [kind, len(p), len(q), len(requests)] + p + q + [word for request in requests for word in request], asked)

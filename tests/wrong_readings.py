@@ -399,7 +399,7 @@ BOOK = [
 ]
 
 STEP = 100
-WRONG = {"try_sheets": SHEETS, "try_walks": WALKS, "try_pages": PAGES, "try_runs": RUNS, "try_shortest": SHORTEST, "try_near": NEAR, "the book": BOOK}
+WRONG = {"sheets": SHEETS, "walks": WALKS, "pages": PAGES, "runs": RUNS, "shortest": SHORTEST, "near": NEAR, "the book": BOOK}
 
 
 def misread(old, new):
@@ -426,5 +426,5 @@ def told(cases, rules):
 
 
 def untold(cases):
-    """The wrong readings that no stored case of a program tells."""
-    return [new for old, new in WRONG.get(cases.program, []) if not told(cases, misread(old, new))]
+    """The wrong readings that no stored case of a part of the tape tells."""
+    return [new for old, new in WRONG.get(cases.name, []) if not told(cases, misread(old, new))]

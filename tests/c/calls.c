@@ -1,8 +1,8 @@
 /*
  * Every call of ring.h with random and damaged inputs: null with length 0, wrong lengths, extreme numbers, words changed at random.
  * Answers are held to a plain second reading of the rules: the numbers of open up to 6, of pack, next key and take; the list, by trying every pair against
- * every record; the shortest pairs, the nearest pump houses and a leaf's run likewise, the nodes of a run and of the filter that goes nearest first by a plain walk; the marker, doubled. Lent memory is held to a copy made before the call, with guards
- * on both sides.
+ * every record; the shortest pairs, the nearest pump houses and a leaf's run likewise; what walks keep, what stops them, and the nodes opened, of pages and runs
+ * too, by plain walks; the marker, doubled. Lent memory is held to a copy made before the call, with guards on both sides.
  * Prints one line, and ends with 1 where an answer differs or a number of refusal never came up.
  */
 #include <stdio.h>
@@ -239,6 +239,108 @@ static bool same_book(RingBook a, RingBook b) {
         && a.source.terms.threshold == b.source.terms.threshold && a.source.terms.own == b.source.terms.own;
 }
 
+/* ---- the walks, read again */
+
+static const int32_t *node_of(const Sheet *s, size_t v) { return s->words + 5 * count_of(s) + 7 * v; }
+
+static size_t stands(const Sheet *s, int32_t place) { return (size_t)s->words[3 * count_of(s) + (size_t)place]; }
+
+/* x skips the box for q: all corners lie behind the line, and x stands neither at the place of q nor in the box */
+static bool skips(const int32_t *q, const int32_t *box, const int32_t *x) {
+    const int32_t corners[12] = {0, box[0], box[1], 0, box[0], box[3], 0, box[2], box[1], 0, box[2], box[3]};
+    for (size_t c = 0; c < 4; c++)
+        if (!behind(q, corners + 3 * c, x)) return false;
+    return !one_spot(q, x) && !(in(box[0], x[1], box[2]) && in(box[1], x[2], box[3]));
+}
+
+static uint64_t square(int64_t x) { return (uint64_t)(x * x); }
+
+/* how far x is outside of low to high */
+static int64_t beside(int64_t low, int64_t x, int64_t high) { return x < low ? low - x : x > high ? x - high : 0; }
+
+/* the filter walk for q over P from node v on, which passes over one position, or none; the nodes opened */
+static uint64_t filter_from(const int32_t *q, size_t over, size_t v, bool *kept) {
+    const int32_t *node = node_of(&P, v);
+    uint64_t opened = 1;
+    for (size_t i = 0; i < count_of(&P); i++)
+        if (kept[i] && skips(q, node + 3, P.words + 3 * i)) return 0;
+    for (int32_t c = node[1]; c < node[1] + node[2]; c++)
+        if (node[0]) opened += filter_from(q, over, (size_t)c, kept);
+        else {
+            size_t x = stands(&P, c);
+            bool out = x == over;
+            for (size_t i = 0; i < count_of(&P); i++) out |= kept[i] && blocks(q, P.words + 3 * x, P.words + 3 * i);
+            kept[x] = !out;
+        }
+    return opened;
+}
+
+static uint64_t filtered(const int32_t *q, size_t over, bool *kept) {
+    memset(kept, 0, 1000 * sizeof *kept);
+    return nodes_of(&P) ? filter_from(q, over, nodes_of(&P) - 1, kept) : 0;
+}
+
+/* twice the centre is farther from the doubled box than the ends are from each other */
+static bool far_off(const int32_t *a, const int32_t *b, const int32_t *box) {
+    uint64_t x = square(beside(2 * (int64_t)box[0], (int64_t)a[1] + b[1], 2 * (int64_t)box[2]));
+    return x + square(beside(2 * (int64_t)box[1], (int64_t)a[2] + b[2], 2 * (int64_t)box[3])) > size_of(a, b).size;
+}
+
+/* the ring walk for a, b from node v of a sheet on, of which one position is an end: whether it is stopped, and in w by what, and the nodes opened */
+static bool stopped(const Sheet *s, const int32_t *a, const int32_t *b, size_t end, size_t v, RingWalked *w) {
+    const int32_t *node = node_of(s, v);
+    if (far_off(a, b, node + 3)) return false;
+    w->at = v, w->kind = RING_BY_SIDE;
+    for (w->side = RING_LEFT; w->side <= RING_TOP; w->side++)
+        if (side_in(a, b, node + 3, w->side)) return true;
+    w->opened++, w->side = 0, w->kind = RING_CLEAR;
+    for (int32_t c = node[1]; c < node[1] + node[2]; c++)
+        if (node[0]) {
+            if (stopped(s, a, b, end, (size_t)c, w)) return true;
+        } else if (w->at = stands(s, c), w->at != end && blocks(a, b, s->words + 3 * w->at)) {
+            w->kind = RING_BY_POINT;
+            return true;
+        }
+    w->at = 0;
+    return false;
+}
+
+/* the ring walks of q, at position j, and p, at position i of P: over Q, but not where P is joined with itself, then over P */
+static RingWalked walked(const int32_t *q, const int32_t *p, size_t j, size_t i, bool own) {
+    RingWalked w;
+    memset(&w, 0, sizeof w);
+    w.set = 1;
+    if (!own && stopped(&Q, q, p, j, nodes_of(&Q) - 1, &w)) return w;
+    w.set = 0;
+    stopped(&P, q, p, i, nodes_of(&P) - 1, &w);
+    return w;
+}
+
+/* the nodes opened for a page: of each q from the key's on the filter's, and those of its kept partners after the key, up to the first pair beyond the size; of the
+   list of a t, those of all its kept partners */
+static uint64_t page_opened(RingKey key, size_t size, uint32_t t, bool own) {
+    static bool kept[1000];
+    const Sheet *s = own ? &P : &Q;
+    uint64_t opened = 0;
+    size_t found = 0;
+    for (size_t j = 0; j < count_of(s) && found <= size; j++) {
+        const int32_t *q = s->words + 3 * j;
+        size_t many = 0, later = 0;
+        if ((uint32_t)q[0] < key.q) continue;
+        opened += filtered(q, own ? j : SIZE_MAX, kept);
+        for (size_t i = own ? j + 1 : 0; i < count_of(&P) && (t || found + later <= size); i++) {
+            const int32_t *p = P.words + 3 * i;
+            bool follows = after(key, size_of(q, p));
+            if (!kept[i] || !(t || follows)) continue;
+            RingWalked w = walked(q, p, j, i, own);
+            opened += w.opened;
+            if (w.kind == RING_CLEAR) many++, later += follows;
+        }
+        if (many >= t) found += later;
+    }
+    return opened;
+}
+
 /* ---- the calls */
 
 static void try_open(void) {
@@ -323,6 +425,7 @@ static uint32_t two_sheets(size_t most, size_t *j, size_t *i) {
 }
 
 static void try_filter(void) {
+    static bool expected[1000];
     size_t j, i, set = 0;
     uint32_t number = two_sheets(14, &j, &i);
     RingFiltered r = ring_filter_walk(at(&P), P.len, at(&Q), Q.len, j);
@@ -334,7 +437,8 @@ static void try_filter(void) {
         if (r.number || i >= count_of(&P)) HOLD(!kept);
         else if (!kept && i < 60) HOLD(!is_pair(j, i));
     }
-    HOLD(r.count == set && (r.number ? r.opened == 0 : r.opened <= nodes_of(&P)));
+    HOLD(r.count == set && r.opened == (r.number ? 0 : filtered(Q.words + 3 * j, SIZE_MAX, expected)));
+    for (i = 0; !r.number && i < count_of(&P); i++) HOLD(expected[i] == (bool)(r.bits[i / 64] >> i % 64 & 1));
 }
 
 static void try_pair(void) {
@@ -349,7 +453,8 @@ static void try_pair(void) {
         return;
     }
     const Sheet *s = r.set ? &Q : &P;
-    HOLD(r.kind <= 2 && r.set <= 1 && r.opened <= nodes_of(&P) + nodes_of(&Q));
+    RingWalked expected = walked(Q.words + 3 * j, P.words + 3 * i, j, i, false);
+    HOLD(r.kind == expected.kind && r.set == expected.set && r.side == expected.side && r.at == expected.at && r.opened == expected.opened);
     HOLD((r.kind == RING_CLEAR) == is_pair(j, i));
     if (r.kind == RING_BY_POINT) HOLD(r.side == 0 && r.at < count_of(s) && r.at != (r.set ? j : i) && blocks(Q.words + 3 * j, P.words + 3 * i, s->words + 3 * r.at));
     if (r.kind == RING_BY_SIDE) {
@@ -403,8 +508,8 @@ static void try_page(void) {
     if (!number) number = key.q > 2000000000 || key.p > 2000000000 ? 9 : size < 1 || size > 16 ? 10 : t > 1000 ? 21 : 0;
     RingPaged r = ring_page(at(&P), P.len, at(&Q), Q.len, (RingRequest){key, size, t});
     saw(r.number), hold_saved();
-    HOLD(r.number == number);
-    if (r.number) memset(&expected, 0, sizeof expected), HOLD(r.opened == 0);
+    HOLD(r.number == number && r.opened == (number ? 0 : page_opened(key, size, t, false)));
+    if (r.number) memset(&expected, 0, sizeof expected);
     else expected = page_of(key, size, t);
     HOLD(same_page(&r.page, &expected));
 }
@@ -440,8 +545,8 @@ static void try_own(void) {
     if (!number) number = key.q > 2000000000 || key.p > 2000000000 ? 9 : size < 1 || size > 16 ? 10 : 0;
     RingPaged r = ring_own_page(at(&P), P.len, key, size);
     saw(r.number), hold_saved();
-    HOLD(r.number == number);
-    if (r.number) memset(&expected, 0, sizeof expected), HOLD(r.opened == 0);
+    HOLD(r.number == number && r.opened == (number ? 0 : page_opened(key, size, 0, true)));
+    if (r.number) memset(&expected, 0, sizeof expected);
     else expected = own_of(key, size);
     HOLD(same_page(&r.page, &expected));
 }
@@ -602,10 +707,6 @@ static void try_marker(void) {
 
 /* ---- a leaf's run */
 
-static const int32_t *node_of(const Sheet *s, size_t v) { return s->words + 5 * count_of(s) + 7 * v; }
-
-static size_t stands(const Sheet *s, int32_t place) { return (size_t)s->words[3 * count_of(s) + (size_t)place]; }
-
 /* the chambers of a leaf, and what one walk of P keeps for each */
 static struct {
     size_t chambers, at[16];
@@ -614,14 +715,6 @@ static struct {
 } leaf;
 
 static const int32_t *chamber(size_t k) { return Q.words + 3 * leaf.at[k]; }
-
-/* x skips the box for q: all corners lie behind the line, and x stands neither at the place of q nor in the box */
-static bool skips(const int32_t *q, const int32_t *box, const int32_t *x) {
-    const int32_t corners[12] = {0, box[0], box[1], 0, box[0], box[3], 0, box[2], box[1], 0, box[2], box[3]};
-    for (size_t c = 0; c < 4; c++)
-        if (!behind(q, corners + 3 * c, x)) return false;
-    return !one_spot(q, x) && !(in(box[0], x[1], box[2]) && in(box[1], x[2], box[3]));
-}
 
 /* for chamber k, a pump house kept so far or another chamber of the leaf skips the box, or where there is none, the spot */
 static bool ruled_out(size_t k, const int32_t *box, const int32_t *spot) {
@@ -646,7 +739,7 @@ static void walk_node(size_t v) {
             for (size_t k = 0, i = stands(&P, c); k < leaf.chambers; k++) leaf.kept[k][i] = !ruled_out(k, 0, P.words + 3 * i);
 }
 
-/* leaf v of Q: its pairs by place, then p id, and the nodes opened, a ring walk's as ring_pair_walk counts them; how many pairs */
+/* leaf v of Q: its pairs by place, then p id, and the nodes opened; how many pairs */
 static size_t run_of(size_t v, RingPair *pairs) {
     const int32_t *node = node_of(&Q, v);
     size_t count = 0;
@@ -655,7 +748,7 @@ static size_t run_of(size_t v, RingPair *pairs) {
     if (nodes_of(&P)) walk_node(nodes_of(&P) - 1);
     for (size_t k = 0; k < leaf.chambers; k++)
         for (size_t i = 0; i < count_of(&P); i++) {
-            if (leaf.kept[k][i]) leaf.opened += ring_pair_walk(P.words, P.len, Q.words, Q.len, leaf.at[k], i).opened;
+            if (leaf.kept[k][i]) leaf.opened += walked(chamber(k), P.words + 3 * i, leaf.at[k], i, false).opened;
             if (is_pair(leaf.at[k], i)) pairs[count++] = pair_of(leaf.at[k], i);
         }
     return count;
@@ -681,12 +774,7 @@ static void try_leaf(void) {
 
 /* ---- nearest first */
 
-static uint64_t square(int64_t x) { return (uint64_t)(x * x); }
-
 static uint64_t to_spot(const int32_t *q, const int32_t *x) { return square((int64_t)q[1] - x[1]) + square((int64_t)q[2] - x[2]); }
-
-/* how far x is outside of low to high */
-static int64_t beside(int64_t low, int64_t x, int64_t high) { return x < low ? low - x : x > high ? x - high : 0; }
 
 static uint64_t to_box(const int32_t *q, const int32_t *box) { return square(beside(box[0], q[1], box[2])) + square(beside(box[1], q[2], box[3])); }
 

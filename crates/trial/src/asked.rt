@@ -1,0 +1,64 @@
+// Cases of two sheets, with what is asked of them.
+use crate::tape;
+
+// The most words that a sheet of a case has.
+const MOST: usize = 8192;
+
+// Filter walks, and the ring walks that follow them.
+const WALKS: usize = 6;
+
+const RING_WALKS: usize = 7;
+
+fn request(kind: usize, p: &[i32], q: &[i32]) {
+    if kind == WALKS {
+        crate::walks::filter_case(p, q);
+    } else if kind == RING_WALKS {
+        crate::walks::ring_case(p, q);
+    } else if kind == 8 {
+        crate::pages::page_case(p, q);
+    } else if kind == 9 {
+        crate::pages::partners_case(p, q);
+    } else if kind == 10 {
+        crate::pages::own_case(p);
+    } else if kind == 11 {
+        crate::leaves::run_case(p, q);
+    } else if kind == 12 {
+        crate::circles::shortest_case(p, q);
+    } else if kind == 13 {
+        crate::near::near_case(p, q);
+    }
+}
+
+fn requests(kind: usize, p: &[i32], q: &[i32], count: usize) {
+    let mut k = 0;
+    while k < count {
+        request(kind, p, q);
+        k += 1;
+    }
+}
+
+// How many ring walks follow the filter walks: none where something else is asked.
+fn ring_walks(kind: usize) -> usize {
+    if kind == WALKS {
+        return tape::next_count();
+    }
+    0
+}
+
+fn all(kind: usize, p: &[i32], q: &[i32], count: usize, rings: usize) {
+    requests(kind, p, q, count);
+    requests(RING_WALKS, p, q, rings);
+}
+
+// The lengths of two sheets, the second 0 for a self join, how many requests there are, for walks how many of each kind, the sheets, and the requests.
+pub fn asked(kind: usize) {
+    let np = tape::next_up_to(MOST);
+    let nq = tape::next_up_to(MOST);
+    let count = tape::next_count();
+    let rings = ring_walks(kind);
+    let mut p = [0i32; MOST];
+    let mut q = [0i32; MOST];
+    tape::fill(&mut p, np);
+    tape::fill(&mut q, nq);
+    all(kind, &p[..np], &q[..nq], count, rings);
+}

@@ -1,0 +1,88 @@
+// Pages of two sheets and of a self join, and whether a chamber has so many partners.
+use crate::say;
+use crate::tape;
+
+fn print_key(k: list::Key) {
+    say::number(k.q as u64);
+    say::number(k.p as u64);
+}
+
+fn print_mark(end: bool) {
+    if end {
+        say::number(1);
+    } else {
+        say::number(0);
+    }
+}
+
+fn print_page(page: list::Page) {
+    let source = page.source;
+    say::number(source.p_edition as u64);
+    say::number(source.q_edition as u64);
+    say::number(source.terms.threshold as u64);
+    print_mark(source.terms.own);
+    let key = page.key;
+    print_key(key);
+    say::number(page.count as u64);
+    print_mark(page.end);
+    let pairs = page.pairs;
+    say::pairs(pairs, 16);
+}
+
+// A key, a size and a threshold, and the page that they ask for.
+pub fn page_case(p: &[i32], q: &[i32]) {
+    let key_q = tape::next_id();
+    let key_p = tape::next_id();
+    let size = tape::next_or_largest();
+    let threshold = tape::next_id();
+    let key = list::Key { q: key_q, p: key_p };
+    say::say(b"page");
+    print_key(key);
+    say::number(size as u64);
+    say::number(threshold as u64);
+    say::say(b":");
+    let request = list::Request {
+        key: key,
+        size: size,
+        threshold: threshold,
+    };
+    let r = ring::page::page(p, q, request);
+    say::number(r.number as u64);
+    say::number(r.opened);
+    let page = r.page;
+    print_page(page);
+    say::end_line();
+}
+
+// A key and a size, and the page of the self join that they ask for.
+pub fn own_case(s: &[i32]) {
+    let key_q = tape::next_id();
+    let key_p = tape::next_id();
+    let size = tape::next_or_largest();
+    let key = list::Key { q: key_q, p: key_p };
+    say::say(b"own");
+    print_key(key);
+    say::number(size as u64);
+    say::say(b":");
+    let r = ring::own::own_page(s, key, size);
+    say::number(r.number as u64);
+    say::number(r.opened);
+    let page = r.page;
+    print_page(page);
+    say::end_line();
+}
+
+// The id of a chamber and a t, and whether it has so many partners.
+pub fn partners_case(p: &[i32], q: &[i32]) {
+    let id = tape::next_id();
+    let t = tape::next_id();
+    say::say(b"partners");
+    say::number(id as u64);
+    say::number(t as u64);
+    say::say(b":");
+    let r = ring::partners::partners(p, q, id, t);
+    say::number(r.number as u64);
+    say::number(r.count as u64);
+    print_mark(r.enough);
+    say::end_line();
+}
