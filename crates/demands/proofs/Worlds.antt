@@ -1,8 +1,8 @@
 -- The premises of demand 3 can be had. `Editions`: the empty sheet opens, and may stand for every edition number that was never given out. And a history that is not empty: with
 -- the document's two sheets, of editions 7 and 9, a book begun for them asks, takes, and comes to be closed with the document's three pairs (`document-closed`).
 -- Assumes nothing.
-use mathlib.Core.Path.{_≡_, refl, sym, ap, subst, _∙_}
-use mathlib.Core.Bool.{true, false, true≢false}
+use mathlib.Core.Path.{_≡_, refl, sym, ap, _∙_}
+use mathlib.Core.Bool.{true, true≢false}
 use mathlib.Core.List.{List, [], _∷_}
 use Prim.Native.Nat.{ℕ}
 use native.Mathlib.Omega.{arith}
@@ -13,7 +13,7 @@ use Rattle.words.specs.Range.{idWord, editionWord, coordWord, editionOk}
 use Rattle.words.specs.All.{allB, tab}
 use Rattle.sheet.specs.Limits.{form1}
 use Rattle.words.specs.First.{given, first, answer}
-use Rattle.sheet.specs.Layout.{points, rootWord, countsOk, layoutOk, trailerNo}
+use Rattle.sheet.specs.Layout.{rootWord, countsOk, layoutOk, trailerNo}
 use Rattle.sheet.specs.Points.{fieldsOk, risesOk, pointOk, pointsOk}
 use Rattle.sheet.specs.Order.{orderOf, rankOf, placeOk, orderOk}
 use Rattle.sheet.specs.Nodes.{levelOf, firstOf, countOf, sameLevel, dueNext, dueOf, runOk, isLast, endOk, nodeRule, nodeOk, tableOk, nodesOk}
