@@ -50,28 +50,28 @@ emptyWorld = record { pumps = λ e. emptySheet; chambers = λ e. emptySheet; ass
 
 -- ---- the document's two sheets
 
-unfoldable documentP : List ℤ
+unfoldable pub documentP : List ℤ
 documentP = pos 1 ∷ pos 0 ∷ pos 0 ∷ pos 2 ∷ pos 10 ∷ pos 0 ∷ pos 0 ∷ pos 1 ∷ pos 0 ∷ pos 1 ∷ pos 0 ∷ pos 0 ∷ pos 2 ∷ pos 0 ∷ pos 0 ∷ pos 10 ∷ pos 0 ∷ pos 17 ∷ pos 7 ∷ pos 2 ∷ pos 1 ∷ pos 7 ∷ pos 1 ∷ []
 
-unfoldable documentQ : List ℤ
+unfoldable pub documentQ : List ℤ
 documentQ = pos 5 ∷ pos 4 ∷ pos 0 ∷ pos 6 ∷ pos 16 ∷ pos 1 ∷ pos 0 ∷ pos 1 ∷ pos 0 ∷ pos 1 ∷ pos 0 ∷ pos 0 ∷ pos 2 ∷ pos 4 ∷ pos 0 ∷ pos 16 ∷ pos 1 ∷ pos 17 ∷ pos 7 ∷ pos 2 ∷ pos 1 ∷ pos 9 ∷ pos 1 ∷ []
 
-p-opens : openNo form1 documentP ≡ 0
+pub p-opens : openNo form1 documentP ≡ 0
 unfolding form1 idWord editionWord coordWord eqZ within before num isBelow minZ maxZ allB rootWord countsOk layoutOk trailerNo fieldsOk risesOk pointOk pointsOk orderOf rankOf placeOk orderOk levelOf firstOf countOf sameLevel dueNext dueOf runOk isLast endOk nodeRule nodeOk tableOk nodesOk sideOf coordOf better best tightSide tightOk given first bodyNo openNo documentP
 p-opens = refl
 
-q-opens : openNo form1 documentQ ≡ 0
+pub q-opens : openNo form1 documentQ ≡ 0
 unfolding form1 idWord editionWord coordWord eqZ within before num isBelow minZ maxZ allB rootWord countsOk layoutOk trailerNo fieldsOk risesOk pointOk pointsOk orderOf rankOf placeOk orderOk levelOf firstOf countOf sameLevel dueNext dueOf runOk isLast endOk nodeRule nodeOk tableOk nodesOk sideOf coordOf better best tightSide tightOk given first bodyNo openNo documentQ
 q-opens = refl
 
 -- every edition number has these; a book is begun for 7 and 9
-documentWorld : Editions
+unfoldable pub documentWorld : Editions
 documentWorld = record { pumps = λ e. documentP; chambers = λ e. documentQ; assets = λ e. emptySheet; pumps-open = λ e. p-opens; chambers-open = λ e. q-opens; assets-open = λ e. empty-opens }
 
-abbrev documentSource : Source
+abbrev pub documentSource : Source
 documentSource = record { «p_edition» = 7; «q_edition» = 9; terms = full }
 
-abbrev threePairs : List Pair
+abbrev pub threePairs : List Pair
 threePairs = record { q = 5; p = 1; size = 16 } ∷ record { q = 5; p = 2; size = 36 } ∷ record { q = 6; p = 2; size = 37 } ∷ []
 
 begun-for : BeginAnswers documentSource (begun.Open (begunBook documentSource))
