@@ -49,7 +49,6 @@ use Rattle.list.specs.declared.Key.{Key}
 use Rattle.list.specs.declared.Pair.{Pair}
 use Rattle.list.specs.declared.Page.{Page}
 use Rattle.list.specs.declared.Terms.{Terms}
-use Rattle.list.specs.declared.Request.{Request}
 use Rattle.list.specs.Pairs.{start, none, keyOf, ascends, after, chamberPairs}
 use Rattle.list.specs.Pages.{sizeNo, pageOf, pagePairs, shown, followed, lastThreshold}
 use Rattle.list.specs.Rows.{listBy, Rising}

@@ -38,7 +38,6 @@ use Rattle.list.specs.declared.Page.{Page}
 use Rattle.list.specs.Pairs.{start, lastOr}
 use Rattle.list.specs.Pages.{sameKind, shown, pageOf}
 use Rattle.list.specs.declared.Terms.{Terms}
-use Rattle.list.specs.declared.Request.{Request}
 use Rattle.list.specs.RingList.{sizeOf}
 use Rattle.list.specs.Rows.{Rising}
 use Rattle.list.specs.Terms.{requestOf, listFor}
