@@ -49,18 +49,17 @@ use Rattle.list.specs.declared.Key.{Key}
 use Rattle.list.specs.declared.Pair.{Pair}
 use Rattle.list.specs.declared.Page.{Page}
 use Rattle.list.specs.declared.Terms.{Terms}
-use Rattle.list.specs.declared.Request.{Request}
 use Rattle.list.specs.Pairs.{start, none, keyOf, ascends, after, chamberPairs}
 use Rattle.list.specs.Pages.{sizeNo, pageOf, pagePairs, shown, followed, lastThreshold}
 use Rattle.list.specs.Rows.{listBy, Rising}
 use Rattle.list.specs.RingList.{ringPair, sizeOf, pairAt, ringList}
-use Rattle.list.specs.Terms.{full, withT, alone, listedFor, listFor}
+use Rattle.list.specs.Terms.{full, withT, alone, requestOf, listedFor, listFor}
 use Rattle.list.proofs.PageLaws.{size-fits, page-shows, shown-member}
 use Rattle.list.specs.Nearest.{Nearest}
 use Rattle.list.proofs.Order.{after-all}
 use Rattle.list.proofs.NearestLaws as of-nearest
 use Rattle.list.proofs.TermsLaws as of-terms
-use Rattle.list.proofs.TermsLaws.{for-ascends, for-once, for-only, for-size, threshold-pairs, threshold-iff}
+use Rattle.list.proofs.TermsLaws.{kind-of, for-ascends, for-once, for-only, for-size, threshold-pairs, threshold-iff}
 use Rattle.list.proofs.RowLaws.{list-same, Placed, ring-ascends, ring-iff, ring-size}
 use Rattle.walk.specs.declared.Blocker.{Blocker}
 use Rattle.walk.specs.declared.Edge.{Edge}
@@ -236,10 +235,10 @@ module _ (P Q : List ℤ) (p-opens : WellFormed P) (q-opens : WellFormed Q) wher
         where
           go : (k : Bool) → a .own ≡ k → OfKind k a P Q key size r → (1 ≤ size) × (size ≤ 16) × (r ≡ pageGiven a P Q key size)
           go false e x =
-              let ask : Request = record { key = key; size = size; threshold = a .threshold } in
+              let ask = requestOf a key size in
               let no : pageNo P Q ask ≡ 0 = sym (of-page.page-no P Q ask) ∙ sym (ap (λ (y : Paged). y .number) (x .promised)) ∙ fine in
               let s = size-fits size (none-applies _ .0 no 3) in
-              (s .0, s .1, x .promised ∙ of-page.page-answered P Q ask no ∙ ap (λ (y : Terms). pageGiven y P Q key size) (λ i. record { threshold = a .threshold; own = sym e i }))
+              (s .0, s .1, x .promised ∙ of-page.page-answered P Q ask no ∙ ap (λ (y : Terms). pageGiven y P Q key size) (kind-of a false e))
           go true e x =
               let no : ownNo P key size ≡ 0 = sym (of-own.own-no P key size) ∙ sym (ap (λ (y : Paged). y .number) (x .2 .promised)) ∙ fine in
               let s = size-fits size (none-applies _ .0 no 2) in
@@ -251,7 +250,7 @@ module _ (P Q : List ℤ) (p-opens : WellFormed P) (q-opens : WellFormed Q) wher
         page-served = go (a .own) answers
           where
             go : (k : Bool) → OfKind k a P Q key size r → r .number ≡ 0
-            go false x = unfold pageGiven in ap (λ (y : Paged). y .number) (x .promised ∙ of-page.page-served P Q (record { key = key; size = size; threshold = a .threshold }) sheets (h .q-in) (h .p-in) (h .some) (h .most) (h .fair))
+            go false x = unfold pageGiven in ap (λ (y : Paged). y .number) (x .promised ∙ of-page.page-served P Q (requestOf a key size) sheets (h .q-in) (h .p-in) (h .some) (h .most) (h .fair))
             go true x = unfold pageGiven in ap (λ (y : Paged). y .number) (x .2 .promised ∙ of-own.own-served P key size p-opens (h .q-in) (h .p-in) (h .some) (h .most))
 
         page-is : r ≡ pageGiven a P Q key size
@@ -379,7 +378,7 @@ module _ (P Q : List ℤ) (p-opens : WellFormed P) (q-opens : WellFormed Q) wher
     never-empty = of-nearest.never-empty (pointsOf P) (pointsOf Q) (omega (arith, length-points P)) (omega (arith, length-points Q))
 
     -- and its first page shows a pair.
-    pub first-visit : (size : ℕ) (r : Paged) → InRange start size 0 → PageAnswers P Q (record { key = start; size = size; threshold = 0 }) r → 0 < r .page .count
+    pub first-visit : (size : ℕ) (r : Paged) → InRange start size 0 → PageAnswers P Q (requestOf full start size) r → 0 < r .page .count
     unfolding pageOf shown
     first-visit size r h a =
         let l = ringList (pointsOf P) (pointsOf Q) in

@@ -38,10 +38,9 @@ use Rattle.list.specs.declared.Page.{Page}
 use Rattle.list.specs.Pairs.{start, lastOr}
 use Rattle.list.specs.Pages.{sameKind, shown, pageOf}
 use Rattle.list.specs.declared.Terms.{Terms}
-use Rattle.list.specs.declared.Request.{Request}
 use Rattle.list.specs.RingList.{sizeOf}
 use Rattle.list.specs.Rows.{Rising}
-use Rattle.list.specs.Terms.{listFor}
+use Rattle.list.specs.Terms.{requestOf, listFor}
 use Rattle.list.proofs.Order.{last-holds}
 use Rattle.list.proofs.PageLaws.{shown-count, length-padded}
 use Rattle.list.proofs.TermsLaws.{for-size, for-keys}
@@ -294,7 +293,7 @@ module _ (w : Editions) where
     where
       go : (k : Bool) → (k ≡ true → (P ≡ Q) × (of .terms .threshold ≡ 0)) → (r : Paged) × of-promise.OfKind k (of .terms) P Q key size r
       go false f =
-          let ask : Request = record { key = key; size = size; threshold = of .terms .threshold } in
+          let ask = requestOf (of .terms) key size in
           (pageAnswer P Q ask, record { κs = ([], ([], tt)); p-at = somewhere; q-at = somewhere; promised = refl })
       go true f = (ownAnswer P key size, (f refl .0, f refl .1, record { κs = ([], tt); w-at = somewhere; promised = refl }))
 

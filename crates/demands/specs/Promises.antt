@@ -19,6 +19,7 @@ use Rattle.list.specs.declared.Pair.{Pair}
 use Rattle.list.specs.declared.Request.{Request}
 use Rattle.list.specs.declared.Source.{Source}
 use Rattle.list.specs.declared.Terms.{Terms}
+use Rattle.list.specs.Terms.{requestOf}
 use Rattle.list.specs.declared.Page.{Page}
 use Rattle.ring.specs.Answers.{pointed, filtered, walked}
 use Rattle.ring.specs.Page.{pageAnswer}
@@ -124,7 +125,7 @@ pub record OwnAnswers (S : List ℤ) (key : Key) (size : ℕ) (r : Paged) : Type
 
 -- An answer of the page request of these terms: of two sheets, or of a self join, which is of the one sheet in both places and has no t.
 abbrev pub OfKind : Bool → Terms → List ℤ → List ℤ → Key → ℕ → Paged → Type 0
-OfKind false a P Q key size r = PageAnswers P Q (record { key = key; size = size; threshold = a .threshold }) r
+OfKind false a P Q key size r = PageAnswers P Q (requestOf a key size) r
 OfKind true a P Q key size r = (P ≡ Q) × (a .threshold ≡ 0) × OwnAnswers P key size r
 
 abbrev pub TermsAnswers : Terms → List ℤ → List ℤ → Key → ℕ → Paged → Type 0

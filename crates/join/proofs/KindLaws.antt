@@ -28,6 +28,7 @@ use Rattle.walk.proofs.Meaning.{filter-opened-at-most-m, ring-opened-at-most-m}
 use Rattle.walk.proofs.SelfLaws.{pass-opened, pass-keeps}
 use Rattle.list.specs.declared.Key.{Key}
 use Rattle.list.specs.declared.Terms.{Terms}
+use Rattle.list.proofs.TermsLaws.{kind-of}
 use Rattle.list.proofs.RowLaws.{rises-far}
 use Rattle.join.specs.declared.Draft.{Draft}
 use Rattle.join.specs.Walks.{Walks, Agrees}
@@ -165,7 +166,7 @@ two-sheets a P Q al ne words = go (a .own) refl
   where
     go : (k : Bool) → a .own ≡ k → walksOf words P Q ≡ walksBy a words P Q
     go true e = absurd (ne (al .no-t e))
-    go false e = ap (λ (x : Terms). walksBy x words P Q) (λ i. record { threshold = a .threshold; own = sym e i })
+    go false e = ap (λ (x : Terms). walksBy x words P Q) (kind-of a false e)
 
 -- a chamber of a page of t, as the code has it: b words were lent, and they are l now
 module _ (a : Terms) (P Q : List ℤ) (al : Alone a P Q) (key : Key) (size n j : ℕ) (d : Draft) (ne : a .threshold ≡ 0 → ⊥) (z : Spot) (ez : z ≡ spotOf Q j) (l b : ℕ) (el : l ≡ b) (o : ℕ) (eo : o ≡ filterKept b P z .opened) (s : ℕ) (es : s ≡ ringOpened (walksOf l P Q) n j) (c : ℕ) (ec : c ≡ foundFor (walksOf l P Q) n j) where

@@ -32,9 +32,9 @@ use Rattle.list.specs.Pages.{pageOf, followed}
 use Rattle.list.specs.Rows.{atLeast, listBy, Rising}
 use Rattle.list.specs.RingList.{pairAt, Sound}
 use Rattle.list.specs.declared.Terms.{Terms}
-use Rattle.list.specs.Terms.{pairFor, listedFor, listFor}
+use Rattle.list.specs.Terms.{ofKind, pairFor, listedFor, listFor}
 use Rattle.list.proofs.RowLaws.{named}
-use Rattle.list.proofs.TermsLaws.{for-pages}
+use Rattle.list.proofs.TermsLaws.{kind-of, for-pages}
 use Rattle.join.specs.Work.{pageOpened}
 use Rattle.join.specs.Maker.{pageMade, pageFrom}
 use Rattle.join.specs.Sheets.{walksBy, Alone}
@@ -67,12 +67,12 @@ points-sound w e =
     }
 
 -- what holds of two sheets, and of one in both places, holds of the terms
-pub by-kind : (F : Terms → List ℤ → Type 0) (a : Terms) (P Q : List ℤ) → Alone a P Q → ((t : ℕ) → F (record { threshold = t; own = false }) Q) → ((t : ℕ) → F (record { threshold = t; own = true }) P) → F a Q
+pub by-kind : (F : Terms → List ℤ → Type 0) (a : Terms) (P Q : List ℤ) → Alone a P Q → ((t : Terms) → F (ofKind false t) Q) → ((t : Terms) → F (ofKind true t) P) → F a Q
 by-kind F a P Q al two one = go (a .own) refl
   where
     go : (k : Bool) → a .own ≡ k → F a Q
-    go true e = subst (F a) (al .one e) (subst (λ (x : Terms). F x P) (λ i. record { threshold = a .threshold; own = sym e i }) (one (a .threshold)))
-    go false e = subst (λ (x : Terms). F x Q) (λ i. record { threshold = a .threshold; own = sym e i }) (two (a .threshold))
+    go true e = subst (F a) (al .one e) (subst (λ (x : Terms). F x P) (kind-of a true e) (one a))
+    go false e = subst (λ (x : Terms). F x Q) (kind-of a false e) (two a)
 
 module _ {P Q : List ℤ} {np mp nq mq : ℕ} (o : Opens P np mp) (o′ : Opens Q nq mq) where
   module _ (a : Terms) (al : Alone a P Q) (words : ℕ) (enough : np ≤ 64 * words) where

@@ -4,6 +4,7 @@
 --     for-only, for-iff         a pair is listed exactly if the rule lists its positions, and nothing else is
 --     for-ids, for-keys, for-size, for-sizes      what a listed pair says is in range, and its size is that of its two places
 --     for-pages                 its pages, followed from (0, 0), give it
+--     kind-of                   terms are those of their own kind
 --     full-list                 the list of the full terms is the ring pairs' list
 --     threshold-iff             a pair stands in the list of t exactly if it stands in the ring pairs' list, and its chamber has at least t pairs there; threshold-pairs: with all its pairs
 --     partners-listed           `partnersOf` is the number of the chamber's pairs in the ring pairs' list
@@ -31,11 +32,14 @@ use Rattle.list.specs.Pairs.{start, none, keyOf, ascends, chamberPairs}
 use Rattle.list.specs.Pages.{pageOf, followed}
 use Rattle.list.specs.Rows.{atLeast, listBy, Rising}
 use Rattle.list.specs.RingList.{unblocked, ringPair, sizeOf, pairAt, ringList, partnersOf, Sound}
-use Rattle.list.specs.Terms.{full, withT, alone, pairFor, listedFor, listFor}
+use Rattle.list.specs.Terms.{full, withT, alone, ofKind, pairFor, listedFor, listFor}
 use Rattle.list.proofs.Order.{once-key}
 use Rattle.list.proofs.PageLaws.{pages-list}
 use Rattle.list.proofs.RowLaws.{Placed, made-ascends, made-iff, made-only, made-ids, made-keys, made-size, made-sizes}
 use Rattle.list.proofs.ThresholdLaws as of-least
+
+pub kind-of : (a : Terms) (k : Bool) → a .own ≡ k → ofKind k a ≡ a
+kind-of a k e = λ i. record { threshold = a .threshold; own = sym e i }
 
 module _ (a : Terms) (P Q : List Point) (rp : Rising (idAt P) (length P)) (rq : Rising (idAt Q) (length Q)) where
   pub for-ascends : ascends start (listFor a P Q) ≡ true

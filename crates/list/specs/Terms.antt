@@ -5,7 +5,9 @@ use Prim.Native.Nat.{ℕ}
 use lib.Dec.{ltb}
 use lib.ListN.{length}
 use Rattle.plane.specs.Point.{Point, idAt}
+use Rattle.list.specs.declared.Key.{Key}
 use Rattle.list.specs.declared.Pair.{Pair}
+use Rattle.list.specs.declared.Request.{Request}
 use Rattle.list.specs.declared.Terms.{Terms}
 use Rattle.list.specs.Rows.{atLeast, listBy}
 use Rattle.list.specs.RingList.{ringPair, pairAt}
@@ -19,6 +21,13 @@ full = withT 0
 
 abbrev pub alone : Terms
 alone = record { threshold = 0; own = true }
+
+-- terms of either kind, the rest as it is; and the page request of terms of two sheets
+abbrev pub ofKind : Bool → Terms → Terms
+ofKind k a = record { threshold = a .threshold; own = k }
+
+abbrev pub requestOf : Terms → Key → ℕ → Request
+requestOf a key size = record { key = key; size = size; threshold = a .threshold }
 
 -- The rule of the terms, t apart: the ring rule. A self join is of one set in both places: "pairs of two different records of one sheet, lower id first", in which q is
 -- the lower id, p the higher; "blocked by the other records of that sheet".

@@ -22,7 +22,7 @@ use Rattle.list.specs.RingList.{sizeOf}
 use Rattle.list.proofs.Order.{at-member, last-holds, last-at}
 use Rattle.list.proofs.PageLaws.{page-shows, shown-count, shown-member}
 use Rattle.list.proofs.RowLaws.{ring-ascends, ring-only, ring-size, ring-keys}
-use Rattle.list.specs.Terms.{full}
+use Rattle.list.specs.Terms.{full, requestOf}
 use Rattle.list.proofs.TermsLaws.{full-list}
 use Rattle.join.proofs.Meaning.{points-rise}
 use Rattle.ring.specs.declared.Head.{Head}
@@ -71,10 +71,10 @@ module _ {P Q : List ℤ} {hp hq : Head} (b : Both P hp Q hq) where
       ring-size (pointsOf P) (pointsOf Q) (points-rise (b .p-opens)) (points-rise (b .q-opens)) v m (positionOf (pointsOf Q) (v .q)) (positionOf (pointsOf P) (v .p)) (h .0) (h .1) (named (pointsOf Q) (v .q) (h .0)) (named (pointsOf P) (v .p) (h .1))
 
   -- a request for sixteen pairs after a key in range is answered
-  pub page-is : (key : Key) → InRange key → (a : Paged) → a ≡ pageAnswer P Q (record { key = key; size = 16; threshold = 0 }) → a .page ≡ pageOf (sourceOf P Q full) (pairsOf P Q) key 16
+  pub page-is : (key : Key) → InRange key → (a : Paged) → a ≡ pageAnswer P Q (requestOf full key 16) → a .page ≡ pageOf (sourceOf P Q full) (pairsOf P Q) key 16
   unfolding pageGiven
   page-is key h a e =
-      ap (λ (x : Paged). x .page) (e ∙ page-served P Q (record { key = key; size = 16; threshold = 0 }) (sheets-both P Q (b .p-no) (b .q-no)) (h .0) (h .1) (omega arith) (omega arith) (omega arith))
+      ap (λ (x : Paged). x .page) (e ∙ page-served P Q (requestOf full key 16) (sheets-both P Q (b .p-no) (b .q-no)) (h .0) (h .1) (omega arith) (omega arith) (omega arith))
       ∙ ap (λ (l : List Pair). pageOf (sourceOf P Q full) l key 16) (full-list (pointsOf P) (pointsOf Q))
 
   module _ (key : Key) (s : Source) (g : Page) (e : g ≡ pageOf s (pairsOf P Q) key 16) where

@@ -31,7 +31,7 @@ use Rattle.list.specs.Pairs.{start}
 use Rattle.list.specs.Pages.{lastThreshold, thresholdNo, sizeNo, pageOf, followed}
 use Rattle.list.specs.declared.Terms.{Terms}
 use Rattle.list.specs.declared.Request.{Request}
-use Rattle.list.specs.Terms.{withT, listFor}
+use Rattle.list.specs.Terms.{withT, requestOf, listFor}
 use Rattle.list.proofs.PageLaws.{size-fits, size-taken, asked-pages}
 use Rattle.list.proofs.TermsLaws.{for-keys}
 use Rattle.join.specs.declared.Draft.{Draft}
@@ -168,9 +168,9 @@ module _ (P Q : List ℤ) (opens : sheetsNo P Q ≡ 0) where
   q-opens = open-facts form1 form1-fair Q (both-open P Q opens .1)
 
   pub pages-list : (t : ℕ) → t ≤ lastThreshold → (sizes : ℕ → ℕ) → ((i : ℕ) → sizeNo (sizes i) ≡ 0)
-      → followed (length (listFor (withT t) (pointsOf P) (pointsOf Q))) sizes (λ k n. pageAnswer P Q (record { key = k; size = n; threshold = t }) .page) start ≡ listFor (withT t) (pointsOf P) (pointsOf Q)
+      → followed (length (listFor (withT t) (pointsOf P) (pointsOf Q))) sizes (λ k n. pageAnswer P Q (requestOf (withT t) k n) .page) start ≡ listFor (withT t) (pointsOf P) (pointsOf Q)
   pages-list t most sizes s =
-      followed-list (withT t) P Q p-opens q-opens (λ k n. pageAnswer P Q (record { key = k; size = n; threshold = t })) (λ k n x y c d. page-served P Q (record { key = k; size = n; threshold = t }) opens x y c d most) sizes s
+      followed-list (withT t) P Q p-opens q-opens (λ k n. pageAnswer P Q (requestOf (withT t) k n)) (λ k n x y c d. page-served P Q (requestOf (withT t) k n) opens x y c d most) sizes s
 
 -- sheets with the same points give the same pairs, number and end mark of every page, whatever their editions and trees
 module _ (a : Terms) (P P′ Q Q′ : List ℤ) (key : Key) (size : ℕ) (ep : pointsOf P ≡ pointsOf P′) (eq : pointsOf Q ≡ pointsOf Q′) (r r′ : Paged) (e : r ≡ pageGiven a P Q key size) (e′ : r′ ≡ pageGiven a P′ Q′ key size) where
