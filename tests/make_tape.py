@@ -1,23 +1,25 @@
 #!/usr/bin/env python3
-"""The tape of crates/trial: the checked examples of document 01, then the cases of each generator, then the views.
+"""The tape of crates/trial, in parts: the checked examples of document 01 first.
 
     make_tape.py          writes crates/trial/stdin and stdout, after a change of the rules or of a generator
 """
+import make_examples
 import make_near
 import make_pages
 import make_runs
 import make_sheets
 import make_shortest
+import make_views
 import make_walks
-from stored import EXAMPLES, VIEWS, Cases, Fixed
+from stored import Cases
 
-GENERATORS = [make_sheets, make_walks, make_pages, make_runs, make_shortest, make_near]
+GENERATORS = [make_examples, make_sheets, make_walks, make_pages, make_runs, make_shortest, make_near, make_views]
 
 
 def joined(parts):
-    """The whole tape, of the parts that the generators make."""
+    """The whole tape, of its parts."""
     tape = Cases("trial")
-    for part in [Fixed("examples", EXAMPLES)] + parts + [Fixed("views", VIEWS)]:
+    for part in parts:
         tape.join(part)
     return tape
 

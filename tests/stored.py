@@ -6,15 +6,14 @@ import struct
 
 import reading
 
-HERE = os.path.dirname(os.path.abspath(__file__))
-TOP = os.path.join(HERE, "..")
+TOP = os.path.join(os.path.dirname(os.path.abspath(__file__)), "..")
 
-# The kinds of cases on the tape, as crates/trial knows them: a 0 ends it, and 7 is the program's own, for the ring walks of a case of walks.
-EXAMPLES, OPEN, POINT, PACK, VIEWS, WALKS = range(1, 7)
-PAGES, PARTNERS, OWN, RUNS, SHORTEST, NEAR = range(8, 14)
+# The kinds of cases on the tape, as crates/trial knows them: a 0 ends it, and 6 is the program's own, for the ring walks of a case of walks.
+RULES, OPEN, POINT, PACK, WALKS = range(1, 6)
+PAGES, PARTNERS, OWN, RUNS, SHORTEST, NEAR, VIEWS = range(7, 14)
 
 # of the kinds that are asked of two sheets: the words of a request
-WIDTH = {PAGES: 4, PARTNERS: 2, OWN: 3, RUNS: 2, SHORTEST: 1, NEAR: 4}
+WIDTH = {PAGES: 4, PARTNERS: 2, OWN: 3, RUNS: 2, SHORTEST: 1, NEAR: 4, VIEWS: 8}
 
 
 def split(tape):
@@ -23,7 +22,7 @@ def split(tape):
     at = 0
     while words[at]:
         kind = words[at]
-        if kind in (EXAMPLES, VIEWS):
+        if kind == RULES:
             end = at + 1
         elif kind == PACK:
             end = at + 8 + sum(words[at + 4:at + 6])
@@ -66,6 +65,7 @@ class Cases:
         self.words += part.words
         self.lines += part.lines
         self.labels += ["%s: %s" % (part.name, label) for label in part.labels]
+        self.asked += part.asked
 
     def input(self):
         """The bytes that the program reads: the cases, and a 0 that ends them. A word of 32 bits is stored by its bits, whatever its sign."""
@@ -105,17 +105,6 @@ class Cases:
             with open(self.path(name), "rb") as file:
                 contents.append(file.read())
         return contents
-
-
-class Fixed(Cases):
-    """A part of one case, which has no arguments: the lines that it must print stand in fixed/."""
-
-    def __init__(self, part, kind):
-        super().__init__(part)
-        self.words = [kind]
-        with open(os.path.join(HERE, "fixed", part + ".txt"), encoding="utf-8") as file:
-            self.lines = file.read().splitlines()
-        self.labels = ["line %d" % (k + 1) for k in range(len(self.lines))]
 
 
 class Asked:

@@ -5,27 +5,29 @@ use crate::tape;
 const MOST: usize = 8192;
 
 // Filter walks, and the ring walks that follow them.
-const WALKS: usize = 6;
+const WALKS: usize = 5;
 
-const RING_WALKS: usize = 7;
+const RING_WALKS: usize = 6;
 
 fn request(kind: usize, p: &[i32], q: &[i32]) {
     if kind == WALKS {
         crate::walks::filter_case(p, q);
     } else if kind == RING_WALKS {
         crate::walks::ring_case(p, q);
-    } else if kind == 8 {
+    } else if kind == 7 {
         crate::pages::page_case(p, q);
-    } else if kind == 9 {
+    } else if kind == 8 {
         crate::pages::partners_case(p, q);
-    } else if kind == 10 {
+    } else if kind == 9 {
         crate::pages::own_case(p);
-    } else if kind == 11 {
+    } else if kind == 10 {
         crate::leaves::run_case(p, q);
-    } else if kind == 12 {
+    } else if kind == 11 {
         crate::circles::shortest_case(p, q);
-    } else if kind == 13 {
+    } else if kind == 12 {
         crate::near::near_case(p, q);
+    } else if kind == 13 {
+        crate::views::view_case(p, q);
     }
 }
 

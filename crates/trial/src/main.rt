@@ -1,7 +1,6 @@
 // Runs the cases that stand on its tape, each of a kind, and prints what each call answers. The checked examples of document 01 are the first.
 mod asked;
 mod circles;
-mod examples;
 mod leaves;
 mod near;
 mod pages;
@@ -12,19 +11,16 @@ mod tape;
 mod views;
 mod walks;
 
-// A case that stands for itself, or of one sheet; those of two sheets are `asked`.
+// A case that takes nothing, or of one sheet; those of two sheets are `asked`.
 fn case(kind: usize) {
     if kind == 1 {
         places::rules();
-        examples::sheets();
     } else if kind == 2 {
         sheets::open_case();
     } else if kind == 3 {
         sheets::point_case();
     } else if kind == 4 {
         sheets::pack_case();
-    } else if kind == 5 {
-        views::views();
     } else {
         asked::asked(kind);
     }

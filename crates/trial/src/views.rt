@@ -1,6 +1,6 @@
-// Views in use: each line is the answer of a call of `view`. Besides the listing's two sheets: sheets with one word changed, parts of a sheet, no words at all,
-// and views that claim counts which are not their sheet's.
+// Calls through views: over sheets, over changed sheets, over parts of a sheet and no words, and of views that claim counts which are not their sheet's.
 use crate::say;
+use crate::tape;
 use list::Key;
 use list::Page;
 use list::Request;
@@ -93,71 +93,6 @@ fn show_waiting(numbers: [u64; 4]) {
     say::number(numbers[2]);
     say::number(numbers[3]);
     say::end_line();
-}
-
-// The two sheets of the listing, with one word changed: word 23 is none, and changes nothing.
-pub fn sheet_p(at: usize, word: i32) -> [i32; 23] {
-    let mut s: [i32; 23] = [
-        1,
-        0,
-        0,
-        2,
-        10,
-        0,
-        0,
-        1,
-        0,
-        1,
-        0,
-        0,
-        2,
-        0,
-        0,
-        10,
-        0,
-        17,
-        7,
-        2,
-        1,
-        7,
-        1,
-    ];
-    if at < 23 {
-        s[at] = word;
-    }
-    s
-}
-
-pub fn sheet_q(at: usize, word: i32) -> [i32; 23] {
-    let mut s: [i32; 23] = [
-        5,
-        4,
-        0,
-        6,
-        16,
-        1,
-        0,
-        1,
-        0,
-        1,
-        0,
-        0,
-        2,
-        4,
-        0,
-        16,
-        1,
-        17,
-        7,
-        2,
-        1,
-        9,
-        1,
-    ];
-    if at < 23 {
-        s[at] = word;
-    }
-    s
 }
 
 // The readers on views made here, of words and any counts: the answer is that of the words alone.
@@ -277,142 +212,69 @@ fn nearest_through(
     )
 }
 
-// What `open` shows of P with one word changed, and the point reader through the view that it gives.
-fn open_changed(at: usize, word: i32) {
-    let p = sheet_p(at, word);
-    show_head(view::open_head(&p));
-    show_point(view::point_opened(&p, 1));
-}
-
-fn open_cases() {
-    open_changed(23, 0);
-    open_changed(22, 2);
-    open_changed(19, 1001);
-    open_changed(17, 18);
-    open_changed(0, 0);
-    open_changed(6, 1);
-    open_changed(10, 1);
-    open_changed(15, 11);
-    let p = sheet_p(23, 0);
-    show_head(view::open_head(&p[23..]));
-    show_head(view::open_head(&p[18..]));
-    show_head(view::open_head(&p[1..]));
-}
-
-// The points of a view of P that claims n points and m nodes.
-fn point_cases(n: usize, m: usize) {
-    let p = sheet_p(23, 0);
-    show_point(point_through(&p, n, m, 0));
-    show_point(point_through(&p, n, m, 1));
-    show_point(point_through(&p, n, m, 2));
-    show_point(point_through(&p[23..], n, m, 0));
-    show_point(point_through(&p[1..], n, m, 0));
-}
-
-// The walks at position j of Q, through views that claim n points and m nodes, and of Q the other way round.
-fn walk_row(p: &[i32], q: &[i32], n: usize, m: usize, j: usize) {
-    show_filter(filter_walk_through(p, n, m, q, m, n, j));
-    show_walk(ring_walk_through(p, n, m, q, m, n, j, 0));
-    show_walk(ring_walk_through(p, n, m, q, m, n, j, 1));
-    show_walk(ring_walk_through(p, n, m, q, m, n, j, 2));
-}
-
-fn walk_cases(n: usize, m: usize) {
-    let p = sheet_p(23, 0);
-    let q = sheet_q(23, 0);
-    walk_row(&p, &q, n, m, 0);
-    walk_row(&p, &q, n, m, 1);
-    walk_row(&p, &q, n, m, 2);
-}
-
-// The walks at positions that no sheet has, and over no words: P is checked first.
-fn refused_row(p: &[i32], q: &[i32]) {
-    show_filter(filter_walk_through(p, 2, 1, q, 2, 1, 1000));
-    show_walk(ring_walk_through(p, 2, 1, q, 2, 1, 1000, 1000));
-    show_walk(ring_walk_through(&p[..0], 2, 1, q, 2, 1, 0, 0));
-    show_walk(ring_walk_through(p, 2, 1, &q[..0], 2, 1, 0, 0));
-}
-
-// Over P and Q with one word of each changed.
-fn refused_cases(at: usize, p_word: i32, other: usize, q_word: i32) {
-    let p = sheet_p(at, p_word);
-    let q = sheet_q(other, q_word);
-    refused_row(&p, &q);
-}
-
-// A page request through views that claim n points and m nodes, and of Q the other way round.
-fn ask(p: &[i32], q: &[i32], n: usize, m: usize, q_id: u32, p_id: u32, size: usize) {
-    let key = Key { q: q_id, p: p_id };
-    let request = Request {
-        key: key,
-        size: size,
-        threshold: 0,
-    };
-    show_page(page_through(p, n, m, q, m, n, request));
-}
-
-fn page_row(p: &[i32], q: &[i32], n: usize, m: usize) {
-    ask(p, q, n, m, 0, 0, 2);
-    ask(p, q, n, m, 5, 2, 2);
-    ask(p, q, n, m, 6, 2, 2);
-    ask(p, q, n, m, 5, 3, 2);
-    ask(p, q, n, m, 0, 2000000001, 0);
-    ask(p, q, n, m, 0, 0, 0);
-    ask(p, q, n, m, 0, 0, 17);
-    ask(&p[..0], q, n, m, 0, 2000000001, 0);
-}
-
-fn page_cases(n: usize, m: usize) {
-    let p = sheet_p(23, 0);
-    let q = sheet_q(23, 0);
-    page_row(&p, &q, n, m);
-}
-
-// The pump houses nearest to a chamber, through views that claim n points and m nodes, and of Q the other way round; then the four lent numbers: the call needs
-// three, and leaves the fourth.
-fn ask_near(p: &[i32], q: &[i32], n: usize, m: usize, id: u32, size: usize) {
+// The pump houses nearest to a chamber, then the four lent numbers.
+fn ask_near(
+    p: &[i32],
+    np: usize,
+    mp: usize,
+    q: &[i32],
+    nq: usize,
+    mq: usize,
+    id: u32,
+    size: usize,
+) {
     let mut waiting: [u64; 4] = [7, 8, 9, 10];
-    show_found(nearest_through(p, n, m, q, m, n, id, size, &mut waiting));
+    show_found(nearest_through(p, np, mp, q, nq, mq, id, size, &mut waiting));
     show_waiting(waiting);
 }
 
 // Where two of the four are lent.
-fn near_short(p: &[i32], q: &[i32], n: usize, m: usize) {
+fn ask_short(
+    p: &[i32],
+    np: usize,
+    mp: usize,
+    q: &[i32],
+    nq: usize,
+    mq: usize,
+    id: u32,
+    size: usize,
+) {
     let mut waiting: [u64; 4] = [7, 8, 9, 10];
-    show_found(nearest_through(p, n, m, q, m, n, 5, 16, &mut waiting[..2]));
+    show_found(nearest_through(p, np, mp, q, nq, mq, id, size, &mut waiting[..2]));
     show_waiting(waiting);
 }
 
-fn near_row(p: &[i32], q: &[i32], n: usize, m: usize) {
-    ask_near(p, q, n, m, 5, 16);
-    ask_near(p, q, n, m, 6, 1);
-    ask_near(p, q, n, m, 7, 0);
-    ask_near(p, q, n, m, 5, 0);
-    ask_near(p, q, n, m, 5, 17);
-    ask_near(&p[..0], q, n, m, 7, 0);
-    near_short(p, q, n, m);
-}
-
-fn near_cases(n: usize, m: usize) {
-    let p = sheet_p(23, 0);
-    let q = sheet_q(23, 0);
-    near_row(&p, &q, n, m);
-}
-
-pub fn views() {
-    open_cases();
-    point_cases(2, 1);
-    point_cases(0, 0);
-    point_cases(1000, 400);
-    point_cases(18446744073709551615, 18446744073709551615);
-    walk_cases(2, 1);
-    walk_cases(0, 18446744073709551615);
-    page_cases(2, 1);
-    page_cases(0, 18446744073709551615);
-    near_cases(2, 1);
-    near_cases(0, 18446744073709551615);
-    refused_cases(22, 2, 19, 1001);
-    refused_cases(23, 0, 19, 1001);
-    refused_cases(15, 11, 22, 2);
-    refused_cases(23, 0, 23, 0);
+// Which call, the counts that the views of P and of Q claim, two positions or ids, and a size. A call that does not take one of these reads it all the same.
+pub fn view_case(p: &[i32], q: &[i32]) {
+    let call = tape::next_count();
+    let np = tape::next_or_largest();
+    let mp = tape::next_or_largest();
+    let nq = tape::next_or_largest();
+    let mq = tape::next_or_largest();
+    let a = tape::next_id();
+    let b = tape::next_id();
+    let size = tape::next_or_largest();
+    if call == 1 {
+        show_head(view::open_head(p));
+    } else if call == 2 {
+        show_point(view::point_opened(p, a as usize));
+    } else if call == 3 {
+        show_point(point_through(p, np, mp, a as usize));
+    } else if call == 4 {
+        show_filter(filter_walk_through(p, np, mp, q, nq, mq, a as usize));
+    } else if call == 5 {
+        show_walk(ring_walk_through(p, np, mp, q, nq, mq, a as usize, b as usize));
+    } else if call == 6 {
+        let key = Key { q: a, p: b };
+        let request = Request {
+            key: key,
+            size: size,
+            threshold: 0,
+        };
+        show_page(page_through(p, np, mp, q, nq, mq, request));
+    } else if call == 7 {
+        ask_near(p, np, mp, q, nq, mq, a, size);
+    } else {
+        ask_short(p, np, mp, q, nq, mq, a, size);
+    }
 }
