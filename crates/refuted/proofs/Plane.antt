@@ -2,11 +2,11 @@
 use mathlib.Core.Path.{_≡_, refl}
 use mathlib.Core.Bool.{Bool, true, false, not, cond, _&&_}
 use Prim.Native.Nat.{ℕ}
-use lib.IntN.{ℤ, pos, negℤ, _+ℤ_, _*ℤ_}
+use lib.IntN.{ℤ, pos, _+ℤ_, _*ℤ_}
 use lib.Signed.{leZ, ltZ, shrZ}
 use Rattle.plane.specs.declared.Spot.{Spot}
 use Rattle.plane.specs.declared.Boxed.{Boxed}
-use Rattle.plane.specs.Rule.{spot, sq, dot, sameSpot, inBox, blocks, drops, behind, dropsBox, farEnd, size, out, far, inside, cornersIn, sideIn}
+use Rattle.plane.specs.Rule.{spot, sq, dot, sameSpot, inBox, blocks, drops, behind, dropsBox, size, out, far, inside, cornersIn, sideIn}
 
 abbrev at : ℕ → ℕ → Spot
 at x y = spot (pos x) (pos y)
