@@ -1,3 +1,4 @@
 pub mod Cases
 pub mod Plane
 pub mod List
+pub mod Sheet
