@@ -33,3 +33,14 @@ pumpSheet = words (1 ∷ 0 ∷ 0 ∷ 2 ∷ 10 ∷ 0 ∷ 0 ∷ 1 ∷ 0 ∷ 1 ∷ 
 -- "Q, edition 9"
 abbrev pub chamberSheet : List ℤ
 chamberSheet = words (5 ∷ 4 ∷ 0 ∷ 6 ∷ 16 ∷ 1 ∷ 0 ∷ 1 ∷ 0 ∷ 1 ∷ 0 ∷ 0 ∷ 2 ∷ 4 ∷ 0 ∷ 16 ∷ 1 ∷ 17 ∷ 7 ∷ 2 ∷ 1 ∷ 9 ∷ 1 ∷ [])
+
+-- two points, ids a and b, at (x, 0) and (z, 0), in one leaf whose box goes from lo to hi
+abbrev pub line : ℕ → ℕ → ℕ → ℕ → ℕ → ℕ → List ℤ
+line a x b z lo hi = words (a ∷ x ∷ 0 ∷ b ∷ z ∷ 0 ∷ 0 ∷ 1 ∷ 0 ∷ 1 ∷ 0 ∷ 0 ∷ 2 ∷ lo ∷ 0 ∷ hi ∷ 0 ∷ 17 ∷ 7 ∷ 2 ∷ 1 ∷ 7 ∷ 1 ∷ [])
+
+-- a sheet of nothing, and words that are no sheet
+abbrev pub nothing : List ℤ
+nothing = words (0 ∷ 0 ∷ 0 ∷ 0 ∷ 3 ∷ 1 ∷ [])
+
+abbrev pub noForm : List ℤ
+noForm = words (0 ∷ 0 ∷ 0 ∷ 0 ∷ 3 ∷ 2 ∷ [])

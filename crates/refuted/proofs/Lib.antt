@@ -2,3 +2,4 @@ pub mod Cases
 pub mod Plane
 pub mod List
 pub mod Sheet
+pub mod Walk
