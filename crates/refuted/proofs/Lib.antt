@@ -3,3 +3,4 @@ pub mod Plane
 pub mod List
 pub mod Sheet
 pub mod Walk
+pub mod Pages
