@@ -4,3 +4,7 @@ pub mod List
 pub mod Sheet
 pub mod Walk
 pub mod Pages
+pub mod Book
+pub mod Runs
+pub mod Nearest
+pub mod Shortest
