@@ -45,14 +45,26 @@ typedef struct RingPair {
     uint64_t size;
 } RingPair;
 
-/* What list a page or a book is of: the editions of both sheets, and the threshold: the list of all pairs where it is 0, and otherwise of the pairs of those
- * chambers that have at least so many. And the kind: `own` is set for the self join of one sheet, whose edition then stands twice, with the threshold 0. */
+/* What is asked of a list beside its points: the threshold, the list of all pairs where it is 0, and otherwise of the pairs of the chambers that have at least
+ * so many; and the kind: `own` is set for the self join of one sheet, whose threshold is 0. */
+typedef struct RingTerms {
+    uint32_t threshold;
+    bool own;
+} RingTerms;
+
+/* What list a page or a book is of: the editions of both sheets, and the terms. The edition of a self join's sheet stands twice. */
 typedef struct RingSource {
     uint32_t p_edition;
     uint32_t q_edition;
-    uint32_t threshold;
-    bool own;
+    RingTerms terms;
 } RingSource;
+
+/* What a page request asks for: the pairs strictly after a key, how many of them, 1 to 16, and of which list. */
+typedef struct RingRequest {
+    RingKey key;
+    size_t size;
+    uint32_t threshold;
+} RingRequest;
 
 /* One page of a list. Of `pairs` the first `count` are used, the others are three zeros. `end` is set exactly when no pair follows the last one shown, or
  * follows the key if none is shown. */
@@ -218,11 +230,11 @@ RingWalked ring_pair_walk(const int32_t *p, size_t p_len, const int32_t *q, size
 
 /* The first `size` ring pairs strictly after a key, of the list of the threshold: all pairs where it is 0, and otherwise those of the chambers that have at least
  * so many. The key need not be a listed pair.
- * Input    both sheets, a key, a size 1 to 16, and a threshold 0 to 1,000. The words are only read.
+ * Input    both sheets, and a request: a key, a size 1 to 16, and a threshold 0 to 1,000. The words are only read.
  * Answer   the page: both editions and the threshold, the key, the pairs in the list's order, their number, the end mark. With a threshold above 0 the nodes
  *          opened are those of all kept partners of each chamber reached.
  * Refused  1 to 8 for P, then 1 to 8 for Q, then 9 where an id of the key is over 2,000,000,000, then 10 where the size is not 1 to 16, then 21. */
-RingPaged ring_page(const int32_t *p, size_t p_len, const int32_t *q, size_t q_len, RingKey key, size_t size, uint32_t threshold);
+RingPaged ring_page(const int32_t *p, size_t p_len, const int32_t *q, size_t q_len, RingRequest request);
 
 /* The self join of one sheet: the first `size` pairs strictly after a key. Its list has two different records of the sheet exactly if no other record of it blocks
  * them, each pair once, by the lower id, then the higher: in a pair q is the lower id, p the higher.

@@ -32,7 +32,7 @@ static RingBook follow(RingBook book, RingPair *slots, size_t room) {
     for (int request = 1; !book.closed; request++) {
         RingNext next = ring_book_next_key(book, slots, room);
         if (refused("next key", next.number)) return book;
-        RingPaged asked = ring_page(pumps, LEN(pumps), chambers, LEN(chambers), next.key, 2, book.source.threshold);
+        RingPaged asked = ring_page(pumps, LEN(pumps), chambers, LEN(chambers), (RingRequest){next.key, 2, book.source.terms.threshold});
         if (refused("page", asked.number)) return book;
         printf("request %d, after (%u, %u): ", request, next.key.q, next.key.p);
         if (request == 1) {
@@ -66,7 +66,7 @@ int main(void) {
     if (refused("pump houses", p.number) || refused("chambers", q.number)) return 1;
     printf("%zu pump houses, %zu chambers\n", p.n, q.n);
 
-    RingSource source = {(uint32_t)pumps[p.len - 2], (uint32_t)chambers[q.len - 2], 0, false};
+    RingSource source = {(uint32_t)pumps[p.len - 2], (uint32_t)chambers[q.len - 2], {0, false}};
     RingBegun begun = ring_book_begin(source);
     if (refused("begin", begun.number)) return 1;
     printf("a book of editions %u and %u\n", begun.book.source.p_edition, begun.book.source.q_edition);

@@ -225,9 +225,9 @@ static bool page_bad(const RingPage *g) {
 static uint32_t take_no(const RingBook *b, const RingPair *slots, size_t len, const RingPage *g) {
     if (b->held > len) return 11;
     if (b->closed) return 12;
-    if (g->source.own != b->source.own) return 22;
+    if (g->source.terms.own != b->source.terms.own) return 22;
     if (g->source.p_edition != b->source.p_edition || g->source.q_edition != b->source.q_edition) return 13;
-    if (g->source.threshold != b->source.threshold) return 31;
+    if (g->source.terms.threshold != b->source.terms.threshold) return 31;
     RingKey next = key_of(slots, b->held);
     if (g->key.q != next.q || g->key.p != next.p) return 14;
     if (page_bad(g)) return 15;
@@ -236,7 +236,7 @@ static uint32_t take_no(const RingBook *b, const RingPair *slots, size_t len, co
 
 static bool same_book(RingBook a, RingBook b) {
     return a.held == b.held && a.closed == b.closed && a.source.p_edition == b.source.p_edition && a.source.q_edition == b.source.q_edition
-        && a.source.threshold == b.source.threshold && a.source.own == b.source.own;
+        && a.source.terms.threshold == b.source.terms.threshold && a.source.terms.own == b.source.terms.own;
 }
 
 /* ---- the calls */
@@ -371,7 +371,7 @@ static size_t partners_of(size_t j) {
 static RingPage page_of(RingKey key, size_t size, uint32_t t) {
     RingPage g;
     memset(&g, 0, sizeof g);
-    g.source.p_edition = (uint32_t)P.words[P.len - 2], g.source.q_edition = (uint32_t)Q.words[Q.len - 2], g.source.threshold = t;
+    g.source.p_edition = (uint32_t)P.words[P.len - 2], g.source.q_edition = (uint32_t)Q.words[Q.len - 2], g.source.terms.threshold = t;
     g.key = key, g.end = true;
     for (size_t j = 0; j < count_of(&Q) && g.end; j++)
         for (size_t i = 0; i < count_of(&P) && g.end; i++) {
@@ -384,8 +384,8 @@ static RingPage page_of(RingKey key, size_t size, uint32_t t) {
 }
 
 static bool same_page(const RingPage *a, const RingPage *b) {
-    return a->source.p_edition == b->source.p_edition && a->source.q_edition == b->source.q_edition && a->source.threshold == b->source.threshold
-        && a->source.own == b->source.own && a->key.q == b->key.q && a->key.p == b->key.p && a->count == b->count && a->end == b->end && memcmp(a->pairs, b->pairs, sizeof a->pairs) == 0;
+    return a->source.p_edition == b->source.p_edition && a->source.q_edition == b->source.q_edition && a->source.terms.threshold == b->source.terms.threshold
+        && a->source.terms.own == b->source.terms.own && a->key.q == b->key.q && a->key.p == b->key.p && a->count == b->count && a->end == b->end && memcmp(a->pairs, b->pairs, sizeof a->pairs) == 0;
 }
 
 /* a threshold: few, or anything */
@@ -401,7 +401,7 @@ static void try_page(void) {
     if (below(6) == 0) key.q = wild();
     if (below(6) == 0) key.p = wild();
     if (!number) number = key.q > 2000000000 || key.p > 2000000000 ? 9 : size < 1 || size > 16 ? 10 : t > 1000 ? 21 : 0;
-    RingPaged r = ring_page(at(&P), P.len, at(&Q), Q.len, key, size, t);
+    RingPaged r = ring_page(at(&P), P.len, at(&Q), Q.len, (RingRequest){key, size, t});
     saw(r.number), hold_saved();
     HOLD(r.number == number);
     if (r.number) memset(&expected, 0, sizeof expected), HOLD(r.opened == 0);
@@ -413,7 +413,7 @@ static void try_page(void) {
 static RingPage own_of(RingKey key, size_t size) {
     RingPage g;
     memset(&g, 0, sizeof g);
-    g.source.p_edition = g.source.q_edition = (uint32_t)P.words[P.len - 2], g.source.own = true;
+    g.source.p_edition = g.source.q_edition = (uint32_t)P.words[P.len - 2], g.source.terms.own = true;
     g.key = key, g.end = true;
     for (size_t j = 0; j < count_of(&P) && g.end; j++)
         for (size_t i = j + 1; i < count_of(&P) && g.end; i++) {
@@ -496,10 +496,10 @@ static void try_partners(void) {
 static uint32_t some_edition(void) { return below(2) ? 1 + (uint32_t)below(1000000000) : wild(); }
 
 static void try_begin(void) {
-    RingSource s = {some_edition(), some_edition(), some_threshold(), below(2)}, none = {0, 0, 0, false};
+    RingSource s = {some_edition(), some_edition(), {some_threshold(), below(2)}}, none = {0, 0, {0, false}};
     if (below(2)) s.q_edition = s.p_edition;
-    bool ok = in(1, s.p_edition, 1000000000) && in(1, s.q_edition, 1000000000) && !(s.own && s.p_edition != s.q_edition);
-    uint32_t number = !ok ? 3 : s.threshold > (s.own ? 0 : 1000) ? 21 : 0;
+    bool ok = in(1, s.p_edition, 1000000000) && in(1, s.q_edition, 1000000000) && !(s.terms.own && s.p_edition != s.q_edition);
+    uint32_t number = !ok ? 3 : s.terms.threshold > (s.terms.own ? 0 : 1000) ? 21 : 0;
     RingBook begun = {0, false, number ? none : s};
     RingBegun r = ring_book_begin(s);
     saw(r.number);
@@ -518,7 +518,7 @@ static size_t make_slots(RingBook *b) {
         if (room[k].q == room[k - 1].q && room[k].p <= room[k - 1].p) room[k].p = room[k - 1].p + 1;
     b->held = below(8) ? below(len + 1) : below(2) ? len + 1 + below(3) : wild_size();
     b->closed = below(9) == 0;
-    b->source.p_edition = some_edition(), b->source.q_edition = some_edition(), b->source.threshold = some_threshold(), b->source.own = below(2);
+    b->source.p_edition = some_edition(), b->source.q_edition = some_edition(), b->source.terms.threshold = some_threshold(), b->source.terms.own = below(2);
     return len;
 }
 
@@ -563,9 +563,9 @@ static void spoil_page(RingPage *g) {
     case 9: g->key.p = wild(); break;
     case 10: g->pairs[below(3)].size = 8000000000001; break;
     case 11: g->pairs[below(16)].size = wild_size(); break;
-    case 12: g->source.threshold++; break;
-    case 13: g->source.threshold = wild(); break;
-    case 14: g->source.own = !g->source.own; break;
+    case 12: g->source.terms.threshold++; break;
+    case 13: g->source.terms.threshold = wild(); break;
+    case 14: g->source.terms.own = !g->source.terms.own; break;
     }
 }
 

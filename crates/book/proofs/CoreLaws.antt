@@ -180,7 +180,7 @@ module _ (b : Book) (len : ℕ) (k : Key) (g : Page) where
       pub is-13 : (m : ℕ) → m ≡ sourceNo (b .source) (g .source) → (m ≡ 0 → ⊥) → m ≡ takeNoAt b len k g
       unfolding takeNoAt
       is-13 m e h =
-          e ∙ sym (first-passes _ _ (given-no _ 11 (le-ltb len (b .held) h1)) ∙ first-passes _ _ (given-no _ 12 h2) ∙ first-stops (sourceNo (b .source) (g .source)) _ (λ z. h (e ∙ z)))
+          e ∙ sym (first-passes _ _ (given-no 11 (le-ltb len (b .held) h1)) ∙ first-passes _ _ (given-no 12 h2) ∙ first-stops (sourceNo (b .source) (g .source)) _ (λ z. h (e ∙ z)))
 
       module _ (h3 : sourceNo (b .source) (g .source) ≡ 0) where
         pub is-14 : sameKey (g .key) k ≡ false → 14 ≡ takeNoAt b len k g

@@ -36,7 +36,7 @@ last-held (suc n) s e = sym (last-at start s n (omega arith))
 
 pub next-after : (b : Book) (s : List Pair) → b .held ≤ length s → asked b s .next ≡ next.After (lastKey (b .held) s)
 unfolding asked askedAt nextNo
-next-after b s h = answer-given _ next.Refused _ (given-no _ 11 (le-ltb (length s) (b .held) h))
+next-after b s h = answer-given _ next.Refused _ (given-no 11 (le-ltb (length s) (b .held) h))
 
 pub next-is-last : (b : Book) (s : List Pair) → b .held ≤ length s → asked b s .next ≡ next.After (lastOr start (take (b .held) s))
 next-is-last b s h = next-after b s h ∙ ap next.After (last-held (b .held) s h)
@@ -87,8 +87,8 @@ room-at b len m k g e h =
     let e3 = first-skips _ _ 16 (source-other (b .source) (g .source) 16 (λ z. omega arith) (λ z. omega arith) (λ z. omega arith)) (e2 .1) in
     let e4 = first-skips _ _ 16 (other 14 (λ z. omega arith) (not (sameKey (g .key) k))) (e3 .1) in
     let e5 = first-skips _ _ 16 (other 15 (λ z. omega arith) (pageBad g)) (e4 .1) in (
-      ltb-false len (b .held) (given-failed (ltb len (b .held)) 10 (e1 .0)),
-      no-refusal-at b m k g (omega arith) (given-failed (b .closed) 11 (e2 .0)) (e3 .0) (same-key (g .key) k (given-held (sameKey (g .key) k) 13 (e4 .0))) (given-failed (pageBad g) 14 (e5 .0)) (omega arith),
+      ltb-false len (b .held) (given-failed _ (e1 .0)),
+      no-refusal-at b m k g (omega arith) (given-failed _ (e2 .0)) (e3 .0) (same-key (g .key) k (given-held _ (e4 .0))) (given-failed _ (e5 .0)) (omega arith),
     )
 
 pub longer-takes : (b : Book) (s t : List Pair) (g : Page) → takeNo b s g ≡ 16 → b .held + g .count ≤ length t → take (b .held) t ≡ take (b .held) s → takeNo b t g ≡ 0

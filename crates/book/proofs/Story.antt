@@ -9,7 +9,7 @@ use Prim.Native.Nat.{ℕ, zero, suc, _+_, _-_, _≤_, _<_}
 use native.Mathlib.Omega.{arith}
 use lib.ListN.{length, take, drop, length-take, length-drop, take-append-drop}
 use lib.Seq.{paste, take-paste, take-add, take-length, length-paste}
-use lib.Dec.{eqb, ltb, leb}
+use lib.Dec.{eqb, ltb}
 use borrow.Author.Tests.{leb-true, ltb-true, ltb-false, le-ltb, ne-eqb, eqb-true, not-true, not-false}
 use Rattle.integers.proofs.Bools.{decide, and-left, and-right, and-both, or-both-false}
 use Rattle.plane.specs.Point.{Point}
@@ -30,7 +30,7 @@ use Rattle.list.proofs.SourceLaws.{source-same}
 use Rattle.list.proofs.TermsLaws.{for-ascends, for-ids, for-sizes}
 use Rattle.book.specs.declared.Book.{Book}
 use Rattle.book.specs.declared.Begun.the-variants as begun
-use Rattle.book.specs.Rules.{oneSheet, ownWithT, beginNo, begunBook, begunFor, lastKey, pairOk, pairsOk, pageMost, pageBad, takeNo, advanced, taken, takenSlots}
+use Rattle.book.specs.Rules.{oneSheet, beginNo, begunBook, begunFor, lastKey, pairOk, pairsOk, pageMost, pageBad, takeNo, advanced, taken, takenSlots}
 use Rattle.book.specs.World.{World, pumpsOf, chambersOf, listOf, Honest, Reached, began, took, lent, ownPage, served}
 use Rattle.book.proofs.TakeLaws.{Passed, passed, taken-book, taken-slots, refused-book, refused-slots, or-zero, no-refusal, same-length, closed-no, same-book-source}
 use Rattle.book.proofs.SliceLaws.{last-held}
@@ -245,9 +245,9 @@ begun-in s b e =
     let both = editionOk (s .«p_edition») && editionOk (s .«q_edition») in
     let z = none-applies _ .0 (by-begun _ (begunBook s) b e .0) in
     record {
-      t-most = leb-true (s .terms .threshold) lastThreshold (given-held (leb (s .terms .threshold) lastThreshold) 20 (z 2));
-      one-edition = λ o. eqb-true (s .«p_edition») (s .«q_edition») (sym (ap (λ (x : Bool). not x || eqb (s .«p_edition») (s .«q_edition»)) o) ∙ and-right both (oneSheet s) (given-held (both && oneSheet s) 2 (z 0)));
-      no-t = λ o. eqb-true (s .terms .threshold) 0 (not-false (eqb (s .terms .threshold) 0) (sym (ap (λ (x : Bool). x && not (eqb (s .terms .threshold) 0)) o) ∙ given-failed (ownWithT s) 20 (z 1)));
+      t-most = leb-true (s .terms .threshold) lastThreshold (given-held _ (z 2));
+      one-edition = λ o. eqb-true (s .«p_edition») (s .«q_edition») (sym (ap (λ (x : Bool). not x || eqb (s .«p_edition») (s .«q_edition»)) o) ∙ and-right both (oneSheet s) (given-held _ (z 0)));
+      no-t = λ o. eqb-true (s .terms .threshold) 0 (not-false (eqb (s .terms .threshold) 0) (sym (ap (λ (x : Bool). x && not (eqb (s .terms .threshold) 0)) o) ∙ given-failed _ (z 1)));
     }
 
 module _ (w : World) where

@@ -56,17 +56,17 @@ passed-at b len k g e =
     let x2 = not (pairsOk (pagePairs g)) in
     let x3 = not (ascends (g .key) (pagePairs g)) in
     let x4 = eqb (g .count) 0 && not (g .end) in
-    let good = given-failed (x1 || x2 || x3 || x4) 14 (z 4) in
-    let h = ltb-false len (b .held) (given-failed (ltb len (b .held)) 10 (z 0)) in
+    let good = given-failed _ (z 4) in
+    let h = ltb-false len (b .held) (given-failed _ (z 0)) in
     record {
       room = h;
-      still-open = given-failed (b .closed) 11 (z 1);
+      still-open = given-failed _ (z 1);
       one-source = same-source (b .source) (g .source) (z 2);
-      asked-next = same-key (g .key) k (given-held (sameKey (g .key) k) 13 (z 3));
+      asked-next = same-key (g .key) k (given-held _ (z 3));
       few = ltb-false pageMost (g .count) (or-false-left x1 x2 (or-false-left (x1 || x2) x3 (or-false-left (x1 || x2 || x3) x4 good)));
       rising = not-false (ascends (g .key) (pagePairs g)) (or-false-right (x1 || x2) x3 (or-false-left (x1 || x2 || x3) x4 good));
       in-range = not-false (pairsOk (pagePairs g)) (or-false-right x1 x2 (or-false-left (x1 || x2) x3 (or-false-left (x1 || x2 || x3) x4 good)));
-      fits = omega (arith, ltb-false (len - b .held) (g .count) (given-failed (ltb (len - b .held) (g .count)) 15 (z 5)), h);
+      fits = omega (arith, ltb-false (len - b .held) (g .count) (given-failed _ (z 5)), h);
     }
 
 -- a page that passes every test is not refused

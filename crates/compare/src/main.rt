@@ -249,7 +249,7 @@ fn turned(p: &[i32], q: &[i32], size: usize, t: Turn, pairs: [Pair; 16]) -> Turn
 }
 
 fn is_source(s: Source) -> bool {
-    (s.p_edition == 7) & (s.q_edition == 9) & (s.threshold == 0)
+    (s.p_edition == 7) & (s.q_edition == 9) & (s.terms.threshold == 0)
 }
 
 fn is_key(a: Key, b: Key) -> bool {

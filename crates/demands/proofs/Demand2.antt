@@ -218,30 +218,30 @@ module _ (P Q : List ℤ) (p-opens : WellFormed P) (q-opens : WellFormed Q) wher
       -- what is answered with 0, and what is in range, is the page of the list with the count of the walks
       pub answered : r .number ≡ 0 → (1 ≤ size) × (size ≤ 16) × (r ≡ pageGiven a P Q key size)
       unfolding pageNo ownNo
-      answered zero = go (a .own) refl answers
+      answered fine = go (a .own) refl answers
         where
           go : (k : Bool) → a .own ≡ k → OfKind k a P Q key size r → (1 ≤ size) × (size ≤ 16) × (r ≡ pageGiven a P Q key size)
           go false e x =
               let ask : Request = record { key = key; size = size; threshold = a .threshold } in
-              let no : pageNo P Q ask ≡ 0 = sym (of-page.page-no P Q ask) ∙ sym (ap (λ (y : Paged). y .number) (x .promised)) ∙ zero in
+              let no : pageNo P Q ask ≡ 0 = sym (of-page.page-no P Q ask) ∙ sym (ap (λ (y : Paged). y .number) (x .promised)) ∙ fine in
               let s = size-fits size (none-applies _ .0 no 3) in
               (s .0, s .1, x .promised ∙ of-page.page-answered P Q ask no ∙ ap (λ (y : Terms). pageGiven y P Q key size) (λ i. record { threshold = a .threshold; own = sym e i }))
           go true e x =
-              let no : ownNo P key size ≡ 0 = sym (of-own.own-no P key size) ∙ sym (ap (λ (y : Paged). y .number) (x .2 .promised)) ∙ zero in
+              let no : ownNo P key size ≡ 0 = sym (of-own.own-no P key size) ∙ sym (ap (λ (y : Paged). y .number) (x .2 .promised)) ∙ fine in
               let s = size-fits size (none-applies _ .0 no 2) in
               (s .0, s .1, x .2 .promised ∙ of-own.own-answered P key size no ∙ ap (λ (y : List ℤ). pageGiven alone P y key size) (x .0) ∙ ap (λ (y : Terms). pageGiven y P Q key size) (λ i. record { threshold = sym (x .1) i; own = sym e i }))
 
       module _ (h : InRange key size (a .threshold)) where
         -- a key, a size and a t in range are served
-        pub served : r .number ≡ 0
-        served = go (a .own) answers
+        pub page-served : r .number ≡ 0
+        page-served = go (a .own) answers
           where
             go : (k : Bool) → OfKind k a P Q key size r → r .number ≡ 0
             go false x = unfold pageGiven in ap (λ (y : Paged). y .number) (x .promised ∙ of-page.page-served P Q (record { key = key; size = size; threshold = a .threshold }) sheets (h .q-in) (h .p-in) (h .some) (h .most) (h .fair))
             go true x = unfold pageGiven in ap (λ (y : Paged). y .number) (x .2 .promised ∙ of-own.own-served P key size p-opens (h .q-in) (h .p-in) (h .some) (h .most))
 
         page-is : r ≡ pageGiven a P Q key size
-        page-is = answered served .2
+        page-is = answered page-served .2
 
         -- "The page holds both editions, the key, the first `size` ring pairs strictly after the key (fewer if fewer follow), their number and an end mark, set exactly
         -- when no ring pair follows the last one shown, or follows the key if none is shown." "Unused pairs are three zeros." "Pages and books now carry t, 0 for the full

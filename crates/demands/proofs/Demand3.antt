@@ -113,8 +113,8 @@ module _ (w : Editions) where
       -- so a page that was answered is of the list of its source
       pub page-of : r .number ≡ 0 → (1 ≤ size) × (size ≤ 16) × (r .page ≡ pageOf (sourceOf P Q a) (listOf worldOf (sourceOf P Q a)) key size)
       unfolding pageGiven sourceOf
-      page-of zero =
-          let z = demand2.answered P Q p-opens q-opens a key size r answers zero in
+      page-of fine =
+          let z = demand2.answered P Q p-opens q-opens a key size r answers fine in
           (z .0, z .1, ap (λ (x : Paged). x .page) (z .2) ∙ ap₂ (λ (x y : List Point). pageOf (sourceOf P Q a) (listFor a x y) key size) (sym p-points) (sym q-points))
 
   -- "not altered or invented": a page that was answered is honest
@@ -204,8 +204,8 @@ module _ (w : Editions) where
     given : (o .r .number ≡ 0) × (o .r .page ≡ pageOf (b .source) (listOf worldOf (b .source)) (o .key) (o .size))
     given =
         let q = o .request in
-        let zero = demand2.served (q .P) (q .Q) (p-opens _ (q .P) (q .Q) (q .sheets)) (q-opens _ (q .P) (q .Q) (q .sheets)) (b .source .terms) (o .key) (o .size) (o .r) (q .answers) in-range in
-        (zero, page-of (b .source .terms) (q .P) (q .Q) (q .sheets) (o .key) (o .size) (o .r) (q .answers) zero .2 ∙ ap (λ (x : Source). pageOf x (listOf worldOf x) (o .key) (o .size)) (q .of-book))
+        let fine = demand2.page-served (q .P) (q .Q) (p-opens (b .source .terms) (q .P) (q .Q) (q .sheets)) (q-opens (b .source .terms) (q .P) (q .Q) (q .sheets)) (b .source .terms) (o .key) (o .size) (o .r) (q .answers) in-range in
+        (fine, page-of (b .source .terms) (q .P) (q .Q) (q .sheets) (o .key) (o .size) (o .r) (q .answers) fine .2 ∙ ap (λ (x : Source). pageOf x (listOf worldOf x) (o .key) (o .size)) (q .of-book))
 
     -- so it is a page that was answered
     own-answered : Answered w g

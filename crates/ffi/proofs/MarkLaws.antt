@@ -7,7 +7,7 @@ use Rattle.integers.specs.Bounds.{Within}
 use Rattle.words.specs.First.{answer}
 use Rattle.words.proofs.FirstLaws.{given-held}
 use Rattle.marker.specs.Half.{halfOf, HalfOf}
-use Rattle.marker.specs.Mark.{onMap, markNo, numberOf, Middle, MiddleAt, Marks}
+use Rattle.marker.specs.Mark.{markNo, numberOf, Middle, MiddleAt, Marks}
 use Rattle.marker.specs.declared.Marker.{Marker}
 use Rattle.marker.specs.declared.Marked.{Marked}
 use Rattle.marker.specs.declared.Marked.the-variants.{Refused, At}
@@ -40,6 +40,6 @@ pub marked-marks : (ax ay bx by : ℤ) → Marks ax ay bx by (markedAt ax ay bx 
 unfolding markNo markedAt
 marked-marks ax ay bx by =
     let p = meets-by (markNo ax ay bx by) ax ay bx by _ (λ e.
-    let s = each ax ay bx by (given-held (onMap ax ay bx by) 4 e) in
+    let s = each ax ay bx by (given-held _ e) in
     record { x = half-is (ax +ℤ bx) (sum-in ax bx (s .0) (s .2)); y = half-is (ay +ℤ by) (sum-in ay by (s .1) (s .3)) }) in
     record { number = p .0; marker = p .1 }

@@ -1,7 +1,7 @@
 -- The pages of a list that ascends: what a page shows, its end mark, and that following the pages gives the list.
 -- Assumes nothing.
 use mathlib.Core.Path.{_≡_, refl, sym, ap, subst, _∙_}
-use mathlib.Core.Bool.{Bool, true, false, cond, not, _&&_}
+use mathlib.Core.Bool.{Bool, true, false, cond, not}
 use mathlib.Core.Logic.{⊎-elim}
 use mathlib.Core.List.{List, [], _∷_, _++_, map, append-nil, List·Memᴰ, List·Memᴰ·head, List·Memᴰ·tail, List·Memᴰ·cases-cons, Memᴰ·append-left}
 use Prim.Native.Nat.{ℕ, zero, suc, _-_, _≤_, _<_}
@@ -25,7 +25,7 @@ use Rattle.list.proofs.Order.{asc-left, last-from, last-holds, after-as
 pub size-fits : (size : ℕ) → sizeNo size ≡ 0 → (1 ≤ size) × (size ≤ 16)
 unfolding sizeNo
 size-fits size e =
-    let f = given-held (leb 1 size && leb size 16) 9 e in
+    let f = given-held _ e in
     (leb-true 1 size (and-left (leb 1 size) (leb size 16) f), leb-true size 16 (and-right (leb 1 size) (leb size 16) f))
 
 pub size-taken : (size : ℕ) → 1 ≤ size → size ≤ 16 → sizeNo size ≡ 0

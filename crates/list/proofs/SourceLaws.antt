@@ -31,11 +31,11 @@ same-source a b e =
     let p = eqb (a .«p_edition») (b .«p_edition») in
     let q = eqb (a .«q_edition») (b .«q_edition») in
     let z = none-applies _ .0 e in
-    let k = kind-is (a .terms .own) (b .terms .own) (given-held (sameKind a b) 21 (z 0)) in
-    let both = given-held (p && q) 12 (z 1) in
+    let k = kind-is (a .terms .own) (b .terms .own) (given-held _ (z 0)) in
+    let both = given-held _ (z 1) in
     let x = eqb-true (a .«p_edition») (b .«p_edition») (and-left p q both) in
     let y = eqb-true (a .«q_edition») (b .«q_edition») (and-right p q both) in
-    let t = eqb-true (a .terms .threshold) (b .terms .threshold) (given-held (eqb (a .terms .threshold) (b .terms .threshold)) 30 (z 2)) in
+    let t = eqb-true (a .terms .threshold) (b .terms .threshold) (given-held _ (z 2)) in
     λ i. record { «p_edition» = x i; «q_edition» = y i; terms = record { threshold = t i; own = k i } }
 
 pub source-same : (a b : Source) → a ≡ b → sourceNo a b ≡ 0

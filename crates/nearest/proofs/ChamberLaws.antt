@@ -7,7 +7,6 @@ use mathlib.Core.Path.{_≡_, refl, sym, ap, subst, _∙_}
 use mathlib.Core.List.{List, [], _∷_}
 use Prim.Native.Nat.{ℕ, _≤_, _<_}
 use native.Mathlib.Omega.{arith}
-use lib.Dec.{ltb}
 use lib.IntN.{ℤ}
 use lib.ListN.{length}
 use borrow.Author.Tests.{lt-ltb, le-ltb, ltb-true}
@@ -56,7 +55,7 @@ module _ (P Q : List ℤ) (id : ℕ) where
   -- a known id is that of a chamber
   known : idNo (pointsOf Q) id ≡ 0 → positionOf (pointsOf Q) id < length (pointsOf Q)
   unfolding idNo
-  known e = let j = positionOf (pointsOf Q) id in let n = length (pointsOf Q) in ltb-true j n (given-held (ltb j n) 19 e)
+  known e = let j = positionOf (pointsOf Q) id in let n = length (pointsOf Q) in ltb-true j n (given-held _ e)
 
   pub record Placed (c : Chamber) : Type 0 where
     pub no : chamberNo P Q id ≡ 0

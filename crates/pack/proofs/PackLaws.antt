@@ -71,11 +71,11 @@ unfolding packNo
 pack-facts lim n p o ed size e =
     let z = none-applies _ .0 e in
     record {
-      shaped = given-held (shapeOk n p o) 17 (z 0);
-      ranged = given-held (rangeOk lim n ed) 2 (z 1);
-      pointed = given-held (pointsOk lim p n) 4 (z 2);
-      ordered = given-held (orderListOk o n) 5 (z 3);
-      sized = eqb-true size (sheetSize n) (given-held (eqb size (sheetSize n)) 16 (z 4));
+      shaped = given-held _ (z 0);
+      ranged = given-held _ (z 1);
+      pointed = given-held _ (z 2);
+      ordered = given-held _ (z 3);
+      sized = eqb-true size (sheetSize n) (given-held _ (z 4));
     }
 
 module _ (lim : Limits) (n : ℕ) (p o : List ℤ) (ed : ℕ) (out : List ℤ) where

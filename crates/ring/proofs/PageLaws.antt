@@ -58,11 +58,11 @@ module _ (key : Key) (size t : ℕ) where
   module _ (e : not (leb (key .q) lastId && leb (key .p) lastId) ≡ false) (k : ℕ) (d : k ≡ sizeNo size) where
     pub asked-10 : (k ≡ 0 → ⊥) → k ≡ askedNo key size t
     unfolding askedNo keyNo
-    asked-10 ne = d ∙ sym (first-passes _ _ (given-no _ 9 e) ∙ first-stops (sizeNo size) _ (λ z. ne (d ∙ z)))
+    asked-10 ne = d ∙ sym (first-passes _ _ (given-no 9 e) ∙ first-stops (sizeNo size) _ (λ z. ne (d ∙ z)))
 
     pub asked-21 : k ≡ 0 → (n : ℕ) → n ≡ thresholdNo t → n ≡ askedNo key size t
     unfolding askedNo keyNo
-    asked-21 z n f = f ∙ sym (first-passes _ _ (given-no _ 9 e) ∙ first-passes (sizeNo size) _ (sym d ∙ z) ∙ first-last _)
+    asked-21 z n f = f ∙ sym (first-passes _ _ (given-no 9 e) ∙ first-passes (sizeNo size) _ (sym d ∙ z) ∙ first-last _)
 
   -- a request that is not refused has its size from 1 to 16
   pub asked-size : askedNo key size t ≡ 0 → (1 ≤ size) × (size ≤ 16)

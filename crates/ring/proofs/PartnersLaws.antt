@@ -85,7 +85,7 @@ module _ (P Q : List ℤ) (id t : ℕ) where
         unfolding partnersNo idNo
         after =
             sheets-pass P Q h _ e z
-            ∙ first-passes _ _ (given-no _ 20 (ap not (lt-ltb (positionOf (pointsOf Q) id) (length (pointsOf Q)) (omega (arith, as-many)))))
+            ∙ first-passes _ _ (given-no 20 (ap not (lt-ltb (positionOf (pointsOf Q) id) (length (pointsOf Q)) (omega (arith, as-many)))))
             ∙ first-last _
             ∙ sym d
 

@@ -63,7 +63,7 @@ unfolding leafNo
 leaf-is Q v e =
     let a = ltb v (nodes Q) in
     let b = eqb (levelOf Q (points Q) v) 0 in
-    let f = given-held (a && b) 18 e in
+    let f = given-held _ e in
     (ltb-true v (nodes Q) (and-left a b f), eqb-true (levelOf Q (points Q) v) 0 (and-right a b f))
 
 -- ---- the number

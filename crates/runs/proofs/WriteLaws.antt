@@ -10,7 +10,7 @@ use mathlib.Core.List.{List, [], _∷_, _++_}
 use Prim.Native.Nat.{ℕ, zero, suc, _+_, _≤_, _<_}
 use native.Mathlib.Omega.{arith}
 use native.Mathlib.Nat.{zero-add, le-refl, not-suc-le-zero}
-use lib.Dec.{eqb, ltb}
+use lib.Dec.{eqb}
 use lib.IntN.{ℤ}
 use lib.ListN.{length, set, getD, drop, length-set}
 use lib.Seq.{paste, paste-zero, paste-suc, take-length, drop-cons}
@@ -62,7 +62,7 @@ next-is l t u v k e f h = (ap (λ (x : List Pair). getD x 0 none) same, ap (λ (
 -- a run that is given has a slot for each pair
 pub run-fits : (P Q : List ℤ) (v len : ℕ) → runNo P Q v len ≡ 0 → length (leafList P Q v) ≤ len
 unfolding runNo roomNo
-run-fits P Q v len z = let n = length (leafList P Q v) in ltb-false len n (given-failed (ltb len n) 15 (none-applies _ .0 z 3))
+run-fits P Q v len z = let n = length (leafList P Q v) in ltb-false len n (given-failed _ (none-applies _ .0 z 3))
 
 module _ (P Q : List ℤ) (v : ℕ) (s : List Pair) (r : Run) (e : r ≡ runAnswer P Q v (length s)) where
   -- a pair that is stored is of the list, and has a slot

@@ -4,7 +4,7 @@ use mathlib.Core.Path.{_≡_}
 use mathlib.Core.Bool.{true, _&&_, Bool·beq}
 use mathlib.Core.List.{List}
 use Prim.Native.Nat.{ℕ, _+_, _*_, _≤_}
-use lib.Dec.{ltb, eqb}
+use lib.Dec.{eqb}
 use lib.IntN.{ℤ, pos}
 use lib.ListN.{length}
 use borrow.Author.Tests.{ltb-false, eqb-true}
@@ -28,17 +28,17 @@ pub trailer-facts : (lim : Limits) (w : List ℤ) → trailerNo lim w ≡ 0 → 
 unfolding trailerNo countsOk layoutOk
 trailer-facts lim w e =
     let z = none-applies _ .0 e in
-    let counts = given-held (countsOk lim w) 2 (z 2) in
+    let counts = given-held _ (z 2) in
     let a = within (pos 0) (pos (lim .points)) (nWord w) in
     let b = within (pos 0) (pos (lim .nodes)) (mWord w) in
     let c = editionWord (edition w) in
     let e₁ = and-left (a && b) c counts in
     record {
-      long = ltb-false (length w) 6 (given-failed (ltb (length w) 6) 0 (z 0));
+      long = ltb-false (length w) 6 (given-failed _ (z 0));
       n-le = within-num 0 (lim .points) (nWord w) (and-left a b e₁) .1;
       m-le = within-num 0 (lim .nodes) (mWord w) (and-right a b e₁) .1;
       edition-in = and-right (a && b) c counts;
-      size = eqb-true (length w) (5 * points w + 7 * nodes w + 6) (and-right (eqZ (span w) (pos (5 * points w + 7 * nodes w)) && eqZ (root w) (pos (rootWord (nodes w)))) (eqb (length w) (5 * points w + 7 * nodes w + 6)) (given-held (layoutOk w) 3 (z 3)));
+      size = eqb-true (length w) (5 * points w + 7 * nodes w + 6) (and-right (eqZ (span w) (pos (5 * points w + 7 * nodes w)) && eqZ (root w) (pos (rootWord (nodes w)))) (eqb (length w) (5 * points w + 7 * nodes w + 6)) (given-held _ (z 3)));
     }
 
 pub nodes-table : (w : List ℤ) (n m : ℕ) → nodesOk w n m ≡ true → tableOk w n m ≡ true

@@ -13,10 +13,7 @@ use Rattle.words.proofs.FirstLaws.{none-applies, given-held}
 use Rattle.sheet.specs.declared.Limits.{Limits}
 use Rattle.sheet.specs.Limits.{Fair, form1}
 use Rattle.sheet.specs.Layout.{points, nodes}
-use Rattle.sheet.specs.Points.{pointsOk}
-use Rattle.sheet.specs.Order.{orderOk}
 use Rattle.sheet.specs.Nodes.{tableOk, nodesOk}
-use Rattle.sheet.specs.Boxes.{tightOk}
 use Rattle.sheet.specs.Open.{bodyNo, openNo, Opens}
 use Rattle.sheet.proofs.OpenLaws.{Trailer, trailer-facts, nodes-table}
 
@@ -41,7 +38,7 @@ open-facts lim fair w e =
     let m = nodes w in
     let t = open-trailer lim w e in
     let z = none-applies _ .0 (none-applies _ .0 e 1) in
-    let tree = given-held (nodesOk w n m) 6 (z 2) in
+    let tree = given-held _ (z 2) in
     record {
       lim = lim;
       fair = fair;
@@ -50,10 +47,10 @@ open-facts lim fair w e =
       n-le = omega (arith, t .n-le, fair .points-le);
       m-le = omega (arith, t .m-le, fair .nodes-le);
       long = t .size;
-      pointed = given-held (pointsOk lim w n) 4 (z 0);
-      ordered = given-held (orderOk w n) 5 (z 1);
+      pointed = given-held _ (z 0);
+      ordered = given-held _ (z 1);
       table = nodes-table w n m tree;
-      tight = given-held (tightOk w n m) 7 (z 3);
+      tight = given-held _ (z 3);
       empty = empties n m (and-left (Bool·beq (eqb n 0) (eqb m 0)) (tableOk w n m) tree);
     }
 

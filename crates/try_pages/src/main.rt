@@ -44,8 +44,8 @@ fn print_page(page: list::Page) {
     let source = page.source;
     print(source.p_edition as u64);
     print(source.q_edition as u64);
-    print(source.threshold as u64);
-    print_mark(source.own);
+    print(source.terms.threshold as u64);
+    print_mark(source.terms.own);
     let key = page.key;
     print_key(key);
     print(page.count as u64);

@@ -77,25 +77,25 @@ one-applies (suc k ∷ l) ne = record { place = 0; within = omega arith; number 
 
 -- ---- the number of one test
 
-pub given-no : (t : Bool) (k : ℕ) → t ≡ false → given t k ≡ 0
+pub given-no : {t : Bool} (k : ℕ) → t ≡ false → given t k ≡ 0
 unfolding given
-given-no t k e = rw e
+given-no k e = rw e
 
-pub given-yes : (t : Bool) (k : ℕ) → t ≡ true → given t k ≡ k
+pub given-yes : {t : Bool} (k : ℕ) → t ≡ true → given t k ≡ k
 unfolding given
-given-yes t k e = rw e
+given-yes k e = rw e
 
 -- where its number does not come out, the test failed
-pub given-failed : (t : Bool) (k : ℕ) → given t (suc k) ≡ 0 → t ≡ false
+pub given-failed : {t : Bool} (k : ℕ) → given t (suc k) ≡ 0 → t ≡ false
 unfolding given
-given-failed true k e = absurd (omega arith)
-given-failed false k e = refl
+given-failed {t = true} k e = absurd (omega arith)
+given-failed {t = false} k e = refl
 
 -- a test that must hold held
-pub given-held : (t : Bool) (k : ℕ) → given (not t) (suc k) ≡ 0 → t ≡ true
+pub given-held : {t : Bool} (k : ℕ) → given (not t) (suc k) ≡ 0 → t ≡ true
 unfolding given
-given-held true k e = refl
-given-held false k e = absurd (omega arith)
+given-held {t = true} k e = refl
+given-held {t = false} k e = absurd (omega arith)
 
 -- it is its number or 0
 pub given-other : (t : Bool) (k x : ℕ) → (k ≡ x → ⊥) → given t k ≡ x → given t k ≡ 0

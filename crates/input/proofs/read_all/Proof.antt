@@ -1,22 +1,18 @@
 -- `input::read_all` meets its contract: each read that moves something leaves less room, so the loop ends. Assumes nothing.
-use mathlib.Core.Path.{_≡_, sym}
+use mathlib.Core.Path.{_≡_}
 use mathlib.Core.List.{List, _++_}
 use Prim.Native.Nat.{ℕ, _+_, _-_, _≤_}
 use native.Mathlib.Omega.{arith}
 use lib.ListN.{length, take, length-append}
 use lib.Seq.{length-take-le}
 use borrow.Rule.Slice.PartMut.{putMid, postOf}
-use Rattle.io.specs.Counts.{Counts}
+use Rattle.io.proofs.Counting.{counts}
 use Rattle.input.proofs.GotLaws.{bytes-within}
 use borrow.Author.Needs.{needs}
 use Rattle.input.proofs.read_all.Statement.{statement}
 use Rattle.input.proofs.read_all.Tie as tie
 
--- a bound is all that counts
-counts : (n : ℕ) (room : List ℕ) → n ≤ length room → Counts n room
-counts n room h = (h, sym (length-take-le _ _ h))
-
--- they stand in the whole room, after those that stood there
+-- n bytes that were read into the part of the room from a on stand in the whole room
 stand : (a n : ℕ) (room part : List ℕ) → a ≤ length room → n ≤ length part → a + n ≤ length (putMid a (length room - a) room part)
 stand a n room part h g =
     let rest = postOf a (length room - a) room in

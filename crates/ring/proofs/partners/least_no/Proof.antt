@@ -7,11 +7,11 @@ use Rattle.ring.proofs.partners.least_no.Tie as tie
 
 returns : tie.Need-returns
 unfolding leastNo
-returns c = sym (given-yes _ _ (c .if1 .taken))
+returns c = sym (given-yes _ (c .if1 .taken))
 
 returns-2 : tie.Need-returns-2
 unfolding leastNo
-returns-2 c = sym (given-no _ 21 (c .if1 .left))
+returns-2 c = sym (given-no 21 (c .if1 .left))
 
 pub least-no-spec : {M : Type 1} → statement M
 least-no-spec = tie.close (tie.spec returns returns-2)

@@ -1,5 +1,5 @@
 -- `walk::filter::consider_at` meets its contract. Assumes nothing.
-use mathlib.Core.Path.{_≡_}
+use mathlib.Core.Path.{_≡_, refl}
 use Prim.Native.Nat.{_*_, _<_}
 use native.Mathlib.Omega.{arith}
 use lib.ListN.{length}
@@ -15,22 +15,19 @@ use Rattle.walk.proofs.filter.consider_at.Tie as tie
 spot-at-requires : tie.Need-spot-at-requires
 spot-at-requires c κs = (c .before .pre .0, c .before .pre .2)
 
-box-at-requires : tie.Need-box-at-requires
-box-at-requires c κs = let p = c .before .before .pre in spot-fits _ _ _ (p .0) _ _ (p .2) (c .spot-at .ensures)
-
-drops-all-requires : tie.Need-drops-all-requires
-drops-all-requires c κs =
-    let p = c .before .before .before .before .before .pre in
-    (p .0, p .1, c .before .before .box-at .ensures .1, p .3, p .4)
+drops-spot-requires : tie.Need-drops-spot-requires
+drops-spot-requires c κs =
+    let p = c .before .before .before .before .pre in
+    (p .0, p .1, spot-fits _ _ _ (p .0) _ _ (p .2) (c .before .before .spot-at .ensures), p .3, p .4)
 
 same-length : tie.Need-same-length
 same-length c = search needs
 
 returns : tie.Need-returns
 returns c =
-    let f = c .before .drops-all .ensures in
+    let f = c .before .drops-spot .ensures in
     let z = c .before .before .before .before in
-    (consider-yes _ _ _ _ _ (dropped-is _ _ _ _ _ _ _ _ (z .before .spot-at .ensures) (z .box-at .ensures .0) (finds-some _ _ _ _ f (c .if1 .taken))), tries-found _ _ _ _ _ _ (f .known) (z .before .before .before .pre .4))
+    (consider-yes _ _ _ _ _ (dropped-is _ _ _ _ _ _ _ _ (z .spot-at .ensures) refl (finds-some _ _ _ _ f (c .if1 .taken))), tries-found _ _ _ _ _ _ (f .known) (z .before .before .pre .4))
 
 insert-requires : tie.Need-insert-requires
 insert-requires c κs = search needs
@@ -41,8 +38,8 @@ mul-latest c = search needs
 element-write-latest : tie.Need-element-write-latest
 element-write-latest c = search needs
 
-add-t20 : tie.Need-add-t20
-add-t20 c = search needs
+add-t19 : tie.Need-add-t19
+add-t19 c = search needs
 
 same-length-2 : tie.Need-same-length-2
 same-length-2 c = search needs
@@ -53,13 +50,12 @@ abbrev asked : tie.After-insert → tie.Else1
 asked c = c .before .before
 
 abbrev start : tie.After-insert → tie.Start
-start c = asked c .before .before .before .before .before .before .before
+start c = asked c .before .before .before .before .before .before
 
 considered : (c : tie.After-insert) → c .insert .last .0 ≡ consider (start c .args .w .now) (start c .args .n) (start c .args .q) (start c .args .i) (start c .args .bits .now)
 considered c =
     let e = asked c in
-    let z = e .before .before .before .before in
-    consider-no _ _ _ _ _ _ (dropped-is _ _ _ _ _ _ _ _ (z .before .spot-at .ensures) (z .box-at .ensures .0) (e .before .drops-all .ensures .none-left (e .if1 .left))) (c .insert .ensures)
+    consider-no _ _ _ _ _ _ (dropped-is _ _ _ _ _ _ _ _ (e .before .before .before .before .spot-at .ensures) refl (e .before .drops-spot .ensures .none-left (e .if1 .left))) (c .insert .ensures)
 
 room : (c : tie.After-insert) → start c .args .i < 64 * length (start c .args .bits .now)
 room c = omega (arith, start c .pre .2, start c .pre .3 .enough)
@@ -84,14 +80,13 @@ consider-at-spec =
     tie.close
     (tie.spec
     spot-at-requires
-    box-at-requires
-    drops-all-requires
+    drops-spot-requires
     same-length
     returns
     insert-requires
     mul-latest
     element-write-latest
-    add-t20
+    add-t19
     same-length-2
     returns-2
     same-length-3
