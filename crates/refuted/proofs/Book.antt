@@ -19,7 +19,6 @@ use Rattle.list.specs.Terms.{full, withT, alone}
 use Rattle.book.specs.declared.Book.{Book}
 use Rattle.book.specs.declared.Begun.{Begun}
 use Rattle.book.specs.declared.Begun.the-variants as begun
-use Rattle.book.specs.declared.Next.the-variants as next
 use Rattle.book.specs.Rules.{beginNo, begunBook, begunFor, lastKey, nextNo, pairOk, pairsOk, sameKey, pageBad, takeNoAt, takeNo, advanced, accepted, refused, decided, taken, takenSlots}
 use Rattle.refuted.proofs.Cases.{to, key}
 
