@@ -26,7 +26,7 @@ PROGRAMS["examples"] = "the examples"
 ONE_PROGRAM = "trial"
 
 ENTRY = re.compile(r"^- (.*?)(?=^- |^$|\Z)", re.M | re.S)
-TITLE = re.compile(r" ?\*(Definition|Proved by|Tested by|Refused|Refused by|Form|Edit|Wrong answers)\*: ")
+TITLE = re.compile(r" ?\*(Definition|Proved by|Tested by|Refused|Refused by|Hands on to|Form|Edit|Wrong answers)\*: ")
 FIELD = {"Definition": "definition", "Proved by": "proved", "Tested by": "tested", "Refused": "refused", "Edit": "refused", "Refused by": "proved", "Form": "form"}
 CALLS = "Wrong answers tried, call by call"
 CODE = re.compile(r"`([^`]*)`")
@@ -256,7 +256,7 @@ def brought(source, old_text, new_text, reader):
     for heading, sentence, fields in entries(new_text):
         if heading == CALLS:
             of = "call " + ", ".join(CODE.findall(sentence))
-            calls[of] = [(field, fields[title]) for title, field in (("Wrong answers", "tried"), ("Refused by", "by")) if title in fields]
+            calls[of] = [(field, fields[title]) for title, field in (("Wrong answers", "tried"), ("Refused by", "by"), ("Hands on to", "hands")) if title in fields]
             continue
         if sentence not in became:
             said.append("no rule is known for the row: %s" % sentence)

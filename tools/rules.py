@@ -14,6 +14,7 @@ docs/promises.txt has a block for each rule, and one for each call open to calle
     call pack::pack
     tried: words                                      the wrong answers, each edit and refutation between backquotes
     by: words                                         what refuses them
+    hands: words                                      of a call that only hands on: to which call, between backquotes
 """
 import os
 import re
@@ -180,7 +181,7 @@ def written(rules, source):
     for of, lines in blocks:
         if of.startswith("call "):
             text = "**%s.**" % ", ".join(code(call.strip()) for call in of[5:].split(","))
-            for field, title in (("tried", "Wrong answers"), ("by", "Refused by")):
+            for field, title in (("tried", "Wrong answers"), ("by", "Refused by"), ("hands", "Hands on to")):
                 of_it = [what for name, what in lines if name == field]
                 if of_it:
                     text += " *%s*: %s" % (title, " ".join(of_it))

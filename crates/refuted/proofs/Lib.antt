@@ -1,0 +1,10 @@
+pub mod Cases
+pub mod Plane
+pub mod List
+pub mod Sheet
+pub mod Walk
+pub mod Pages
+pub mod Book
+pub mod Runs
+pub mod Nearest
+pub mod Shortest

@@ -1,0 +1,178 @@
+-- Wrong readings of page requests, of what they count, and of a chamber's partners.
+use mathlib.Core.Path.{_≡_, refl, ap}
+use mathlib.Core.Bool.{not, _&&_}
+use mathlib.Core.List.{List, [], _∷_}
+use Prim.Native.Nat.{ℕ, suc}
+use native.Mathlib.Omega.{arith}
+use lib.Dec.{leb}
+use lib.IntN.{ℤ}
+use lib.ListN.{length}
+use Rattle.words.specs.Word.{num, eqZ, within, before, isBelow, minZ, maxZ}
+use Rattle.words.specs.All.{allB, firstB, tab}
+use Rattle.words.specs.First.{given, first, answer}
+use Rattle.words.specs.Range.{lastId, idWord, editionWord, coordWord}
+use Rattle.plane.specs.Rule.{sameSpot, inBox, blocks, drops, dropsBox, far, inside, sideIn}
+use Rattle.plane.specs.Point.{Point, idAt}
+use Rattle.sheet.specs.Limits.{form1}
+use Rattle.sheet.specs.Layout.{countsOk, rootWord, layoutOk, trailerNo}
+use Rattle.sheet.specs.Points.{fieldsOk, risesOk, pointOk, pointsOk}
+use Rattle.sheet.specs.Order.{orderOf, rankOf, placeOk, orderOk}
+use Rattle.sheet.specs.Nodes.{levelOf, firstOf, countOf, sameLevel, dueNext, dueOf, runOk, isLast, endOk, nodeRule, nodeOk, tableOk, nodesOk}
+use Rattle.sheet.specs.Boxes.{sideOf, coordOf, better, best, tightSide, tightOk, sumOver}
+use Rattle.sheet.specs.Open.{bodyNo, openNo, sheetNo}
+use Rattle.sheet.specs.Places.{spotOf, boxOf, pointsOf}
+use Rattle.sheet.specs.Find.{positionOf}
+use Rattle.bits.specs.Set.{digit, at as bitAt, kept, with, none, some}
+use Rattle.list.specs.declared.Key.{Key}
+use Rattle.list.specs.declared.Request.{Request}
+use Rattle.list.specs.Pairs.{start, follows, chamberPairs}
+use Rattle.list.specs.Pages.{thresholdNo, sizeNo}
+use Rattle.list.specs.Rows.{row, rows, listBy}
+use Rattle.list.specs.RingList.{unblocked, ringPair, ringList}
+use Rattle.walk.specs.Walk.{inTurn, walk, walkAll}
+use Rattle.walk.specs.FilterWalk.{dropped, shut, consider, filterPlace, filterTake, filterVisit, filterKept, filterKeeps}
+use Rattle.walk.specs.SelfWalk.{passTake, passKept}
+use Rattle.walk.specs.RingWalk.{meet, ringTake, enter, ringVisit, ringOn, ringWalk, pairWalk}
+use Rattle.join.specs.Walks.{Walks}
+use Rattle.join.specs.Work.{firstFrom, ringSteps, steps, spentOn, pageOpened}
+use Rattle.join.specs.Sheets.{walksOf, selfWalks}
+use Rattle.join.specs.Threshold.{foundFor, ringOpened, allWalked, walksFor, smaller}
+use Rattle.ring.specs.declared.Paged.{Paged}
+use Rattle.ring.specs.Numbers.{sheetsNo}
+use Rattle.ring.specs.Page.{keyNo, askedNo, pageNo, pageGiven, pageRefused, pageAnswer}
+use Rattle.ring.specs.Partners.{idNo, leastNo, partnersNo, partnersCount}
+use Rattle.refuted.proofs.Cases.{key, chambers, pumpSheet, chamberSheet, words, nothing, noForm}
+
+-- ---- the count of nodes opened
+
+-- "an invented number of nodes opened": one for each chamber. Over a sheet of nothing no node is opened.
+abbrev oneEach : Walks → Walks
+oneEach w = record { kept = w .kept; keptOpened = λ j. 1; clear = w .clear; clearOpened = w .clearOpened; qid = w .qid; pair = w .pair }
+
+pub invented-count-wrong :
+    (pageOpened (oneEach (walksOf 1 nothing chamberSheet)) start 2 0 2 ≡ 2) × (pageOpened (walksOf 1 nothing chamberSheet) start 2 0 2 ≡ 0)
+unfolding pageOpened steps ringSteps spentOn firstFrom firstB follows pointsOf tab pairWalk filterKept filterVisit filterTake filterPlace consider dropped shut some none kept with bitAt digit drops dropsBox inBox ringWalk ringOn ringVisit ringTake meet enter walkAll walk inTurn levelOf firstOf countOf boxOf sideOf spotOf orderOf num blocks sameSpot far sideIn inside
+invented-count-wrong = (refl, refl)
+
+-- Partners before the key are walked too. "its kept partners after the key are ring-walked in id order".
+abbrev earlyWalked : Walks → Key → ℕ → ℕ → ℕ → ℕ
+earlyWalked w k size np nq = pageOpened w (key (k .q) 0) size np nq
+
+pub early-walked-wrong :
+    (earlyWalked (walksOf 1 pumpSheet chamberSheet) (key 5 2) 16 2 2 ≡ 8) × (pageOpened (walksOf 1 pumpSheet chamberSheet) (key 5 2) 16 2 2 ≡ 4)
+unfolding pageOpened steps ringSteps spentOn firstFrom firstB follows pointsOf tab pairWalk filterKept filterVisit filterTake filterPlace consider dropped shut some none kept with bitAt digit drops dropsBox inBox ringWalk ringOn ringVisit ringTake meet enter walkAll walk inTurn levelOf firstOf countOf boxOf sideOf spotOf orderOf num blocks sameSpot far sideIn inside
+early-walked-wrong = (refl, refl)
+
+-- The work stops with the page's last pair. "the work stops at the first pair beyond the size, or after the last q".
+pub stops-full-wrong :
+    (spentOn 1 (steps (walksOf 1 pumpSheet chamberSheet) start 2 2 0) ≡ 5) × (pageOpened (walksOf 1 pumpSheet chamberSheet) start 2 2 2 ≡ 8)
+unfolding pageOpened steps ringSteps spentOn firstFrom firstB follows pointsOf tab pairWalk filterKept filterVisit filterTake filterPlace consider dropped shut some none kept with bitAt digit drops dropsBox inBox ringWalk ringOn ringVisit ringTake meet enter walkAll walk inTurn levelOf firstOf countOf boxOf sideOf spotOf orderOf num blocks sameSpot far sideIn inside
+stops-full-wrong = (refl, refl)
+
+-- The count of t is that of the full list. "With t above 0 a page's count takes in all kept partners of each chamber reached, the last one too": one chamber with
+-- three partners, of which the third is walked after the second, the first pair beyond the size.
+abbrev corners : List ℤ
+corners = words (1 ∷ 0 ∷ 0 ∷ 2 ∷ 10 ∷ 0 ∷ 3 ∷ 5 ∷ 12 ∷ 0 ∷ 1 ∷ 2 ∷ 0 ∷ 1 ∷ 2 ∷ 0 ∷ 0 ∷ 3 ∷ 0 ∷ 0 ∷ 10 ∷ 12 ∷ 22 ∷ 7 ∷ 3 ∷ 1 ∷ 7 ∷ 1 ∷ [])
+
+abbrev middle : List ℤ
+middle = words (5 ∷ 5 ∷ 5 ∷ 0 ∷ 0 ∷ 0 ∷ 0 ∷ 1 ∷ 5 ∷ 5 ∷ 5 ∷ 5 ∷ 12 ∷ 7 ∷ 1 ∷ 1 ∷ 9 ∷ 1 ∷ [])
+
+pub count-of-t-wrong : (pageOpened (walksOf 1 corners middle) start 1 3 1 ≡ 5) × (pageOpened (walksFor (walksOf 1 corners middle) 3 1) start 1 3 1 ≡ 7)
+unfolding walksFor allWalked ringOpened foundFor sumOver row pageOpened steps ringSteps spentOn firstFrom firstB follows pointsOf tab pairWalk filterKept filterVisit filterTake filterPlace consider dropped shut some none kept with bitAt digit drops dropsBox inBox ringWalk ringOn ringVisit ringTake meet enter walkAll walk inTurn levelOf firstOf countOf boxOf sideOf spotOf orderOf num blocks sameSpot far sideIn inside
+count-of-t-wrong = (refl, refl)
+
+-- q is walked with itself, in a self join. "Pairs of two different records"; "kept partners of higher id get one ring walk".
+abbrev withItself : List ℤ → Walks
+withItself S =
+    record {
+      kept = λ j i. filterKeeps 1 S (spotOf S j) i && leb (idAt (pointsOf S) j) (idAt (pointsOf S) i);
+      keptOpened = λ j. filterKept 1 S (spotOf S j) .opened;
+      clear = selfWalks 1 S .clear;
+      clearOpened = selfWalks 1 S .clearOpened;
+      qid = selfWalks 1 S .qid;
+      pair = selfWalks 1 S .pair;
+    }
+
+pub with-itself-wrong :
+    (pageOpened (withItself pumpSheet) start 16 2 2 ≡ 5) × (pageOpened (selfWalks 1 pumpSheet) start 16 2 2 ≡ 3)
+unfolding passKept passTake pageOpened steps ringSteps spentOn firstFrom firstB follows pointsOf tab pairWalk filterKept filterVisit filterTake filterPlace consider dropped shut some none kept with bitAt digit drops dropsBox inBox ringWalk ringOn ringVisit ringTake meet enter walkAll walk inTurn levelOf firstOf countOf boxOf sideOf spotOf orderOf num blocks sameSpot far sideIn inside
+with-itself-wrong = (refl, refl)
+
+-- Both sheets are walked for a pair of a self join: "one ring walk".
+abbrev walkedTwice : List ℤ → Walks
+walkedTwice S =
+    record {
+      kept = selfWalks 1 S .kept;
+      keptOpened = selfWalks 1 S .keptOpened;
+      clear = selfWalks 1 S .clear;
+      clearOpened = λ j i. pairWalk S S j i .opened;
+      qid = selfWalks 1 S .qid;
+      pair = selfWalks 1 S .pair;
+    }
+
+pub walked-twice-wrong :
+    (pageOpened (walkedTwice pumpSheet) start 16 2 2 ≡ 4) × (pageOpened (selfWalks 1 pumpSheet) start 16 2 2 ≡ 3)
+unfolding passKept passTake pageOpened steps ringSteps spentOn firstFrom firstB follows pointsOf tab pairWalk filterKept filterVisit filterTake filterPlace consider dropped shut some none kept with bitAt digit drops dropsBox inBox ringWalk ringOn ringVisit ringTake meet enter walkAll walk inTurn levelOf firstOf countOf boxOf sideOf spotOf orderOf num blocks sameSpot far sideIn inside
+walked-twice-wrong = (refl, refl)
+
+-- ---- numbers of refusal
+
+abbrev request : Request
+request = record { key = start; size = 2; threshold = 0 }
+
+-- "refusing all": the document's own request is served.
+pub refusing-all-wrong : (k : ℕ) → pageAnswer pumpSheet chamberSheet request ≡ pageRefused (suc k) → ⊥
+unfolding pageAnswer pageNo pageGiven pageRefused answer keyNo sizeNo thresholdNo openNo bodyNo trailerNo first given countsOk within editionWord layoutOk rootWord pointsOk pointOk fieldsOk risesOk idWord coordWord before orderOk placeOk isBelow rankOf orderOf nodesOk tableOk nodeOk nodeRule runOk endOk isLast sameLevel dueOf dueNext tightOk tightSide best better minZ maxZ coordOf sideOf levelOf firstOf countOf eqZ num allB form1
+refusing-all-wrong k e = let z : 0 ≡ suc k = ap (λ (r : Paged). r .number) e in omega arith
+
+-- Q before P. "1 to 8 for P, then for Q": P has another form number, and Q has under 6 words.
+abbrev chambersFirst : List ℤ → List ℤ → ℕ
+chambersFirst P Q = first (sheetNo Q ∷ sheetNo P ∷ [])
+
+pub chambers-first-wrong : (chambersFirst noForm [] ≡ 1) × (sheetsNo noForm [] ≡ 2)
+unfolding sheetsNo openNo trailerNo first given eqZ
+chambers-first-wrong = (refl, refl)
+
+-- A key's ids are from 1. "each 0 to 2,000,000,000".
+abbrev fromOne : Key → ℕ
+fromOne k = given (not (leb 1 (k .q) && leb (k .q) lastId && leb 1 (k .p) && leb (k .p) lastId)) 9
+
+pub key-from-one-wrong : (fromOne start ≡ 9) × (keyNo start ≡ 0)
+unfolding keyNo given
+key-from-one-wrong = (refl, refl)
+
+-- t before the size. "21 [..] after 10 for a page".
+abbrev tBeforeSize : Key → ℕ → ℕ → ℕ
+tBeforeSize k size t = first (keyNo k ∷ thresholdNo t ∷ sizeNo size ∷ [])
+
+pub t-before-size-wrong : (tBeforeSize start 0 1001 ≡ 21) × (askedNo start 0 1001 ≡ 10)
+unfolding askedNo keyNo sizeNo thresholdNo first given
+t-before-size-wrong = (refl, refl)
+
+-- ---- a chamber's partners
+
+-- The id of a pump house. "20 unknown q id".
+pub pump-id-wrong : (idNo (pointsOf pumpSheet) 1 ≡ 0) × (idNo (pointsOf chamberSheet) 1 ≡ 20)
+unfolding idNo given positionOf firstB pointsOf tab spotOf num
+pump-id-wrong = (refl, refl)
+
+-- t of 0 in the single question, as in a page's. "21 t outside 0 to 1,000, or 0 in the single question".
+pub t-of-none-wrong : (thresholdNo 0 ≡ 0) × (leastNo 0 ≡ 21)
+unfolding thresholdNo leastNo given
+t-of-none-wrong = (refl, refl)
+
+-- t before the id: 20, then 21.
+abbrev tBeforeId : List Point → ℕ → ℕ → ℕ
+tBeforeId Q id t = first (leastNo t ∷ idNo Q id ∷ [])
+
+pub t-before-id-wrong : (tBeforeId chambers 1 0 ≡ 21) × (partnersNo nothing nothing 1 0 ≡ 20)
+unfolding partnersNo idNo leastNo positionOf firstB pointsOf tab openNo bodyNo trailerNo first given countsOk within editionWord layoutOk rootWord pointsOk pointOk fieldsOk risesOk idWord coordWord before orderOk placeOk isBelow rankOf orderOf nodesOk tableOk nodeOk nodeRule runOk endOk isLast sameLevel dueOf dueNext tightOk tightSide best better minZ maxZ coordOf sideOf levelOf firstOf countOf eqZ num allB form1
+t-before-id-wrong = (refl, refl)
+
+-- All partners. "the smaller of t and the number of its pairs in the list".
+abbrev allPartners : List ℤ → List ℤ → ℕ → ℕ
+allPartners P Q id = length (chamberPairs id (ringList (pointsOf P) (pointsOf Q)))
+
+pub all-partners-wrong : (allPartners pumpSheet chamberSheet 5 ≡ 2) × (partnersCount pumpSheet chamberSheet 5 1 ≡ 1)
+unfolding partnersCount smaller chamberPairs ringList listBy rows row ringPair unblocked allB blocks sameSpot pointsOf tab spotOf num
+all-partners-wrong = (refl, refl)
