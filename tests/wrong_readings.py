@@ -98,7 +98,7 @@ BOX_HOLDS = "    return xmin <= x[0] <= xmax and ymin <= x[1] <= ymax"
 
 # of the filter walk and of a run's: the rule of points of before request 3; a kept point at q's place skips points; one skips what stands at its place; the rule
 # of boxes of before; a kept point at q's place skips boxes; one skips a box that contains its place; a box does not contain the places on its sides: on none, on
-# its left or right side, on its bottom or top; a box is shut only where none of its corners is the kept point's place
+# its left or right side, on its bottom or top; a box is shut only where none of its corners is the kept point's place [O2, O3, O4]
 SKIPS = [
     (POINT_PLACES, ""),
     (POINT_PLACES, " and x != p"),
@@ -110,31 +110,31 @@ SKIPS = [
     (BOX_HOLDS, "    return xmin < x[0] < xmax and ymin <= x[1] <= ymax"),
     (BOX_HOLDS, "    return xmin <= x[0] <= xmax and ymin < x[1] < ymax"),
     (BOX_PLACES, " and p != q and p not in corners(box)"),
-    # of the corners, the one nearest along the way from p to q decides
+    # of the corners, the one nearest along the way from p to q decides [W9]
     (CORNERS_BEHIND, "return behind(q, p, (box[0] if p[0] < q[0] else box[2], box[1] if p[1] < q[1] else box[3])) and"),
 ]
 
 WALKS = [
-    # "Letting a side that touches the circle block"
+    # "Letting a side that touches the circle block" [V7]
     ("        if all(product(a, b, corner) < 0 for corner", "        if all(product(a, b, corner) <= 0 for corner"),
-    # "Halving the centre in whole numbers"
+    # "Halving the centre in whole numbers" [V8]
     ("    x, y = a[0] + b[0], a[1] + b[1]\n", "    x, y = (a[0] + b[0]) // 2 * 2, (a[1] + b[1]) // 2 * 2\n"),
-    # "Skipping a box when its centre, or three corners, lie behind the line"
+    # "Skipping a box when its centre, or three corners, lie behind the line" [V9, V10]
     (CORNERS_BEHIND, "return behind(q, p, ((box[0] + box[2]) / 2, (box[1] + box[3]) / 2)) and"),
     (CORNERS_BEHIND, "return sum(behind(q, p, corner) for corner in corners(box)) >= 3 and"),
     ("dx * dx + dy * dy > (a[0]", "dx * dx + dy * dy >= (a[0]"),
     ("enumerate((left, bottom, right, top))", "enumerate((left, bottom, right))"),
-    # "the first that qualifies of left, bottom, right, top": the last; another order; other numbers
+    # "the first that qualifies of left, bottom, right, top": the last; another order; other numbers [E1]
     ("enumerate((left, bottom, right, top))", "reversed(list(enumerate((left, bottom, right, top))))"),
     ("enumerate((left, bottom, right, top))", "((0, left), (2, right), (1, bottom), (3, top))"),
     ("enumerate((left, bottom, right, top))", "((1, bottom), (0, left), (2, right), (3, top))"),
     ("enumerate((left, bottom, right, top))", "((0, left), (1, bottom), (3, top), (2, right))"),
     ("enumerate((left, bottom, right, top))", "enumerate((left, right, bottom, top))"),
-    # "A point answer stays as it is"
+    # "A point answer stays as it is" [E2]
     ("return (\"point\", which, position)", "return (\"point\", which, position, 0)"),
     ("    return product(a, b, x) <= 0", "    return product(a, b, x) < 0"),
     ("(x[1] - p[1]) <= 0", "(x[1] - p[1]) < 0"),
-    # the ring rule of before request 3; the place of one end alone doesn't count
+    # the ring rule of before request 3; the place of one end alone doesn't count [O1]
     (NO_END_BLOCKS, ""),
     (NO_END_BLOCKS, " and x != a"),
     (NO_END_BLOCKS, " and x != b"),
@@ -154,7 +154,7 @@ WALKS = [
 
 SQUARED = "(q[1] - p[1]) ** 2 + (q[2] - p[2]) ** 2"
 
-# the size: not squared; of one axis; along the axes; of the radius; of the two places turned; of q's place alone
+# the size: not squared; of one axis; along the axes; of the radius; of the two places turned; of q's place alone [Z1]
 SIZES = [
     (SQUARED, "int((%s) ** 0.5)" % SQUARED),
     (SQUARED, "(q[1] - p[1]) ** 2"),
@@ -165,11 +165,11 @@ SIZES = [
 ]
 
 PAGES = SIZES + [
-    # unused pairs that are not zeros
+    # unused pairs that are not zeros [P6]
     ("UNUSED = (0, 0, 0)", "UNUSED = (0, 0, 1)"),
-    # "Setting the end mark only when the page is not full"
+    # "Setting the end mark only when the page is not full" [V11]
     ("following[:size], len(following) <= size, t)", "following[:size], len(following) < size, t)"),
-    # "a page maker honest on the first page and then closing with an empty one"
+    # "a page maker honest on the first page and then closing with an empty one" [V5]
     ("in list_of(pairs, t) if key_of(pair) > key]", "in list_of(pairs, t) if key_of(pair) > key and key == (0, 0)]"),
     ("in list_of(pairs, t) if key_of(pair) > key]", "in list_of(pairs, t) if key_of(pair) >= key]"),
     ("in list_of(pairs, t) if key_of(pair) > key]", "in list_of(pairs, t) if pair[0] > key[0] or pair in pairs and pair[1] > key[1]]"),
@@ -186,13 +186,14 @@ PAGES = SIZES + [
     ("ID = 2_000_000_000", "ID = 2_000_000_001"),
     ("page = page_of(pairs, (p.edition, q.edition), key, size, t)", "page = page_of(pairs, (q.edition, p.edition), key, size, t)"),
     # the list of t: strictly more than t partners; of each pump house and not of each chamber; the chambers with at most t; of the pairs after the key alone;
-    # only the first t pairs of a chamber
+    # only the first t pairs of a chamber [T3]
     ("if partners[pair[0]] >= t]", "if partners[pair[0]] > t]"),
     ("        partners[pair[0]] = partners.get(pair[0], 0) + 1\n    return [pair for pair in pairs if partners[pair[0]] >= t]", "        partners[pair[1]] = partners.get(pair[1], 0) + 1\n    return [pair for pair in pairs if partners[pair[1]] >= t]"),
     ("if partners[pair[0]] >= t]", "if t == 0 or partners[pair[0]] <= t]"),
     ("in list_of(pairs, t) if key_of(pair) > key]", "in list_of([pair for pair in pairs if key_of(pair) > key], t)]"),
     ("if partners[pair[0]] >= t]", "if t == 0 or partners[pair[0]] >= t > sum(other[0] == pair[0] and other < pair for other in pairs)]"),
     # the count of t: of the kept partners after the key alone; up to the first pair beyond the size; of the ring pairs alone; of chambers that are listed alone
+    # [T7]
     (WALKED_WHOLE, "            if key_of(pair_of(p.points, q.points, j, i)) <= key:\n                partners += [pair_of(p.points, q.points, j, i)] * (pair_walk(p, q, j, i)[0] == CLEAR)\n                continue\n" + WALKED_WHOLE),
     (AFTER_KEY + "                if len(found) == size:\n                    return opened, found\n", AFTER_KEY + "                if len(found) == size:\n                    return opened - sum(pair_walk(p, q, j, i)[1] for i in kept if p.points[i][0] > pair[1]), found\n"),
     (WALKED_WHOLE, WALKED_WHOLE.replace("            opened += more\n            if answer == CLEAR:\n", "            if answer == CLEAR:\n                opened += more\n")),
@@ -200,7 +201,7 @@ PAGES = SIZES + [
     # the work goes on for t after the page is full; stops at its last pair
     ("                    return opened, found\n                found.append(pair)\n    return opened, found\n\n\n# 9:", "                    continue\n                found.append(pair)\n    return opened, found\n\n\n# 9:"),
     ("                found.append(pair)\n    return opened, found\n\n\n# 9:", "                found.append(pair)\n        if len(found) == size:\n            return opened, found\n    return opened, found\n\n\n# 9:"),
-    # 21: its bounds; before 10; not for a page; 0 is a t of the question too; 20 after 21; not at all
+    # 21: its bounds; before 10; not for a page; 0 is a t of the question too; 20 after 21; not at all [T8, T9, T10]
     ("THRESHOLD = 1_000", "THRESHOLD = 999"),
     ("THRESHOLD = 1_000", "THRESHOLD = 1_001"),
     (KEY_THEN_SIZE, KEY_THEN_SIZE.replace("return 10", "return 10 if 0 <= t <= THRESHOLD else 21")),
@@ -209,7 +210,7 @@ PAGES = SIZES + [
     (KNOWN_THEN_T, T_THEN_KNOWN),
     (KNOWN_THEN_T, KNOWN_THEN_T.replace("any(point[0] == q_id", "any(point[0] >= q_id")),
     (KNOWN_THEN_T, T_THEN_KNOWN.replace("return 20, 0, False", "pass")),
-    # the question: the number of all pairs; the kept partners; a yes only beyond t; a count of the pump house's pairs
+    # the question: the number of all pairs; the kept partners; a yes only beyond t; a count of the pump house's pairs [T1, T2]
     ("    count = min(t, many)\n", "    count = many\n"),
     ("    return 0, count, count == t\n", "    return 0, count, many > t\n"),
     ("in pairs if pair[0] == q_id])", "in pairs if pair[1] == q_id])"),
@@ -217,6 +218,7 @@ PAGES = SIZES + [
 ]
 
 # of a self join: pairs both ways; higher id first; a record with itself; blocked by an end's copy, as before request 3; not blocked by records of lower id than both
+# [J1, J3]
 PAGES += [
     ("            if one[0] < other[0] and not", "            if one[0] != other[0] and not"),
     ("                pairs.append(pair_of(points, points, j, i))\n", "                pairs.append(pair_of(points, points, i, j))\n"),
@@ -224,14 +226,14 @@ PAGES += [
     ("not any(blocks(one[1:], other[1:], point[1:]) for point in others)", "not any(point[1:] in (one[1:], other[1:]) or blocks(one[1:], other[1:], point[1:]) for point in others)"),
     ("not any(blocks(one[1:], other[1:], point[1:]) for point in others)", "not any(blocks(one[1:], other[1:], point[1:]) for point in others if point > one)"),
     # its count: q is walked with itself; partners of lower id are walked too; two ring walks, as of two sheets; of the kept partners before the key too; no filter for q's
-    # whose partners all have lower ids
+    # whose partners all have lower ids [J8, J9]
     ("        kept, more = self_filter(sheet, j)\n        opened += more\n", "        kept, more = self_filter(sheet, j)\n        opened += more + ring_walk(sheet, 0, sheet.place(j), sheet.place(j), j)[1]\n"),
     ("            if pair[1] > pair[0] and key_of(pair) > key:\n", "            if key_of(pair) > key:\n"),
     ("                opened += more\n                if answer == CLEAR and", "                opened += 2 * more if answer == CLEAR else more\n                if answer == CLEAR and"),
     ("            if pair[1] > pair[0] and key_of(pair) > key:\n", "            opened += 0 if key_of(pair) > key or pair[1] < pair[0] else ring_walk(sheet, 0, sheet.place(j), sheet.place(i), i)[1]\n            if pair[1] > pair[0] and key_of(pair) > key:\n"),
     ("        kept, more = self_filter(sheet, j)\n        opened += more\n", "        kept, more = self_filter(sheet, j)\n        opened += more if any(i > j for i in kept) else 0\n"),
     ("                if answer == CLEAR and len(found) == size:\n", "                if len(found) == size:\n"),
-    # its page: another kind; a t; 9 after 10; the sheet after the key
+    # its page: another kind; a t; 9 after 10; the sheet after the key [J5]
     ("    page.own = True\n", "    page.own = False\n"),
     ("    page.own = True\n", "    page.own, page.t = True, 1\n"),
     ("    if not (0 <= key[0] <= ID and 0 <= key[1] <= ID):\n        return 9, None, 0\n", "    if not (0 <= key[0] <= ID and 0 <= key[1] <= ID):\n        return 9 if 1 <= size <= SIZE else 10, None, 0\n"),
@@ -248,27 +250,28 @@ POINT_KEPT = "            if not skips_point(c, sheet.place(position)):\n"
 RING_WALKED = "            opened += more\n            if answer == CLEAR:\n                found.append(pair_of(p.points, q.points, j, partner))\n    return opened, found\n"
 
 RUNS = SIZES + [
-    # the symmetric rule: the other chambers do not rule out; not for boxes; not for points
+    # the symmetric rule: the other chambers do not rule out; not for boxes; not for points [L4]
     ("        return pumps + others\n", "        return pumps\n"),
     ("any(drops_box(chambers[c], place, box) for place in ruling(c))", "any(drops_box(chambers[c], place, box) for place in [sheet.place(i) for i in kept[c]])"),
     ("any(drops_point(chambers[c], place, x) for place in ruling(c))", "any(drops_point(chambers[c], place, x) for place in [sheet.place(i) for i in kept[c]])"),
-    # another chamber on the chamber's own place rules out all of its partners, as before request 3
+    # another chamber on the chamber's own place rules out all of its partners, as before request 3 [O5]
     ("any(drops_point(chambers[c], place, x) for place in ruling(c))", "chambers.count(chambers[c]) > 1 or any(drops_point(chambers[c], place, x) for place in ruling(c))"),
-    # what is kept for one chamber rules out for all; is kept for all; rules out nothing
+    # what is kept for one chamber rules out for all; is kept for all; rules out nothing [L3]
     ("    kept = [[] for _ in chambers]\n", "    kept = [[]] * len(chambers)\n"),
     (POINT_KEPT, "            if not all(skips_point(k, sheet.place(position)) for k in range(len(chambers))):\n"),
     ("        return pumps + others\n", "        return others\n"),
     # a box is skipped when one chamber skips it; when the first does; never (the root's never is: a chamber and a pump house nearest to each other keep it open); when three corners are behind; only when strictly behind
+    # [L5]
     (BOX_SKIPPED, BOX_SKIPPED.replace("all(", "any(")),
     (BOX_SKIPPED, BOX_SKIPPED.replace("range(len(chambers))", "range(1)")),
     (BOX_SKIPPED, "        return False\n"),
     (CORNERS_BEHIND, "return sum(behind(q, p, corner) for corner in corners(box)) >= 3 and"),
     ("(x[1] - p[1]) <= 0", "(x[1] - p[1]) < 0"),
-    # not in table order; by id and not by place; by the partner's place and not its id
+    # not in table order; by id and not by place; by the partner's place and not its id [L1]
     ("        opened += 1\n        for below in range(first, first + count):\n", "        opened += 1\n        for below in reversed(range(first, first + count)):\n"),
     ("    return [q.order[place] for place in range(first, first + count)]\n", "    return sorted(q.order[place] for place in range(first, first + count))\n"),
     ("        for partner in range(p.n):\n", "        for partner in p.order:\n"),
-    # the count: without the filter's nodes; without the ring walks'; of the ring pairs alone; with one filter walk a chamber
+    # the count: without the filter's nodes; without the ring walks'; of the ring pairs alone; with one filter walk a chamber [L7]
     (RING_WALKED, RING_WALKED.replace("return opened,", "return opened - leaf_walk(p, [q.place(j) for j in chambers])[1],")),
     (RING_WALKED, RING_WALKED.replace("            opened += more\n", "")),
     (RING_WALKED, RING_WALKED.replace("            opened += more\n            if answer == CLEAR:\n", "            if answer == CLEAR:\n                opened += more\n")),
@@ -277,15 +280,15 @@ RUNS = SIZES + [
     (SHEETS_OF_RUN, SHEETS_OF_RUN.replace("(p_words)", "(words)").replace("(q_words)", "(p_words)").replace("(words)", "(q_words)")),
     (SHEETS_OF_RUN, SHEETS_OF_RUN.replace(" or open_number(q_words)", "")),
     (SHEETS_OF_RUN, SHEETS_OF_RUN + "\n    if leaf >= 400:\n        return 19, 0, 0, slots"),
-    # 19 only past the table; not for its length; 16 before it
+    # 19 only past the table; not for its length; 16 before it [L8]
     (NO_LEAF, NO_LEAF.replace(" or q.nodes[leaf][0] != 0", "")),
     (NO_LEAF, NO_LEAF.replace("leaf >= q.m or", "leaf > q.m or")),
     (NO_LEAF, NO_LEAF.replace("return 19,", "return 19 if slots else 16,")),
-    # 16 also when exactly enough; only when two are too many; where there is no slot at all
+    # 16 also when exactly enough; only when two are too many; where there is no slot at all [L9]
     (OUTNUMBERED, OUTNUMBERED.replace(">", ">=")),
     (OUTNUMBERED, OUTNUMBERED.replace("len(slots):", "len(slots) + 1:")),
     (OUTNUMBERED, OUTNUMBERED.replace("len(slots):", "len(slots) or not slots:")),
-    # the slots: those past the pairs cleared; what fits stored although refused; the pairs at the end
+    # the slots: those past the pairs cleared; what fits stored although refused; the pairs at the end [L2, L10]
     ("opened, run + slots[len(run):]", "opened, run + [UNUSED] * (len(slots) - len(run))"),
     (OUTNUMBERED, OUTNUMBERED.replace("0, 0, slots", "0, 0, run[:len(slots)]")),
     ("opened, run + slots[len(run):]", "opened, slots[:len(slots) - len(run)] + run"),
@@ -297,12 +300,12 @@ SHEETS_OF_SHORTEST = '''shortest circles."""
 SIXTEEN_MOST = "    if k < 1 or k > SIZE:\n        return 10, []\n"
 
 SHORTEST = SIZES + [
-    # ties by p id and then q id; by q id alone, the last p id first; the last ids first; as they come in a list the other way round
+    # ties by p id and then q id; by q id alone, the last p id first; the last ids first; as they come in a list the other way round [H2]
     (BY_SIZE, BY_SIZE.replace("pair[0], pair[1])", "pair[1], pair[0])")),
     (BY_SIZE, BY_SIZE.replace("pair[0], pair[1])", "pair[0], -pair[1])")),
     (BY_SIZE, BY_SIZE.replace("pair[0], pair[1])", "-pair[0], -pair[1])")),
     (BY_SIZE, BY_SIZE.replace("sorted(pairs, key=lambda pair: (pair[2], pair[0], pair[1]))", "sorted(pairs[::-1], key=lambda pair: pair[2])")),
-    # by ids alone; the longest first; by the diameter in whole numbers; the k shortest, but by ids
+    # by ids alone; the longest first; by the diameter in whole numbers; the k shortest, but by ids [H1]
     (BY_SIZE, BY_SIZE.replace("(pair[2], pair[0], pair[1])", "(pair[0], pair[1])")),
     (BY_SIZE, BY_SIZE.replace("(pair[2], pair", "(-pair[2], pair")),
     (BY_SIZE, BY_SIZE.replace("(pair[2], pair", "(int(pair[2] ** 0.5), pair")),
@@ -312,11 +315,11 @@ SHORTEST = SIZES + [
     (BY_SIZE, BY_SIZE.replace("sorted(pairs,", "sorted(pairs[:-1],")),
     (BY_SIZE, BY_SIZE.replace("sorted(pairs,", "sorted([pair for pair in pairs if pair[2] == min(other[2] for other in pairs if other[0] == pair[0])],")),
     (BY_SIZE, BY_SIZE.replace("sorted(pairs,", "sorted({pair[2]: pair for pair in pairs[::-1]}.values(),")),
-    # one more; one fewer; refused where the list is shorter
+    # one more; one fewer; refused where the list is shorter [H4]
     (BY_SIZE, BY_SIZE.replace("[:k]", "[:k + 1]")),
     (BY_SIZE, BY_SIZE.replace("[:k]", "[:max(1, k - 1)]")),
     ("    return 0, shortest_of(pairs, k)\n", "    return (0, shortest_of(pairs, k)) if len(pairs) >= k else (10, [])\n"),
-    # the numbers: 0 is taken; 17 is; 16 is not; Q's before P's; Q's not at all; that of k before the sheets'
+    # the numbers: 0 is taken; 17 is; 16 is not; Q's before P's; Q's not at all; that of k before the sheets' [H3, H5]
     (SIXTEEN_MOST, SIXTEEN_MOST.replace("k < 1", "k < 0")),
     (SIXTEEN_MOST, SIXTEEN_MOST.replace("> SIZE", "> SIZE + 1")),
     (SIXTEEN_MOST, SIXTEEN_MOST.replace("> SIZE", "> SIZE - 1")),
@@ -333,13 +336,13 @@ NO_SIZE = "    if size is not None and (size < 1 or size > SIZE):\n        retur
 TOO_SHORT = "    if len(lent) < p.n + p.m:\n        return 25\n"
 
 NEAR = [
-    # points before boxes on a tie; the higher node or position first; those that wait longest, or shortest, first
+    # points before boxes on a tie; the higher node or position first; those that wait longest, or shortest, first [G2]
     ("BOX, POINT = 0, 1", "BOX, POINT = 1, 0"),
     (TAKEN_OUT, "        nearest = min(waiting, key=lambda one: (one[0], one[1], -one[2]))\n"),
     (TAKEN_OUT, "        nearest = min(waiting, key=lambda one: one[:2])\n"),
     (TAKEN_OUT, "        nearest = waiting[0]\n"),
     (TAKEN_OUT, "        nearest = waiting[-1]\n"),
-    # the distance along the axes; to a box's centre; to its farthest corner; 0 to a box beside q
+    # the distance along the axes; to a box's centre; to its farthest corner; 0 to a box beside q [G1]
     ("    return (q[0] - x[0]) ** 2 + (q[1] - x[1]) ** 2", "    return (abs(q[0] - x[0]) + abs(q[1] - x[1])) ** 2"),
     ("    return squared_to_point(q, nearest)", "    return squared_to_point(q, ((box[0] + box[2]) // 2, (box[1] + box[3]) // 2))"),
     ("    return squared_to_point(q, nearest)", "    return max(squared_to_point(q, corner) for corner in corners(box))"),
@@ -349,7 +352,7 @@ NEAR = [
     ("wait_point(sheet.order[below])", "wait_point(below)"),
     ("        elif not skipped(sheet.nodes[number][3:]):\n            opened += 1\n", "        elif not skipped(sheet.nodes[number][3:]):\n            opened += number < sheet.m - 1\n"),
     ("        return len(given) == size\n", "        return len(given) == size + 1\n"),
-    # the numbers: 20 last, 10 before it, 25 before 10; exactly enough is too short; n alone, m alone; sizes 0 and 17
+    # the numbers: 20 last, 10 before it, 25 before 10; exactly enough is too short; n alone, m alone; sizes 0 and 17 [G9, G10]
     (NO_CHAMBER, "    if q_id < q.points[0][0] or q_id > q.points[-1][0]:\n        return 20\n"),
     (NO_CHAMBER + "    # 10: size out of range, 1 to 16\n" + NO_SIZE, NO_SIZE + NO_CHAMBER),
     (NO_SIZE + "    # 25: slice shorter than n + m\n" + TOO_SHORT, TOO_SHORT + NO_SIZE),
@@ -358,7 +361,7 @@ NEAR = [
     (TOO_SHORT, TOO_SHORT.replace("<", "<=")),
     (TOO_SHORT, TOO_SHORT.replace("p.n + p.m", "p.n")),
     (TOO_SHORT, TOO_SHORT.replace("p.n + p.m", "p.m")),
-    # the lent numbers: all of them 0; the first n; none
+    # the lent numbers: all of them 0; the first n; none [G7, G8]
     ("    return [0] * (p.n + p.m) + lent[p.n + p.m:]", "    return [0] * len(lent)"),
     ("    return [0] * (p.n + p.m) + lent[p.n + p.m:]", "    return [0] * p.n + lent[p.n:]"),
     ("    return [0] * (p.n + p.m) + lent[p.n + p.m:]", "    return lent"),
@@ -369,7 +372,7 @@ NEAR = [
 BOOK = [
     ("DIAMETER = 8_000_000_000_000", "DIAMETER = 7_999_999_999_999"),
     ("DIAMETER = 8_000_000_000_000", "DIAMETER = 8_000_000_000_001"),
-    # 0 is no size; no size is looked at; only the first; those past the count too
+    # 0 is no size; no size is looked at; only the first; those past the count too [Z3]
     ("        if pair[2] < 0 or", "        if pair[2] <= 0 or"),
     ("        if pair[2] < 0 or pair[2] > DIAMETER:", "        if False:"),
     ("        if pair[2] < 0 or pair[2] > DIAMETER:", "        if page.pairs[0][2] > DIAMETER:"),
@@ -377,22 +380,22 @@ BOOK = [
     ("ID = 2_000_000_000", "ID = 2_000_000_001"),
     ("        if pair[0] < 1 or pair[0] > ID or pair[1] < 1", "        if pair[0] < 1 or pair[0] > ID or pair[1] < 0"),
     ("or key_of(pair) <= last:", "or key_of(pair) < last:"),
-    # 31: before 13; after 14; not at all; only for a page of the full list
+    # 31: before 13; after 14; not at all; only for a page of the full list [T11]
     ("    if page.editions != book.editions:\n        return 13\n", "    if page.t != book.t:\n        return 31\n    if page.editions != book.editions:\n        return 13\n"),
     ("    if page.t != book.t:\n        return 31\n", "    if page.t != book.t:\n        return 31 if page.key == next_key(book, slots)[1] else 14\n"),
     ("    if page.t != book.t:\n        return 31\n", ""),
     ("    if page.t != book.t:\n", "    if page.t != book.t and not page.t:\n"),
-    # 22: before 12; after 13; not at all; for a self join's book alone
+    # 22: before 12; after 13; not at all; for a self join's book alone [J11]
     ("    if book.closed:\n        return 12\n", "    if page.own != book.own:\n        return 22\n    if book.closed:\n        return 12\n"),
     ("    if page.own != book.own:\n        return 22\n", "    if page.own != book.own:\n        return 22 if page.editions == book.editions else 13\n"),
     ("    if page.own != book.own:\n        return 22\n", ""),
     ("    if page.own != book.own:\n        return 22\n", "    if book.own and not page.own:\n        return 22\n"),
-    # begin of a self join: of two editions; 21 before 3; with a t
+    # begin of a self join: of two editions; 21 before 3; with a t [J12, J13]
     ("    if own and editions[0] != editions[1]:\n        return 3, None\n", ""),
     ("    if own and editions[0] != editions[1]:\n        return 3, None\n", "    if own and editions[0] != editions[1]:\n        return 21 if t > 0 else 3, None\n"),
     ("    if own and t > 0:\n        return 21, None\n", ""),
     ("    if own and t > 0:\n        return 21, None\n", "    if own and t > 1:\n        return 21, None\n"),
-    # 21 of begin: before 3; its bound
+    # 21 of begin: before 3; its bound [T10]
     ("    if any(edition < 1 or edition > EDITION for edition in editions):\n        return 3, None\n", "    if t > THRESHOLD:\n        return 21, None\n    if any(edition < 1 or edition > EDITION for edition in editions):\n        return 3, None\n"),
     ("THRESHOLD = 1_000", "THRESHOLD = 999"),
     ("THRESHOLD = 1_000", "THRESHOLD = 1_001"),

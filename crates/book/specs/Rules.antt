@@ -26,15 +26,15 @@ use Rattle.book.specs.declared.TakenArray.{TakenArray}
 
 -- ---- begin
 
--- a self join is of one sheet: "3 for a self join of two editions"
+-- a self join is of one sheet: "3 for a self join of two editions" [J12]
 abbrev pub oneSheet : Source → Bool
 oneSheet s = not (s .terms .own) || eqb (s .«p_edition») (s .«q_edition»)
 
--- a self join has no t
+-- a self join has no t [J13]
 abbrev pub ownWithT : Source → Bool
 ownWithT s = s .terms .own && not (eqb (s .terms .threshold) 0)
 
--- 3: an edition out of range, or a self join of two editions; then 21 "t outside 0 to 1,000 [..] after [..] 3 for begin", and for a self join "21 with a t"
+-- 3: an edition out of range, or a self join of two editions; then 21 "t outside 0 to 1,000 [..] after [..] 3 for begin", and for a self join "21 with a t" [N24, T10, J12, J13]
 unfoldable pub beginNo : Source → ℕ
 beginNo s =
     first
@@ -43,22 +43,22 @@ beginNo s =
     ∷ thresholdNo (s .terms .threshold)
     ∷ [])
 
--- "A book is begun for two editions with nothing held, open, key (0, 0)." "Pages and books now carry t" and "say their kind": it is begun for these too.
+-- "A book is begun for two editions with nothing held, open, key (0, 0)." "Pages and books now carry t" and "say their kind": it is begun for these too. [K1, T5]
 unfoldable pub begunBook : Source → Book
 begunBook s = record { held = 0; closed = false; source = s }
 
--- the document's number for each case of the answer
+-- the document's number for each case of the answer [F10]
 unfoldable pub begunNo : Begun → ℕ
 begunNo (begun.Open b) = 0
 begunNo (begun.Refused n) = n
 
--- the answer of begin: 0 goes with the book, "Every refusal gives only its number"
+-- the answer of begin: 0 goes with the book, "Every refusal gives only its number" [K1, K8]
 unfoldable pub begunFor : Source → Begun
 begunFor s = answer (beginNo s) (begun.Open (begunBook s)) begun.Refused
 
 -- ---- the next key
 
--- "Its next key is its last pair": the key of the last held slot, and (0, 0) where nothing is held
+-- "Its next key is its last pair": the key of the last held slot, and (0, 0) where nothing is held [K4]
 unfoldable pub lastKey : ℕ → List Pair → Key
 lastKey zero slots = start
 lastKey (suc n) slots = keyOf (getD slots n none)
@@ -68,11 +68,11 @@ unfoldable pub lastSlot : ℕ → ℕ → ℕ
 lastSlot zero len = len
 lastSlot (suc n) len = n
 
--- 11: held exceeds the slice's length. "Asking the next key refuses only by 11."
+-- 11: held exceeds the slice's length. "Asking the next key refuses only by 11." [N25, N26]
 unfoldable pub nextNo : Book → ℕ → ℕ
 nextNo b len = given (ltb len (b .held)) 11
 
--- the document's number for each case of the answer
+-- the document's number for each case of the answer [F10]
 unfoldable pub askedNo : Next → ℕ
 askedNo (next.After k) = 0
 askedNo (next.Refused n) = n
@@ -81,20 +81,22 @@ askedNo (next.Refused n) = n
 unfoldable pub askedAt : Book → ℕ → Key → Asked
 askedAt b len k = record { next = answer (nextNo b len) (next.After k) next.Refused; book = b }
 
--- the answer of next key
+-- the answer of next key [K2]
 unfoldable pub asked : Book → List Pair → Asked
 asked b slots = askedAt b (length slots) (lastKey (b .held) slots)
 
 -- ---- take
 
--- the ids are 1 to 2,000,000,000, and the size 0 to 8,000,000,000,000
+-- the ids are 1 to 2,000,000,000, and the size 0 to 8,000,000,000,000 [N30, Z3]
 unfoldable pub pairOk : Pair → Bool
 pairOk v = idOk (v .q) && idOk (v .p) && sizeOk (v .size)
 
+-- [N30]
 unfoldable pub pairsOk : List Pair → Bool
 pairsOk [] = true
 pairsOk (v ∷ l) = pairOk v && pairsOk l
 
+-- [N29]
 unfoldable pub sameKey : Key → Key → Bool
 sameKey a b = eqb (a .q) (b .q) && eqb (a .p) (b .p)
 
@@ -103,14 +105,14 @@ abbrev pub pageMost : ℕ
 pageMost = 16
 
 -- 15: "over 16 pairs; an id outside 1 to 2,000,000,000; pairs not ascending strictly after the key; no pair and no end mark"; "15 is also given when a size lies outside
--- 0 to 8,000,000,000,000". Only the pairs that the page counts are looked at.
+-- 0 to 8,000,000,000,000". Only the pairs that the page counts are looked at. [N30, Z3]
 unfoldable pub pageBad : Page → Bool
 pageBad g =
     ltb pageMost (g .count) || not (pairsOk (pagePairs g)) || not (ascends (g .key) (pagePairs g)) || (eqb (g .count) 0 && not (g .end))
 
 -- the number of refusal in the document's order, 0 where the page is taken: for a slice of `len` slots of which the last held one has the key k.
 -- 11 held exceeds the slice's length; 12 book closed; 22 wrong kind, 13 page of other editions, 31 of another t; 14 page key is not the book's next key; 15; 16 more pairs than
--- slots left
+-- slots left [N26, N27, N28, N29, N31, N32, N33]
 unfoldable pub takeNoAt : Book → ℕ → Key → Page → ℕ
 takeNoAt b len k g =
     first
@@ -122,7 +124,7 @@ takeNoAt b len k g =
     ∷ given (ltb (len - b .held) (g .count)) 16
     ∷ [])
 
--- "Taking a page appends its pairs and closes the book if the end mark is set."
+-- "Taking a page appends its pairs and closes the book if the end mark is set." [K5, K6, V3]
 unfoldable pub advanced : Book → Page → Book
 advanced b g = record { held = b .held + g .count; closed = g .end; source = b .source }
 
@@ -130,25 +132,25 @@ advanced b g = record { held = b .held + g .count; closed = g .end; source = b .
 unfoldable pub accepted : Book → Page → Decided
 accepted b g = record { n = g .count; taken = record { number = 0; book = advanced b g } }
 
--- a refused one appends nothing: it "leaves lent memory and book state as they stood"
+-- a refused one appends nothing: it "leaves lent memory and book state as they stood" [N3]
 unfoldable pub refused : Book → ℕ → Decided
 refused b m = record { n = 0; taken = record { number = m; book = b } }
 
 unfoldable pub decidedAt : Book → ℕ → Key → Page → Decided
 decidedAt b len k g = answer (takeNoAt b len k g) (accepted b g) (refused b)
 
--- the number of refusal of a page, of any state and slice
+-- the number of refusal of a page, of any state and slice [N32, T11, J11]
 unfoldable pub takeNo : Book → List Pair → Page → ℕ
 takeNo b slots g = takeNoAt b (length slots) (lastKey (b .held) slots) g
 
 unfoldable pub decided : Book → List Pair → Page → Decided
 decided b slots g = answer (takeNo b slots g) (accepted b g) (refused b)
 
--- the answer of take
+-- the answer of take [K2]
 unfoldable pub taken : Book → List Pair → Page → Taken
 taken b slots g = decided b slots g .taken
 
--- the slots after it: the page's pairs stand from the held ones on, and every other slot is as it was
+-- the slots after it: the page's pairs stand from the held ones on, and every other slot is as it was [K3, K5, K7, N3, V3, F8]
 unfoldable pub takenSlots : Book → List Pair → Page → List Pair
 takenSlots b slots g = paste slots (b .held) (g .pairs) (decided b slots g .n)
 

@@ -17,10 +17,11 @@ use Rattle.book.specs.declared.Begun.the-variants as begun
 use Rattle.book.specs.Rules.{begunFor, lastKey, taken, takenSlots}
 
 -- each edition number has one list of points for P, one for Q and one for self joins ("all sheets given to self joins under one edition number hold the same
--- points"), such as sheets hold: their ids ascend strictly, and they stand within 1,000,000
+-- points"), such as sheets hold: their ids ascend strictly, and they stand within 1,000,000 [D4]
 pub record World : Type 0 where
   pub pumps : ℕ → List Point
   pub chambers : ℕ → List Point
+  -- [J7]
   pub assets : ℕ → List Point
   pub pumps-sound : (e : ℕ) → Sound (pumps e)
   pub chambers-sound : (e : ℕ) → Sound (chambers e)
@@ -34,11 +35,11 @@ module _ (w : World) where
   abbrev pub chambersOf : Source → List Point
   chambersOf s = cond (s .terms .own) (w .assets (s .«q_edition»)) (w .chambers (s .«q_edition»))
 
-  -- its list: that of its terms, of these points
+  -- its list: that of its terms, of these points [Z2, T6, J6]
   abbrev pub listOf : Source → List Pair
   listOf s = listFor (s .terms) (pumpsOf s) (chambersOf s)
 
-  -- a page that answers some request on two sheets of this world, or on one of a self join
+  -- a page that answers some request on two sheets of this world, or on one of a self join [D4]
   pub record Honest (g : Page) : Type 0 where
     pub of : Source
     pub after : Key
@@ -49,7 +50,7 @@ module _ (w : World) where
 
   -- a book and the slots lent to it, as they can come to stand: begun; handed honest pages in any order, any of them any number of times, those
   -- that it refuses too; lent another slice that holds the same pairs. (Asking the next key changes nothing, and a slice that is too short is
-  -- refused by 11 with nothing changed: neither is a step.)
+  -- refused by 11 with nothing changed: neither is a step.) [K9, D4, D5]
   pub data Reached : Book → List Pair → Type 0 where
     began : (s : Source) (b : Book) (slots : List Pair) → begunFor s ≡ begun.Open b → Reached b slots
     took : {b : Book} {slots : List Pair} (g : Page) → Reached b slots → Honest g → Reached (taken b slots g .book) (takenSlots b slots g)

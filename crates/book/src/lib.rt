@@ -11,7 +11,7 @@ ghost use Rattle.list.specs.Pairs.{none, keyOf, ascends};
 ghost use Rattle.list.specs.Lent.{lentOf};
 ghost use Rattle.book.specs.Rules.{begunFor, askedAt, asked, lastSlot, pairOk, pairsOk, sameKey, pageBad, takeNoAt, decidedAt, taken, takenSlots, withSlots, takenArray};
 
-// How many pairs are held, whether all are, and of what list.
+// How many pairs are held, whether all are, and of what list. [F4]
 #[repr(C)]
 pub struct Book {
     pub held: usize,
@@ -124,7 +124,7 @@ fn take_number(b: Book, len: usize, last: Pair, g: Page) -> u32
     0
 }
 
-// The core of `take`, on plain values: all that is decided of a page, for a slice of `len` slots of which `last` is the last held one.
+// The core of `take`, on plain values: all that is decided of a page, for a slice of `len` slots of which `last` is the last held one. [F8]
 fn decide(b: Book, len: usize, last: Pair, g: Page) -> Decided
     ensures { λ r. ⌜ r ≡ decidedAt b len (keyOf last) g ⌝ }
 {
@@ -229,7 +229,7 @@ impl Book {
         ask(self, len, last)
     }
 
-    // The page's pairs are appended in the slots and the book goes on, or the page is refused and nothing changes: no slot, and no part of the book.
+    // The page's pairs are appended in the slots and the book goes on, or the page is refused and nothing changes: no slot, and no part of the book. [F8]
     pub fn take(self, slots: &mut [Pair], page: Page) -> Taken
         ensures { λ r. ⌜ (r ≡ taken self (now (slots .entry)) page) × (now (slots .exit) ≡ takenSlots self (now (slots .entry)) page) ⌝ }
     {

@@ -42,11 +42,11 @@ together a b = eqb (across (a .x) (b .x) + across (a .y) (b .y)) 0
 unfoldable pub clear : Place → Place → Place → Bool
 clear a b z = not (covers a b z) || together z a || together z b
 
--- no point of s is in the circle but at the place of an end
+-- no point of s is in the circle but at the place of an end [X17]
 unfoldable pub empty : List ℤ → Place → Place → Bool
 empty s a b = allB (size s) (λ k. clear a b (placeAt s k))
 
--- q at position j and p at position i are a pair
+-- q at position j and p at position i are a pair [X17]
 unfoldable pub pairs : List ℤ → List ℤ → ℕ → ℕ → Bool
 pairs p q j i = empty q (placeAt q j) (placeAt p i) && empty p (placeAt q j) (placeAt p i)
 
@@ -66,7 +66,7 @@ pub record FirstOf (p q : List ℤ) (j i r : ℕ) : Type 0 where
 abbrev pub UpTo : ℕ → ℕ → ℕ → ℕ → Type 0
 UpTo j i k l = (j ≡ k → i ≤ l) × (j ≤ k)
 
--- what `next` answers, from position j of Q and position i of P: a pair, or past all of Q; and no pair before it
+-- what `next` answers, from position j of Q and position i of P: a pair, or past all of Q; and no pair before it [X17]
 pub record Next (p q : List ℤ) (j i : ℕ) (r : Found) : Type 0 where
   pub here : r .q < size q → (r .p < size p) × (pairs p q (r .q) (r .p) ≡ true)
   pub rows : (k l : ℕ) → UpTo j i k l → k < size q → l < size p → k < r .q → pairs p q k l ≡ false

@@ -1,6 +1,6 @@
 -- The calls of `view` promise what the calls of `ring` and `nearest` promise of the words that the views cover: "a view handed in included, its counts read anew from its words". So
 -- each theorem of Demand1, Demand2, Demand3 and Nearest on an answer of these holds of theirs. And so for a book, and for a run, whose slots are kept in an array.
--- Assumes nothing.
+-- Assumes nothing. [S28]
 use mathlib.Core.Path.{_≡_, ap}
 use mathlib.Core.List.{List, [], _++_}
 use Prim.Native.Nat.{ℕ}

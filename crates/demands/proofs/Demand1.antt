@@ -6,7 +6,7 @@
 -- nothing else. None has a premise but that the call answered. The definitions of the numbers stand in the document's order: `openNo` of sheet/specs/Open,
 -- `packNo` of pack/specs/Pack, `pointNo`, `filterNo`, `ringNo` of ring/specs/Numbers, `pageNo` of ring/specs/Page, `ownNo` of ring/specs/Own, `partnersNo` of ring/specs/Partners, `shortNo` of shortest/specs/Answer,
 -- `beginNo`, `nextNo`, `takeNo` of book/specs/Rules, `markNo` of marker/specs/Mark, `runNo` of runs/specs/Run, `nearestNo` and `nearFilterNo` of nearest/specs/Nearest. For the calls through views and on arrays see proofs/Alike. What is lent as `&` cannot be written; what is lent as `&mut` (pack, take, leaf_run, nearest, near_filter) is spoken of here.
--- Assumes nothing.
+-- Assumes nothing. [N1, N2, D1]
 use mathlib.Core.Path.{_≡_, refl, sym, ap, subst, _∙_}
 use mathlib.Core.List.{List, [], _++_}
 use Prim.Native.Nat.{ℕ}
@@ -85,6 +85,7 @@ Refuses k = k ≡ 0 → ⊥
 
 -- ---- open, 1 to 8
 
+-- [N6, N7, N8, N9, N10, N11, N12, N13, N35]
 pub open-no : (w : List ℤ) (r : ℕ) → OpenAnswers w r → r ≡ openNo form1 w
 open-no w r a = a .promised
 
@@ -92,7 +93,7 @@ pub head-no : (w : List ℤ) (h : Head) → HeadAnswers w h
     → (h .number ≡ openNo form1 w) × (Refuses (openNo form1 w) → h ≡ record { number = openNo form1 w; len = 0; n = 0; m = 0 })
 head-no w h a = (head-number w h (a .promised), λ ne. a .promised ∙ sym (head-shut w (openNo form1 w) refl ne))
 
--- through a view: "An opened sheet is read where the caller keeps its words, with no copy made", all of them; refused, "a view there covers no words"
+-- through a view: "An opened sheet is read where the caller keeps its words, with no copy made", all of them; refused, "a view there covers no words" [N5]
 pub view-no : (w : RefT (List ℤ)) (r : Opened) → ViewOpens w r
     → (r .number ≡ openNo form1 (now w))
     × (Refuses (openNo form1 (now w)) → shown r ≡ record { number = openNo form1 (now w); start = w .ptr; covers = []; n = 0; m = 0 })
@@ -101,18 +102,21 @@ view-no w r a = (of-view.open-no w r a, λ ne. of-view.open-refused w r a ne, λ
 
 -- ---- pack, "18, 3, 5, 6, 17": refused, the lent words are as they stood
 
+-- [N3, N14, N15, N16, N17]
 pub pack-no : (n : ℕ) (points order : List ℤ) (ed : ℕ) (out : List ℤ) (r : ℕ) (out′ : List ℤ) → PackAnswers n points order ed out r out′
     → (r ≡ packNo form1 n points order ed (length out)) × (Refuses r → out′ ≡ out)
 pack-no n points order ed out r out′ a = (a .promised .0, λ ne. refused-same n points order ed out r out′ (a .promised .0) (a .promised .1) ne)
 
 -- ---- the point reader, 1 to 8, then 9
 
+-- [F10]
 pub point-no : (w : List ℤ) (i : ℕ) (r : Pointed) → PointAnswers w i r
     → (pointedNo r ≡ pointNo w i) × (Refuses (pointNo w i) → r ≡ pointing.Refused (pointNo w i))
 point-no w i r a = (ap pointedNo (a .promised) ∙ of-ring.point-no w i, λ ne. a .promised ∙ sym (point-refused w i (pointNo w i) refl ne))
 
 -- ---- the filter walk, 1 to 8 for P, then for Q, then 9: refused, all bits and both counts are 0
 
+-- [N4]
 pub filter-no : (P Q : List ℤ) (j : ℕ) (r : Filtered) → FilterAnswers P Q j r
     → (r .number ≡ filterNo P Q j) × (Refuses (filterNo P Q j) → r ≡ unfiltered (filterNo P Q j))
 filter-no P Q j r a =
@@ -120,12 +124,14 @@ filter-no P Q j r a =
 
 -- ---- the ring walk, 1 to 8 for P, then for Q, then 9
 
+-- [F10]
 pub ring-no : (P Q : List ℤ) (j i : ℕ) (r : Walked) → RingAnswers P Q j i r
     → (walkedNo r ≡ ringNo P Q j i) × (Refuses (ringNo P Q j i) → r ≡ walking.Refused (ringNo P Q j i))
 ring-no P Q j i r a = (ap walkedNo (a .promised) ∙ of-ring.ring-no P Q j i, λ ne. a .promised ∙ sym (ring-refused P Q j i (ringNo P Q j i) refl ne))
 
 -- ---- the page request, 1 to 8 for P, then for Q, then 9, then 10, then 21: refused, the page is all zero, and so is its count
 
+-- [N4, T9, T10]
 pub page-no : (P Q : List ℤ) (ask : Request) (r : Paged) → PageAnswers P Q ask r
     → (r .number ≡ pageNo P Q ask) × (Refuses (pageNo P Q ask) → r ≡ pageRefused (pageNo P Q ask))
 page-no P Q ask r a =
@@ -133,6 +139,7 @@ page-no P Q ask r a =
 
 -- ---- the page request of a self join, 1 to 8 for its sheet, then 9, then 10: refused, the page is all zero, and so is its count
 
+-- [J6]
 pub own-no : (S : List ℤ) (key : Key) (size : ℕ) (r : Paged) → OwnAnswers S key size r
     → (r .number ≡ ownNo S key size) × (Refuses (ownNo S key size) → r ≡ pageRefused (ownNo S key size))
 own-no S key size r a =
@@ -140,6 +147,7 @@ own-no S key size r a =
 
 -- ---- the shortest circles, 1 to 8 for P, then for Q, then 10: refused, the number of pairs is 0, and each pair is three zeros
 
+-- [H5]
 pub short-no : (P Q : List ℤ) (k : ℕ) (r : Shortlist) → ShortAnswers P Q k r
     → (r .number ≡ shortNo P Q k) × (Refuses (shortNo P Q k) → r ≡ shortRefused (shortNo P Q k))
 short-no P Q k r a =
@@ -147,6 +155,7 @@ short-no P Q k r a =
 
 -- ---- the question for a chamber's partners, 1 to 8 for P, then for Q, then 20, then 21: refused, the count is 0, and there is no yes
 
+-- [T8, T9, T10]
 pub partners-no : (P Q : List ℤ) (id t : ℕ) (r : Partnered) → PartnersAnswers P Q id t r
     → (r .number ≡ partnersNo P Q id t) × (Refuses (partnersNo P Q id t) → r ≡ partnersRefused (partnersNo P Q id t))
 partners-no P Q id t r a =
@@ -154,6 +163,7 @@ partners-no P Q id t r a =
 
 -- ---- nearest first, 1 to 8 for P, then for Q, then 20, then 10 (not of the filter), then 25: refused, all is zero, and the lent numbers are as they were
 
+-- [G9, G10, G11]
 pub nearest-no : (P Q : List ℤ) (id size : ℕ) (ws : List ℕ) (r : Found) (t : List ℕ) → NearestAnswers P Q id size ws r t
     → (r .number ≡ nearestNo P Q id size (length ws)) × (Refuses (nearestNo P Q id size (length ws)) → (r ≡ nearestRefused (nearestNo P Q id size (length ws))) × (t ≡ ws))
 nearest-no P Q id size ws r t a = (
@@ -161,6 +171,7 @@ nearest-no P Q id size ws r t a = (
   λ ne. (a .promised .0 ∙ of-nearest.nearest-refused P Q id size (length ws) _ refl ne, a .promised .1 ∙ of-nearest.waited-refused _ P ws ne),
 )
 
+-- [G9, G10, G11]
 pub near-filter-no : (P Q : List ℤ) (id : ℕ) (ws : List ℕ) (r : Filtered) (t : List ℕ) → NearFilterAnswers P Q id ws r t
     → (r .number ≡ nearFilterNo P Q id (length ws)) × (Refuses (nearFilterNo P Q id (length ws)) → (r ≡ unfiltered (nearFilterNo P Q id (length ws))) × (t ≡ ws))
 near-filter-no P Q id ws r t a = (
@@ -175,6 +186,7 @@ unfolding begunNo
 only-begun k (begun.Open b) e ne = absurd (ne (sym e))
 only-begun k (begun.Refused n) e ne = ap begun.Refused e
 
+-- [N24, T9, T10, J12, J13, F10]
 pub begin-no : (s : Source) (r : Begun) → BeginAnswers s r → (begunNo r ≡ beginNo s) × (Refuses (beginNo s) → r ≡ begun.Refused (beginNo s))
 begin-no s r a =
     let e : begunNo r ≡ beginNo s = ap begunNo (a .promised) ∙ of-book.begin-no s in
@@ -187,6 +199,7 @@ unfolding askedNo
 only-next k (next.After key) e ne = absurd (ne (sym e))
 only-next k (next.Refused n) e ne = ap next.Refused e
 
+-- [N25, N26, F10]
 pub next-no : (b : Book) (slots : List Pair) (r : Asked) → NextAnswers b slots r
     → (askedNo (r .next) ≡ nextNo b (length slots)) × (r .book ≡ b) × (Refuses (nextNo b (length slots)) → r .next ≡ next.Refused (nextNo b (length slots)))
 next-no b slots r a =
@@ -195,6 +208,7 @@ next-no b slots r a =
 
 -- ---- take, 11, 12, 22, 13, 31, 14, 15, 16: refused, the book comes back as it went in, and every slot is as it stood
 
+-- [N3, N26, N27, N28, N29, N30, N31, N32, T11, J11]
 pub take-no : (b : Book) (slots : List Pair) (g : Page) (r : Taken) (slots′ : List Pair) → TakeAnswers b slots g r slots′
     → (r .number ≡ takeNo b slots g) × (Refuses (takeNo b slots g) → (r .book ≡ b) × (slots′ ≡ slots))
 take-no b slots g r slots′ a =
@@ -217,6 +231,7 @@ only-run : (P Q : List ℤ) (v len : ℕ) → Refuses (runNo P Q v len) → runA
 unfolding runAnswer
 only-run P Q v len ne = answer-refused _ runRefused _ _ refl ne
 
+-- [N3, L8, L9, L10]
 pub run-no : (P Q : List ℤ) (v : ℕ) (slots : List Pair) (r : Run) (slots′ : List Pair) → RunAnswers P Q v slots r slots′
     → (r .number ≡ runNo P Q v (length slots)) × (Refuses (runNo P Q v (length slots)) → (r ≡ runRefused (runNo P Q v (length slots))) × (slots′ ≡ slots))
 run-no P Q v slots r slots′ a = (
@@ -242,10 +257,11 @@ only-marked : (k : ℕ) (r : Marked) → numberOf r ≡ k → Refuses k → r �
 only-marked k (marking.Refused n) e ne = ap marking.Refused e
 only-marked k (marking.At m) e ne = absurd (ne (sym e))
 
+-- [N34, F10]
 pub mark-no : (ax ay bx by : ℤ) (r : Marked) → MarkAnswers ax ay bx by r
     → (numberOf r ≡ markNo ax ay bx by) × (Refuses (markNo ax ay bx by) → r ≡ marking.Refused (markNo ax ay bx by))
 mark-no ax ay bx by r a = (a .promised .number, λ ne. only-marked (markNo ax ay bx by) r (a .promised .number) ne)
 
--- "doubled, each is exactly the sum of the two coordinates. A zero sum gives positive zero": a marker that is answered is the middle
+-- "doubled, each is exactly the sum of the two coordinates. A zero sum gives positive zero": a marker that is answered is the middle [M2, M3]
 pub mark-middle : (ax ay bx by : ℤ) (m : Marker) → MarkAnswers ax ay bx by (marking.At m) → Middle ax ay bx by m
 mark-middle ax ay bx by m a = subst (λ (k : ℕ). MiddleAt k ax ay bx by (marking.At m)) (sym (a .promised .number)) (a .promised .marker)

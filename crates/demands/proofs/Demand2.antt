@@ -21,7 +21,7 @@
 --     runs-list          a pair is listed exactly if the run of one leaf has it, and then no other leaf's has it.  stored-once: no run has it twice
 --     own-exact          the self join of one sheet: two different records, lower id first, exactly if no other record blocks.  own-low: never the higher id first
 --     return-trip        pack, then open, gives the same points back
--- Assumes nothing.
+-- Assumes nothing. [O6]
 use mathlib.Core.Path.{_≡_, refl, sym, ap, ap₂, subst, _∙_}
 use mathlib.Core.Bool.{Bool, true, false, cond, _&&_}
 use mathlib.Core.Logic.{_↔_, ⊎-elim}
@@ -145,21 +145,22 @@ module _ (P Q : List ℤ) (p-opens : WellFormed P) (q-opens : WellFormed Q) wher
     unfolding filteredTo
     bits-are r a = ap (λ (x : Filtered). x .bits) (filter-is r a)
 
-    -- "For every position, a ring partner of q is kept."
+    -- "For every position, a ring partner of q is kept." [W8]
     pub kept-partner : (r : Filtered) → FilterAnswers P Q j r → (i : ℕ) → i < points P → ringPair (pointsOf P) (pointsOf Q) j i ≡ true → kept (r .bits) i ≡ true
     kept-partner r a i i-in e =
         ap (λ (x : List ℕ). kept x i) (bits-are r a) ∙ of-walk.kept-partner 16 P Q (facts P p-opens) (fits P p-opens) j i j-in i-in e
 
-    -- "with the number of bits set": the number of positions of P that are kept; "unused bits are 0".
+    -- "with the number of bits set": the number of positions of P that are kept; "unused bits are 0". [W6]
     pub kept-count : (r : Filtered) → FilterAnswers P Q j r → r .count ≡ cardIn (r .bits) (points P) 0
     unfolding filteredTo
     kept-count r a =
         subst (λ (x : Filtered). x .count ≡ cardIn (x .bits) (points P) 0) (sym (filter-is r a)) (of-walk.count-kept 16 P (spotOf Q j) (facts P p-opens) (fits P p-opens))
 
+    -- [W7]
     pub kept-unused : (r : Filtered) → FilterAnswers P Q j r → (i : ℕ) → points P ≤ i → at (r .bits) i ≡ 0
     kept-unused r a i h = ap (λ (x : List ℕ). at x i) (bits-are r a) ∙ of-walk.unused-zero 16 P (spotOf Q j) (facts P p-opens) (fits P p-opens) i h
 
-    -- "nodes opened never exceed m in one walk of one sheet": the filter walk's.
+    -- "nodes opened never exceed m in one walk of one sheet": the filter walk's. [W22]
     pub opened-at-most-m : (r : Filtered) → FilterAnswers P Q j r → r .opened ≤ nodes P
     unfolding filteredTo
     opened-at-most-m r a = subst (λ (x : Filtered). x .opened ≤ nodes P) (sym (filter-is r a)) (of-walk.filter-opened-at-most-m 16 P (spotOf Q j) (facts P p-opens))
@@ -176,16 +177,17 @@ module _ (P Q : List ℤ) (p-opens : WellFormed P) (q-opens : WellFormed Q) wher
       answer : (s : Answer) → RingAnswers P Q j i (Done s) → s ≡ pairWalk P Q j i
       answer s a = let z = ring-is (Done s) a in cc
 
-      -- "(q, p) is a ring pair when no other record of P or Q blocks it": the ring walk is clear exactly then.
+      -- "(q, p) is a ring pair when no other record of P or Q blocks it": the ring walk is clear exactly then. [W16]
       pub clear-iff : (r : Walked) → RingAnswers P Q j i r → walkedClear r ≡ ringPair (pointsOf P) (pointsOf Q) j i
       clear-iff r a = ap walkedClear (ring-is r a) ∙ of-walk.pair-clear P Q (facts P p-opens) (facts Q q-opens) j i j-in i-in
 
-      -- "blocked by a point (its set and position)": the record that it names blocks, and so stands at the place of neither end.
+      -- "blocked by a point (its set and position)": the record that it names blocks, and so stands at the place of neither end. [W16, E2]
       pub point-blocks : (s : Answer) (x : Blocker) → RingAnswers P Q j i (Done s) → s .hit ≡ PointHit x → BlocksPair P Q j i (x .set) (x .position)
       point-blocks s x a e = of-walk.pair-point P Q (facts P p-opens) (facts Q q-opens) j i x (ap (λ (z : Answer). z .hit) (sym (answer s a)) ∙ e)
 
       -- "or by a box side (its set and node number)"; "Where a box side blocks, the answer shall also name the side, the first that qualifies of left, bottom, right,
       -- top": of the node's box that it names, both corners of the side that it names lie strictly inside, those of no side before it do, and on it stands such a record.
+      -- [W14, E1]
       pub side-blocks : (s : Answer) (x : Edge) → RingAnswers P Q j i (Done s) → s .hit ≡ Side x → BlocksPairBySide P Q j i (x .set) (x .node) (x .side)
       side-blocks s x a e = of-walk.pair-side P Q (facts P p-opens) (facts Q q-opens) j i x (ap (λ (z : Answer). z .hit) (sym (answer s a)) ∙ e)
 
@@ -196,6 +198,7 @@ module _ (P Q : List ℤ) (p-opens : WellFormed P) (q-opens : WellFormed Q) wher
           ∙ ap₂ _&&_ (sym (ap (λ (x : List ℕ). kept x i) (bits-are f a))) (sym (ap walkedClear (ring-is r b)))
 
       -- "Q is walked first, then P if Q is clear; the counts add up": each of the two opens at most the nodes of its sheet, and the answer's count is at most the nodes of both.
+      -- [W22]
       pub ring-opened-at-most-m : (s : Answer) → RingAnswers P Q j i (Done s) → (overQ P Q j i .opened ≤ nodes Q) × (overP P Q j i .opened ≤ nodes P) × (s .opened ≤ nodes P + nodes Q)
       ring-opened-at-most-m s a =
           (of-walk.ring-opened-at-most-m 1 Q (facts Q q-opens) (spotOf Q j) (spotOf P i), of-walk.ring-opened-at-most-m 0 P (facts P p-opens) (spotOf Q j) (spotOf P i), subst (λ (x : Answer). x .opened ≤ nodes P + nodes Q) (sym (answer s a)) (of-walk.pair-opened P Q (facts P p-opens) (facts Q q-opens) j i))
@@ -258,12 +261,12 @@ module _ (P Q : List ℤ) (p-opens : WellFormed P) (q-opens : WellFormed Q) wher
 
         -- "The page holds both editions, the key, the first `size` ring pairs strictly after the key (fewer if fewer follow), their number and an end mark, set exactly
         -- when no ring pair follows the last one shown, or follows the key if none is shown." "Unused pairs are three zeros." "Pages and books now carry t, 0 for the full
-        -- list"; of a self join "with one edition in both fields and t 0".
+        -- list"; of a self join "with one edition in both fields and t 0". [P3, P4, T4, J4, J5, D2]
         pub page-pairs : (r .number ≡ 0) × (r .page ≡ pageOf (sourceOf P Q a) List-of key size)
         unfolding pageGiven
         page-pairs = (ap (λ (x : Paged). x .number) page-is, ap (λ (x : Paged). x .page) page-is)
 
-        -- "Each pair in pages [..] now has its squared diameter beside the ids": that of the places of the two records with these ids.
+        -- "Each pair in pages [..] now has its squared diameter beside the ids": that of the places of the two records with these ids. [Z1]
         pub pair-size : (v : Pair) → List·Memᴰ v (pagePairs (r .page))
             → (j i : ℕ) → j < points Q → i < points P → idAt (pointsOf Q) j ≡ v .q → idAt (pointsOf P) i ≡ v .p → v .size ≡ sizeOf (spotOf Q j) (spotOf P i)
         pair-size v m j i j-in i-in e f =
@@ -273,13 +276,13 @@ module _ (P Q : List ℤ) (p-opens : WellFormed P) (q-opens : WellFormed Q) wher
 
         -- "Beside the page stands its count of nodes opened": that of the walks as they are defined, the filter walks' kept sets on sixteen words. "With t above 0 a page's
         -- count takes in all kept partners of each chamber reached, the last one too": `walksFor` of join/specs/Threshold. Of a self join "the filter passes over q, and kept
-        -- partners of higher id get one ring walk": `walksBy` of join/specs/Sheets.
+        -- partners of higher id get one ring walk": `walksBy` of join/specs/Sheets. [P8, T7, J4, J9]
         pub page-opened : r .opened ≡ pageOpened (walksFor (walksBy a 16 P Q) (points P) (a .threshold)) key size (points P) (points Q)
         unfolding pageGiven
         page-opened = ap (λ (x : Paged). x .opened) page-is
 
     -- Following the pages from (0, 0), each next key the last pair shown, whatever the sizes from 1 to 16, gives the whole list, each pair once. `ask` is the page
-    -- request: for every key and size it gives an answer that the promise admits.
+    -- request: for every key and size it gives an answer that the promise admits. [P4, T4, J4, D2]
     pub pages-list : a .threshold ≤ lastThreshold → (ask : Key → ℕ → Paged) → ((key : Key) (size : ℕ) → TermsAnswers a P Q key size (ask key size))
         → (sizes : ℕ → ℕ) → ((k : ℕ) → sizeNo (sizes k) ≡ 0)
         → followed (length List-of) sizes (λ key size. ask key size .page) start ≡ List-of
@@ -287,19 +290,19 @@ module _ (P Q : List ℤ) (p-opens : WellFormed P) (q-opens : WellFormed Q) wher
         of-page.followed-list a P Q (facts P p-opens) (facts Q q-opens) ask
         (λ k n qi pi some few. page-is k n (ask k n) (x k n) (record { q-in = qi; p-in = pi; some = some; most = few; fair = most })) sizes s
 
-    -- "The list runs by q id, then p id": each pair stands strictly after the one before it,
+    -- "The list runs by q id, then p id": each pair stands strictly after the one before it, [R4, J2, D2]
     pub list-ascends : ascends start List-of ≡ true
     list-ascends = for-ascends a (pointsOf P) (pointsOf Q) rise-p rise-q
 
-    -- so "each once, by ids": no two pairs of it have the same ids.
+    -- so "each once, by ids": no two pairs of it have the same ids. [R5, J2, D2]
     pub list-once : (k h : ℕ) → k < h → h < length List-of → keyOf (getD List-of k none) ≡ keyOf (getD List-of h none) → ⊥
     list-once = for-once a (pointsOf P) (pointsOf Q) rise-p rise-q
 
-    -- It holds no pair but those that the rule of the terms makes of two records, each with the squared diameter of their places.
+    -- It holds no pair but those that the rule of the terms makes of two records, each with the squared diameter of their places. [R3, D2]
     pub list-only : (v : Pair) → List·Memᴰ v List-of → Placed (listedFor a (pointsOf P) (pointsOf Q)) (pairAt (pointsOf P) (pointsOf Q)) (length (pointsOf P)) (length (pointsOf Q)) v
     list-only = for-only a (pointsOf P) (pointsOf Q) rise-p rise-q
 
-  -- "0 for the full list"
+  -- "0 for the full list" [T5]
   pub full-list : listFor full (pointsOf P) (pointsOf Q) ≡ ringList (pointsOf P) (pointsOf Q)
   full-list = of-terms.full-list (pointsOf P) (pointsOf Q)
 
@@ -316,11 +319,11 @@ module _ (P Q : List ℤ) (p-opens : WellFormed P) (q-opens : WellFormed Q) wher
       ring-size (pointsOf P) (pointsOf Q) rise-p rise-q v m j i (omega (arith, length-points Q)) (omega (arith, length-points P)) e f
       ∙ ap₂ sizeOf (spot-of Q j j-in) (spot-of P i i-in)
 
-  -- A pair stands in the list of t exactly if it stands in the full list and its chamber has at least t pairs there.
+  -- A pair stands in the list of t exactly if it stands in the full list and its chamber has at least t pairs there. [T3]
   pub threshold-exact : (t : ℕ) (v : Pair) → List·Memᴰ v (listFor (withT t) (pointsOf P) (pointsOf Q)) ↔ (List·Memᴰ v (ringList (pointsOf P) (pointsOf Q)) × (t ≤ length (pairsWith (v .q))))
   threshold-exact t v = threshold-iff (pointsOf P) (pointsOf Q) rise-p rise-q t v
 
-  -- "list all such chambers by id with all their pairs": of a chamber that has at least t pairs the list of t has them all, of another none.
+  -- "list all such chambers by id with all their pairs": of a chamber that has at least t pairs the list of t has them all, of another none. [T3]
   pub threshold-whole : (t j : ℕ) → j < points Q
       → chamberPairs (idAt (pointsOf Q) j) (listFor (withT t) (pointsOf P) (pointsOf Q)) ≡ cond (leb t (length (pairsWith (idAt (pointsOf Q) j)))) (pairsWith (idAt (pointsOf Q) j)) []
   threshold-whole t j j-in = threshold-pairs (pointsOf P) (pointsOf Q) rise-p rise-q t j (omega (arith, length-points Q))
@@ -330,6 +333,7 @@ module _ (P Q : List ℤ) (p-opens : WellFormed P) (q-opens : WellFormed Q) wher
     partners-are : r ≡ partnersGiven P Q id t
     partners-are = a .promised ∙ of-partners.partners-served P Q id t sheets j (omega (arith, length-points Q)) named some most
 
+    -- [T1, T2]
     pub partners-exact : (r .number ≡ 0) × (r .count ≡ smaller t (length (pairsWith id))) × (r .enough ≡ eqb (r .count) t)
     unfolding partnersGiven partnersCount
     partners-exact = (
@@ -338,7 +342,7 @@ module _ (P Q : List ℤ) (p-opens : WellFormed P) (q-opens : WellFormed Q) wher
       subst (λ (x : Partnered). x .enough ≡ eqb (x .count) t) (sym partners-are) refl,
     )
 
-    -- so the yes says that the chamber has at least t pairs in the list
+    -- so the yes says that the chamber has at least t pairs in the list [T2]
     pub partners-yes : (r .enough ≡ true) ↔ (t ≤ length (pairsWith id))
     unfolding smaller
     partners-yes = (λ e. there (eqb-true (r .count) t (sym (partners-exact .2) ∙ e)), λ l. partners-exact .2 ∙ eq-eqb (r .count) t (partners-exact .1 ∙ back l))
@@ -357,7 +361,7 @@ module _ (P Q : List ℤ) (p-opens : WellFormed P) (q-opens : WellFormed Q) wher
 
   -- ---- the list
 
-  -- "The list holds a pump house and a chamber exactly if the ring rule makes them a pair":
+  -- "The list holds a pump house and a chamber exactly if the ring rule makes them a pair": [R3, D2]
   pub list-exact : (j i : ℕ) → j < points Q → i < points P
       → List·Memᴰ (pairAt (pointsOf P) (pointsOf Q) j i) (ringList (pointsOf P) (pointsOf Q)) ↔ (ringPair (pointsOf P) (pointsOf Q) j i ≡ true)
   list-exact j i j-in i-in =
@@ -365,7 +369,7 @@ module _ (P Q : List ℤ) (p-opens : WellFormed P) (q-opens : WellFormed Q) wher
 
   -- ---- nobody is left with an empty sheet
 
-  -- "every pump house and chamber at the least distance of all such couples is a ring pair", and so it is listed;
+  -- "every pump house and chamber at the least distance of all such couples is a ring pair", and so it is listed; [R6]
   pub nearest-listed : (j i : ℕ) → Nearest (pointsOf P) (pointsOf Q) j i
       → (ringPair (pointsOf P) (pointsOf Q) j i ≡ true) × List·Memᴰ (pairAt (pointsOf P) (pointsOf Q) j i) (ringList (pointsOf P) (pointsOf Q))
   nearest-listed j i n =
@@ -374,10 +378,11 @@ module _ (P Q : List ℤ) (p-opens : WellFormed P) (q-opens : WellFormed Q) wher
 
   -- "so the list is not empty", of two sheets that are not,
   module _ (some-p : 0 < points P) (some-q : 0 < points Q) where
+    -- [R7]
     pub never-empty : 0 < length (ringList (pointsOf P) (pointsOf Q))
     never-empty = of-nearest.never-empty (pointsOf P) (pointsOf Q) (omega (arith, length-points P)) (omega (arith, length-points Q))
 
-    -- and its first page shows a pair.
+    -- and its first page shows a pair. [R7]
     pub first-visit : (size : ℕ) (r : Paged) → InRange start size 0 → PageAnswers P Q (requestOf full start size) r → 0 < r .page .count
     unfolding pageOf shown
     first-visit size r h a =
@@ -415,7 +420,7 @@ module _ (P Q : List ℤ) (p-opens : WellFormed P) (q-opens : WellFormed Q) wher
     number-is : r .number ≡ runNo P Q v (length slots)
     number-is = ap (λ (x : Run). x .number) (a .0) ∙ of-runs.run-no P Q v (length slots)
 
-    -- "then 16 exactly when the pairs outnumber the slots"
+    -- "then 16 exactly when the pairs outnumber the slots" [L9]
     pub run-sixteen : (r .number ≡ 16) ↔ (length slots < length (leafList P Q v))
     run-sixteen = let t = of-run.run-sixteen P Q v (length slots) sheets leaf-there in (λ x. t .0 (sym number-is ∙ x), λ x. number-is ∙ t .1 x)
 
@@ -435,7 +440,7 @@ module _ (P Q : List ℤ) (p-opens : WellFormed P) (q-opens : WellFormed Q) wher
       stored : take (r .count) slots′ ≡ leafList P Q v
       stored = ap₂ take count-is (a .1) ∙ of-run.run-first P Q v slots served
 
-      -- "give the ring pairs of its points by place, then p id, in a lent slice of pairs; the rest of the slice isn't touched"
+      -- "give the ring pairs of its points by place, then p id, in a lent slice of pairs; the rest of the slice isn't touched" [L1, L2]
       pub run-pairs : (r .number ≡ 0) × (r .count ≡ length (leafList P Q v)) × (take (r .count) slots′ ≡ leafList P Q v) × (drop (r .count) slots′ ≡ drop (r .count) slots)
       run-pairs = (
         number-is ∙ served,
@@ -444,7 +449,7 @@ module _ (P Q : List ℤ) (p-opens : WellFormed P) (q-opens : WellFormed Q) wher
         ap₂ drop count-is (a .1) ∙ of-run.run-rest P Q v slots served ∙ ap (λ (k : ℕ). drop k slots) (sym count-is),
       )
 
-      -- a chamber of the leaf and a pump house are stored exactly if the ring rule makes them a pair, whatever the walk has skipped ..
+      -- a chamber of the leaf and a pump house are stored exactly if the ring rule makes them a pair, whatever the walk has skipped .. [L1]
       pub run-exact : (k i : ℕ) → k < countOf Q (points Q) v → i < points P
           → List·Memᴰ (pairAt (pointsOf P) (pointsOf Q) (chamberAt Q v k) i) (take (r .count) slots′) ↔ (ringPair (pointsOf P) (pointsOf Q) (chamberAt Q v k) i ≡ true)
       run-exact k i k-in i-in = (
@@ -456,23 +461,23 @@ module _ (P Q : List ℤ) (p-opens : WellFormed P) (q-opens : WellFormed Q) wher
             (of-leaf.run-holds P Q (facts P p-opens) (facts Q q-opens) v (o .here) (o .level) k i k-in i-in e),
       )
 
-      -- .. nothing else is ..
+      -- .. nothing else is .. [L1]
       pub run-only : (x : Pair) → List·Memᴰ x (take (r .count) slots′)
           → Placed (λ k i. ringPair (pointsOf P) (pointsOf Q) (chamberAt Q v k) i) (λ k i. pairAt (pointsOf P) (pointsOf Q) (chamberAt Q v k) i) (points P) (countOf Q (points Q) v) x
       run-only x m = of-leaf.run-placed P Q (facts P p-opens) (facts Q q-opens) v (o .here) (o .level) x (subst (List·Memᴰ x) stored m)
 
-      -- .. and nothing twice
+      -- .. and nothing twice [L6]
       pub stored-once : (b c : ℕ) → b < c → c < r .count → getD (take (r .count) slots′) b none ≡ getD (take (r .count) slots′) c none → ⊥
       stored-once b c h k e =
           of-leaf.run-once P Q (facts P p-opens) (facts Q q-opens) v (o .here) (o .level) b c h (omega (arith, k, count-is))
           (subst (λ (l : List Pair). getD l b none ≡ getD l c none) stored e)
 
-      -- "Each pair in [..] leaf runs now has its squared diameter beside the ids": that of the places of the two records with these ids
+      -- "Each pair in [..] leaf runs now has its squared diameter beside the ids": that of the places of the two records with these ids [Z1]
       pub run-size : (x : Pair) → List·Memᴰ x (take (r .count) slots′)
           → (j i : ℕ) → j < points Q → i < points P → idAt (pointsOf Q) j ≡ x .q → idAt (pointsOf P) i ≡ x .p → x .size ≡ sizeOf (spotOf Q j) (spotOf P i)
       run-size x m = listed-size x (of-leaf.run-listed P Q (facts P p-opens) (facts Q q-opens) v (o .here) (o .level) x (subst (List·Memᴰ x) stored m))
 
-      -- "by place, then p id": of two stored pairs, the first is of a chamber at an earlier place of the leaf, or of the same chamber and has the lower p id
+      -- "by place, then p id": of two stored pairs, the first is of a chamber at an earlier place of the leaf, or of the same chamber and has the lower p id [L1]
       pub run-order : (b c : ℕ) → b < c → c < r .count → InTurn (λ k. idAt (pointsOf Q) (chamberAt Q v k)) (countOf Q (points Q) v) (getD (take (r .count) slots′) b none) (getD (take (r .count) slots′) c none)
       unfolding leafList
       run-order b c h k =
@@ -482,12 +487,12 @@ module _ (P Q : List ℤ) (p-opens : WellFormed P) (q-opens : WellFormed Q) wher
           (subst (Rising (idAt (pointsOf P))) (length-points P) (of-join.points-rise (facts P p-opens)))
           b c h (omega (arith, k, count-is)))
 
-      -- "Its count is that walk's opened nodes plus those of each kept partner's ring walk", the kept sets on sixteen words each
+      -- "Its count is that walk's opened nodes plus those of each kept partner's ring walk", the kept sets on sixteen words each [L7]
       pub run-opened : r .opened ≡ leafOpened 16 P Q v
       unfolding runGiven
       run-opened = ap (λ (x : Run). x .opened) (a .0 ∙ given)
 
-      -- "nodes opened never exceed m in one walk of one sheet": nor do those of the "one walk of P [that] serves all points of the leaf", which the answer counts in
+      -- "nodes opened never exceed m in one walk of one sheet": nor do those of the "one walk of P [that] serves all points of the leaf", which the answer counts in [L7]
       pub run-at-most-m : (leafKept (chamberSpot Q v) (countOf Q (points Q) v) 16 P .opened ≤ nodes P) × (leafKept (chamberSpot Q v) (countOf Q (points Q) v) 16 P .opened ≤ r .opened)
       unfolding leafOpened
       run-at-most-m = (leaf-opened (chamberSpot Q v) (countOf Q (points Q) v) 16 P (facts P p-opens), omega (arith, run-opened))
@@ -500,7 +505,7 @@ module _ (P Q : List ℤ) (p-opens : WellFormed P) (q-opens : WellFormed Q) wher
     pub only : (u : ℕ) → LeafOf u → List·Memᴰ x (runs u) → u ≡ leaf
 
   -- "Over all leaves the pairs are 01's list, each once." For each leaf v of Q, `lent v` are the slots lent, one at least for each pair, `run v` is what the call answered, and
-  -- `after v` are the slots after it.
+  -- `after v` are the slots after it. [L6]
   pub runs-list : (lent : ℕ → List Pair) (run : ℕ → Run) (after : ℕ → List Pair)
       → ((v : ℕ) → LeafOf v → RunAnswers P Q v (lent v) (run v) (after v)) → ((v : ℕ) → LeafOf v → length (leafList P Q v) ≤ length (lent v))
       → (x : Pair) → List·Memᴰ x (ringList (pointsOf P) (pointsOf Q)) ↔ InOneRun (λ v. take (run v .count) (after v)) x
@@ -521,9 +526,11 @@ module _ (P Q : List ℤ) (p-opens : WellFormed P) (q-opens : WellFormed Q) wher
 
 -- "It depends on the points alone": whatever the editions, the orders and the trees of two pairs of sheets; of any terms.
 module _ (P P′ Q Q′ : List ℤ) (p-opens : WellFormed P) (p-opens′ : WellFormed P′) (q-opens : WellFormed Q) (q-opens′ : WellFormed Q′) (same-p : pointsOf P ≡ pointsOf P′) (same-q : pointsOf Q ≡ pointsOf Q′) (a : Terms) where
+  -- [D3]
   pub same-list : listFor a (pointsOf P) (pointsOf Q) ≡ listFor a (pointsOf P′) (pointsOf Q′)
   same-list = of-join.same-list P P′ Q Q′ same-p same-q a
 
+  -- [P12, J6, D3]
   pub list-by-points : (key : Key) (size : ℕ) (r r′ : Paged) → InRange key size (a .threshold) → TermsAnswers a P Q key size r → TermsAnswers a P′ Q′ key size r′
       → (r .page .pairs ≡ r′ .page .pairs) × (r .page .count ≡ r′ .page .count) × (r .page .end ≡ r′ .page .end)
   list-by-points key size r r′ h x y =
@@ -534,17 +541,17 @@ module _ (P P′ Q Q′ : List ℤ) (p-opens : WellFormed P) (p-opens′ : WellF
 -- "pairs of two different records of one sheet, lower id first, in order of lower then higher id, blocked by the other records of that sheet under request 3's rule". Its
 -- pages, their counts, and following them: `page-pairs`, `page-opened`, `pages-list` of the terms `alone`, of the sheet in both places.
 module _ (S : List ℤ) (opens : WellFormed S) where
-  -- Two records, of which the first has the lower id, are listed exactly if no other record of the sheet blocks their pair.
+  -- Two records, of which the first has the lower id, are listed exactly if no other record of the sheet blocks their pair. [J1, J3, J6]
   pub own-exact : (j i : ℕ) → j < length (pointsOf S) → i < length (pointsOf S) → idAt (pointsOf S) j < idAt (pointsOf S) i
       → List·Memᴰ (pairAt (pointsOf S) (pointsOf S) j i) (listFor alone (pointsOf S) (pointsOf S))
       ↔ ((k : ℕ) → k < length (pointsOf S) → (k ≡ j → ⊥) → (k ≡ i → ⊥) → blocks (spotAt (pointsOf S) j) (spotAt (pointsOf S) i) (spotAt (pointsOf S) k) ≡ false)
   own-exact = of-terms.self-exact (pointsOf S) (of-join.points-rise (facts S opens))
 
-  -- A listed pair has the lower id first: a record is never listed with itself, nor two records both ways.
+  -- A listed pair has the lower id first: a record is never listed with itself, nor two records both ways. [J1, J6]
   pub own-low : (v : Pair) → List·Memᴰ v (listFor alone (pointsOf S) (pointsOf S)) → v .q < v .p
   own-low = of-terms.self-low (pointsOf S) (of-join.points-rise (facts S opens))
 
-  -- The self join's page request answers as that of its terms.
+  -- The self join's page request answers as that of its terms. [J4, J6]
   pub own-answers : (key : Key) (size : ℕ) (r : Paged) → OwnAnswers S key size r → TermsAnswers alone S S key size r
   own-answers key size r x = (refl, refl, x)
 
@@ -554,11 +561,11 @@ module _ (n : ℕ) (p order : List ℤ) (ed : ℕ) (out : List ℤ) (out′ : Li
   returned : Returned n p ed out′
   returned = of-pack.return-trip n p order ed out 0 out′ (packs .promised .0) (packs .promised .1) refl
 
-  -- "packing one from a point list", then "opening": what pack leaves where it answers 0 opens, its points are the given ones, in order, and its edition is the given one.
+  -- "packing one from a point list", then "opening": what pack leaves where it answers 0 opens, its points are the given ones, in order, and its edition is the given one. [S25]
   pub return-trip : (k : ℕ) → OpenAnswers out′ k → (k ≡ 0) × (pointsOf out′ ≡ pointsIn n p) × (points out′ ≡ n) × (edition out′ ≡ pos ed)
   return-trip k a = (a .promised ∙ returned .opens, returned .same-points, returned .same-number, returned .same-edition)
 
-  -- So the point reader gives back each record that was handed to pack.
+  -- So the point reader gives back each record that was handed to pack. [S25]
   pub return-point : (i : ℕ) → i < n → (r : Pointed) → PointAnswers out′ i r → r ≡ At (assetOf p i)
   unfolding pointNo pointsIn assetOf spotOf
   return-point i h r a =

@@ -14,7 +14,7 @@
 --     closes          so a book that goes on asking is closed after at most one request more than pairs are missing
 --     next-is-last    its next key is its last pair
 --     can-ask, can-close    where there is a sheet of each of its editions, a book can ask, and so be closed
--- Assumes nothing.
+-- Assumes nothing. [O6]
 use mathlib.Core.Path.{_≡_, refl, sym, ap, ap₂, subst, _∙_}
 use mathlib.Core.Bool.{Bool, true, false, cond}
 use mathlib.Core.Logic.{_⊎_, ⊎-elim}
@@ -116,7 +116,7 @@ module _ (w : Editions) where
           let z = demand2.answered P Q p-opens q-opens a key size r answers fine in
           (z .0, z .1, ap (λ (x : Paged). x .page) (z .2) ∙ ap₂ (λ (x y : List Point). pageOf (sourceOf P Q a) (listFor a x y) key size) (sym p-points) (sym q-points))
 
-  -- "not altered or invented": a page that was answered is honest
+  -- "not altered or invented": a page that was answered is honest [J7, D9]
   pub honest : (g : Page) → Answered w g → Honest worldOf g
   honest g x =
       let z = page-of (x .terms) (x .P) (x .Q) (x .sheets) (x .key) (x .size) (x .r) (x .answers) (x .given) in
@@ -131,7 +131,7 @@ module _ (w : Editions) where
       (subst (λ (x : List Pair). Reached worldOf (taken b slots g .book) x) (sym (t .1)) (of-world.took g (reached h) (honest g a)))
   reached (lent other h e f) = of-world.lent other (reached h) e f
 
-  -- "Then a book begun empty always holds exactly the first so many pairs of its list"
+  -- "Then a book begun empty always holds exactly the first so many pairs of its list" [K9, Z2, T6, J6, D4, D9]
   pub held-prefix : {b : Book} {s : List Pair} → History w b s
       → (b .held ≤ length s) × (b .held ≤ length (bookList w b)) × (take (b .held) s ≡ take (b .held) (bookList w b))
   held-prefix h = of-story.held-prefix worldOf (reached h)
@@ -158,18 +158,19 @@ module _ (w : Editions) where
       subst (List·Memᴰ v) (take-append-drop (b .held) l) (Memᴰ·append-left (drop (b .held) l) (subst (List·Memᴰ v) (held-prefix h .2) m))
 
   -- "What a book holds is still the first so many of the list, sizes included": of each pair that it holds, the size is the squared diameter of the places of its two records
+  -- [Z1, Z2]
   pub held-size : {b : Book} {s : List Pair} → History w b s → (v : Pair) → List·Memᴰ v (take (b .held) s)
       → (j i : ℕ) → j < length (chambersOf w (b .source)) → i < length (pumpsOf w (b .source))
       → idAt (chambersOf w (b .source)) j ≡ v .q → idAt (pumpsOf w (b .source)) i ≡ v .p
       → v .size ≡ sizeOf (spotAt (chambersOf w (b .source)) j) (spotAt (pumpsOf w (b .source)) i)
   held-size {b} h v m = for-size (b .source .terms) _ _ (pumps-rise (b .source)) (chambers-rise (b .source)) v (in-list h v m)
 
-  -- "calls itself closed only when it holds all"
+  -- "calls itself closed only when it holds all" [K9, T6, J6, D5]
   pub closed-all : {b : Book} {s : List Pair} → History w b s → b .closed ≡ true
       → (b .held ≡ length (bookList w b)) × (take (b .held) s ≡ bookList w b)
   closed-all h e = of-story.closed-all worldOf (reached h) e
 
-  -- "Its next key is its last pair."
+  -- "Its next key is its last pair." [K4]
   pub next-is-last : {b : Book} {s : List Pair} → History w b s → (r : Asked) → NextAnswers b s r → r .next ≡ next.After (lastOr start (take (b .held) s))
   next-is-last {b} {s} h r a = ap (λ (x : Asked). x .next) a ∙ of-slice.next-is-last b s (held-prefix h .0)
 
@@ -221,6 +222,7 @@ module _ (w : Editions) where
         ∙ (unfold pageOf in length-padded (shown (bookList w b) (lastKey (b .held) s) (o .size)) (omega (arith, o .most, shown-count (bookList w b) (lastKey (b .held) s) (o .size))))
 
     -- "and while it is open with room for all, each page that answers its own next request adds a pair or closes it": the page request serves it, and the book takes it.
+    -- [K9, T6, J6, D6]
     pub progress : b .closed ≡ false → length (bookList w b) ≤ length s → (r : Taken) (s′ : List Pair) → TakeAnswers b s g r s′
         → (o .r .number ≡ 0) × (r .number ≡ 0) × ((b .held < r .book .held) ⊎ (r .book .closed ≡ true))
     progress still room r s′ t =
@@ -234,7 +236,7 @@ module _ (w : Editions) where
   stays-closed (asks {b = b} {slots = s} g r s′ o t more) e =
       stays-closed more (ap (λ (x : Taken). x .book .closed) (t .0) ∙ ap (λ (x : Book). x .closed) (of-take.refused-book b s g (of-take.closed-no b s g e)) ∙ e)
 
-  -- So a book with room for its list that goes on asking is closed after at most one request more than pairs are missing.
+  -- So a book with room for its list that goes on asking is closed after at most one request more than pairs are missing. [T6, J6, D6]
   pub closes : {k : ℕ} {b b′ : Book} {s s′ : List Pair} → History w b s → length (bookList w b) ≤ length s → length (bookList w b) < b .held + k → Asking w k b s b′ s′ → b′ .closed ≡ true
   closes h room n (stops b s) = absurd (omega (arith, held-prefix h .1))
   closes h room n (asks {b = b} {slots = s} g r s′ o t more) =
@@ -302,6 +304,7 @@ module _ (w : Editions) where
   can-ask k {b} h P Q sheets alike e size some most =
       ask-on k h size some most (b .source) refl (serves (b .source) size P Q sheets (λ o. (alike o, of-story.begun-fair worldOf (reached h) .no-t o)) e)
 
+  -- [J6, D6]
   pub can-close : {b : Book} {s : List Pair} → History w b s → length (bookList w b) ≤ length s → (P Q : List ℤ) → Sheets w (b .source .terms) P Q → (b .source .terms .own ≡ true → P ≡ Q) → sourceOf P Q (b .source .terms) ≡ b .source
       → (b′ : Book) × (s′ : List Pair) × Asking w (suc (length (bookList w b))) b s b′ s′ × (b′ .closed ≡ true)
   can-close {b} h room P Q sheets alike e =
@@ -309,6 +312,7 @@ module _ (w : Editions) where
       (m .0, m .1, m .2, closes h room (omega arith) (m .2))
 
 -- "Pages and books now say their kind, so that no self join's page enters a two-sheet book": where the kinds differ, an open book that its slots can hold refuses a page by 22.
+-- [J10, J11]
 pub own-kind : (b : Book) (s : List Pair) (g : Page) → b .held ≤ length s → b .closed ≡ false → sameKind (b .source) (g .source) ≡ false → (r : Taken) (s′ : List Pair) → TakeAnswers b s g r s′ → (r .number ≡ 22) × (r .book ≡ b) × (s′ ≡ s)
 own-kind b s g room still other r s′ t =
     let no : takeNo b s g ≡ 22 = of-take.kind-no b s g room still other in

@@ -43,11 +43,13 @@ use Rattle.demands.proofs.Demand2.{WellFormed, sheets, fits, clear-iff,
 
 -- the order in which the pump houses stand for a place: by squared distance to it, on a tie by position
 module _ (P : List ℤ) (opens : WellFormed P) (q : Spot) where
+  -- [G1]
   pub nearest-order : (a b : ℕ) → a ≤ b → b < points P → NotAfter P q (getD (nearOrder P q) a 0) (getD (nearOrder P q) b 0)
   nearest-order a b h g =
       let o = open-facts form1 form1-fair P opens in
       of-near.near-ascends P q o a b h (omega (arith, of-near.near-all P q o))
 
+  -- [G3]
   pub order-each : (i : ℕ) → i < points P → times i (nearOrder P q) ≡ 1
   order-each = of-near.near-once P q (open-facts form1 form1-fair P opens)
 
@@ -68,6 +70,7 @@ module _ (P Q : List ℤ) (p-opens : WellFormed P) (q-opens : WellFormed Q) (id 
         ∙ of-nearest.nearest-given P Q id size (length ws) (of-nearest.nearest-served P Q id (length ws) (sheets P Q p-opens q-opens) j j-in named enough size some most)
         ∙ ap (λ (q : Spot). nearestAt P q size) at
 
+    -- [G3, G7, G8]
     pub nearest-given : (r .number ≡ 0) × (r .count ≡ min size (points P)) × (drop (r .count) (r .points) ≡ replicate (16 - r .count) noPoint) × (t ≡ wiped (points P + nodes P) ws)
     unfolding nearestAt
     nearest-given = (
@@ -77,6 +80,7 @@ module _ (P Q : List ℤ) (p-opens : WellFormed P) (q-opens : WellFormed Q) (id 
       a .promised .1 ∙ of-nearest.waited-given _ P ws (of-nearest.nearest-served P Q id (length ws) (sheets P Q p-opens q-opens) j j-in named enough size some most),
     )
 
+    -- [G3]
     pub nearest-each : (b : ℕ) → b < r .count → getD (r .points) b noPoint ≡ nearAt P (spotOf Q j) (getD (nearOrder P (spotOf Q j)) b 0)
     nearest-each b = subst (λ (x : Found). b < x .count → getD (x .points) b noPoint ≡ nearAt P (spotOf Q j) (getD (nearOrder P (spotOf Q j)) b 0)) (sym is) (of-nearest.nearest-at P (spotOf Q j) size b)
 
@@ -87,6 +91,7 @@ module _ (P Q : List ℤ) (p-opens : WellFormed P) (q-opens : WellFormed Q) (id 
         ∙ of-nearest.near-filter-given P Q id (length ws) (of-nearest.near-filter-served P Q id (length ws) (sheets P Q p-opens q-opens) j j-in named enough)
         ∙ ap (λ (q : Spot). filteredTo (nearKept 16 P q)) at
 
+    -- [G7, G8]
     pub near-filter-given : (r .number ≡ 0) × (t ≡ wiped (points P + nodes P) ws)
     unfolding filteredTo
     near-filter-given = (
@@ -94,10 +99,12 @@ module _ (P Q : List ℤ) (p-opens : WellFormed P) (q-opens : WellFormed Q) (id 
       a .promised .1 ∙ of-nearest.waited-given _ P ws (of-nearest.near-filter-served P Q id (length ws) (sheets P Q p-opens q-opens) j j-in named enough),
     )
 
+    -- [G5]
     pub near-filter-pairs : (i : ℕ) → i < points P → ringPair (pointsOf P) (pointsOf Q) j i ≡ (kept (r .bits) i && clear (pairWalk P Q j i .hit))
     near-filter-pairs i i-in =
         of-nearest.near-pairs P Q p-facts q-facts (fits P p-opens) j i j-in i-in ∙ ap (λ (x : Filtered). kept (x .bits) i && clear (pairWalk P Q j i .hit)) (sym kept-is)
 
+    -- [G4]
     pub near-opened : r .opened ≤ nodes P
     unfolding filteredTo
     near-opened = subst (λ (x : Filtered). x .opened ≤ nodes P) (sym kept-is) (of-near.near-opened-at-most-m 16 P (spotOf Q j) p-facts (fits P p-opens))

@@ -2,7 +2,7 @@
 -- Each theorem starts from two answers that the call's promise admits for one input, and ends with their being one. (The calls over C: OverC.)
 -- One exception, decision 32: of a view that `open` makes it says all that there is to see, the number, the words covered and where they stand, the counts; the name
 -- that the logic gives to the borrow itself is not settled.
--- Assumes nothing.
+-- Assumes nothing. [D7, D8]
 use mathlib.Core.Path.{_≡_, refl}
 use mathlib.Core.List.{List}
 use Prim.Native.Nat.{ℕ}
@@ -91,11 +91,13 @@ pack-once n points order ed out r r′ w w′ a b =
 
 -- ---- marker
 
+-- [M2]
 pub mark-once : (ax ay bx by : ℤ) (r r′ : Marked) → MarkAnswers ax ay bx by r → MarkAnswers ax ay bx by r′ → r ≡ r′
 mark-once ax ay bx by r r′ a b = of-marker.mark-once ax ay bx by r r′ (a .promised) (b .promised)
 
 -- ---- book: one answer with the book handed back in it, and one final state of the slots
 
+-- [K8]
 pub begin-once : (s : Source) (r r′ : Begun) → BeginAnswers s r → BeginAnswers s r′ → r ≡ r′
 begin-once s r r′ a b = of-book.begin-once s r r′ (a .promised) (b .promised)
 

@@ -1,6 +1,6 @@
 -- The calls over C. What crosses is the answer of the call that it stands for, as a struct of numbers, so every theorem of Demand1, Demand2 and Demand3 speaks of it too: `.._over` below says of
 -- which answer. Of each: every input is taken, the number is the defined one, and one input has one answer and one final state of what was lent.
--- Assumes nothing.
+-- Assumes nothing. [C1, D1, D7, D8]
 use mathlib.Core.Path.{_≡_, refl, sym, ap, _∙_}
 use mathlib.Core.List.{List}
 use Prim.Native.Nat.{ℕ}
@@ -214,18 +214,23 @@ mark-number : (r : Marked) → markOver r .number ≡ numberOf r
 mark-number (marking.At m) = refl
 mark-number (marking.Refused k) = refl
 
+-- [C2]
 pub point-c-no : (w : List ℤ) (i : ℕ) (c : PointAnswer) → PointC w i c → c .number ≡ pointNo w i
 point-c-no w i c a = ap (λ (x : PointAnswer). x .number) (a .promised) ∙ point-number (pointed w i) ∙ of-ring.point-no w i
 
+-- [C2]
 pub walk-c-no : (P Q : List ℤ) (j i : ℕ) (c : WalkAnswer) → WalkC P Q j i c → c .number ≡ ringNo P Q j i
 walk-c-no P Q j i c a = ap (λ (x : WalkAnswer). x .number) (a .promised) ∙ walk-number (walked P Q j i) ∙ of-ring.ring-no P Q j i
 
+-- [C2]
 pub begin-c-no : (s : Source) (c : BookAnswer) → BeginC s c → c .number ≡ beginNo s
 begin-c-no s c a = ap (λ (x : BookAnswer). x .number) (a .promised) ∙ book-number (begunFor s) ∙ of-book.begin-no s
 
+-- [C2]
 pub next-c-no : (b : Book) (slots : List Pair) (c : KeyAnswer) → NextC b slots c → c .number ≡ nextNo b (length slots)
 next-c-no b slots c a = ap (λ (x : KeyAnswer). x .number) a ∙ next-number (asked b slots .next) (asked b slots .book) ∙ of-book.next-no b slots
 
+-- [C2]
 pub mark-c-no : (ax ay bx by : ℤ) (c : MarkAnswer) → MarkC ax ay bx by c → c .number ≡ markNo ax ay bx by
 mark-c-no ax ay bx by c a = ap (λ (x : MarkAnswer). x .number) (a .promised) ∙ mark-number (markedAt ax ay bx by) ∙ marked-marks ax ay bx by .number
 

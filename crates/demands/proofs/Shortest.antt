@@ -55,7 +55,7 @@ module _ (P Q : List ℤ) (p-opens : WellFormed P) (q-opens : WellFormed Q) (k :
   unfolding padded
   at-is b h = ap (λ (t : List Pair). getD t b none) pairs-are ∙ List·getD-append (shortestOf k (pairsOf P Q)) _ none b (omega (arith, count-is))
 
-  -- "k from 1 to 16, fewer if the list is shorter"; "Unused pairs are three zeros"
+  -- "k from 1 to 16, fewer if the list is shorter"; "Unused pairs are three zeros" [H3, H4]
   pub shortest-given : (r .number ≡ 0) × (r .count ≡ min k (length (pairsOf P Q))) × (drop (r .count) (r .pairs) ≡ replicate (16 - r .count) none)
   unfolding shortGiven padded
   shortest-given = (
@@ -64,20 +64,21 @@ module _ (P Q : List ℤ) (p-opens : WellFormed P) (q-opens : WellFormed Q) (k :
     (λ t. drop (count-is t) (pairs-are t)) ∙ drop-append-seam (shortestOf k (pairsOf P Q)) _ ∙ ap (λ (n : ℕ). replicate (16 - n) none) (sym count-is),
   )
 
-  -- "the k pairs": of the list
+  -- "the k pairs": of the list [H1]
   pub shortest-listed : (v : Pair) → List·Memᴰ v given → List·Memᴰ v (pairsOf P Q)
   shortest-listed v m = of-shortest.shortest-only k (pairsOf P Q) v (subst (List·Memᴰ v) given-are m)
 
-  -- "in order", "ties by q id and then p id"
+  -- "in order", "ties by q id and then p id" [H1, H2]
   pub shortest-order : (b c : ℕ) → b < c → c < r .count → Before (getD (r .pairs) b none) (getD (r .pairs) c none)
   shortest-order b c h g =
       let asc = pairs-ascend (open-facts form1 form1-fair P p-opens) (open-facts form1 form1-fair Q q-opens) in
       rw (at-is b (omega arith), at-is c g) (of-shortest.shorter-before _ _ (of-shortest.shortest-rises k (pairsOf P Q) start asc b c h (omega (arith, count-is))))
 
+  -- [H1]
   pub given-once : (b c : ℕ) → b < c → c < r .count → getD (r .pairs) b none ≡ getD (r .pairs) c none → ⊥
   given-once b c h g e = of-shortest.not-before (getD (r .pairs) c none) (subst (λ (v : Pair). Before v (getD (r .pairs) c none)) e (shortest-order b c h g))
 
-  -- "with the smallest squared size": what is not given comes after all that is
+  -- "with the smallest squared size": what is not given comes after all that is [H1]
   pub shortest-first : (v w : Pair) → List·Memᴰ v (pairsOf P Q) → (List·Memᴰ v given → ⊥) → List·Memᴰ w given → Before w v
   shortest-first v w m out n =
       of-shortest.shorter-before w v (of-shortest.shortest-first k (pairsOf P Q) v w m (λ x. out (subst (List·Memᴰ v) (sym given-are) x)) (subst (List·Memᴰ w) given-are n))

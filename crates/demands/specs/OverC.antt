@@ -38,13 +38,13 @@ use Rattle.ffi.proofs.ring_book_begin.Reads as begin-c
 use Rattle.ffi.proofs.ring_marker.Reads as mark-c
 use Rattle.demands.specs.Promises.{Place, slice}
 
--- `ring_open(w)` answers h
+-- `ring_open(w)` answers h [C1, D8]
 pub record OpenC (w : List ℤ) (h : Head) : Type 0 where
   pub κs : Lfts 1
   pub w-at : Place
   pub promised : open-c.Post κs (slice w-at w, tt) h (slice w-at w, tt)
 
--- `ring_pack(n, points, order, edition, out)` answers r, and the words of `out` are `out′` at its exit
+-- `ring_pack(n, points, order, edition, out)` answers r, and the words of `out` are `out′` at its exit [C1, D8]
 pub record PackC (n : ℕ) (points order : List ℤ) (edition : ℕ) (out : List ℤ) (r : ℕ) (out′ : List ℤ) : Type 0 where
   pub κs : Lfts 3
   pub p-at : Place
@@ -55,54 +55,54 @@ pub record PackC (n : ℕ) (points order : List ℤ) (edition : ℕ) (out : List
       r
       (n, (slice p-at points, (slice o-at order, (edition, (slice out-at out′, tt)))))
 
--- `ring_point(w, position)` answers r
+-- `ring_point(w, position)` answers r [C1, D8]
 pub record PointC (w : List ℤ) (position : ℕ) (r : PointAnswer) : Type 0 where
   pub κs : Lfts 1
   pub w-at : Place
   pub promised : point-c.Post κs (slice w-at w, (position, tt)) r (slice w-at w, (position, tt))
 
--- `ring_filter_walk(P, Q, j)` answers r
+-- `ring_filter_walk(P, Q, j)` answers r [C1, D8]
 pub record FilterC (P Q : List ℤ) (j : ℕ) (r : Filtered) : Type 0 where
   pub κs : Lfts 2
   pub p-at : Place
   pub q-at : Place
   pub promised : filter-c.Post κs (slice p-at P, (slice q-at Q, (j, tt))) r (slice p-at P, (slice q-at Q, (j, tt)))
 
--- `ring_pair_walk(P, Q, j, i)` answers r
+-- `ring_pair_walk(P, Q, j, i)` answers r [C1, D8]
 pub record WalkC (P Q : List ℤ) (j i : ℕ) (r : WalkAnswer) : Type 0 where
   pub κs : Lfts 2
   pub p-at : Place
   pub q-at : Place
   pub promised : walk-c.Post κs (slice p-at P, (slice q-at Q, (j, (i, tt)))) r (slice p-at P, (slice q-at Q, (j, (i, tt))))
 
--- `ring_page(P, Q, ask)` answers r
+-- `ring_page(P, Q, ask)` answers r [C1, D8]
 pub record PageC (P Q : List ℤ) (ask : Request) (r : Paged) : Type 0 where
   pub κs : Lfts 2
   pub p-at : Place
   pub q-at : Place
   pub promised : page-c.Post κs (slice p-at P, (slice q-at Q, (ask, tt))) r (slice p-at P, (slice q-at Q, (ask, tt)))
 
--- `ring_own_page(S, key, size)` answers r
+-- `ring_own_page(S, key, size)` answers r [C1, D8]
 pub record OwnC (S : List ℤ) (key : Key) (size : ℕ) (r : Paged) : Type 0 where
   pub κs : Lfts 1
   pub w-at : Place
   pub promised : own-c.Post κs (slice w-at S, (key, (size, tt))) r (slice w-at S, (key, (size, tt)))
 
--- `ring_partners(P, Q, id, t)` answers r
+-- `ring_partners(P, Q, id, t)` answers r [C1, D8]
 pub record PartnersC (P Q : List ℤ) (id t : ℕ) (r : Partnered) : Type 0 where
   pub κs : Lfts 2
   pub p-at : Place
   pub q-at : Place
   pub promised : partners-c.Post κs (slice p-at P, (slice q-at Q, (id, (t, tt)))) r (slice p-at P, (slice q-at Q, (id, (t, tt))))
 
--- `ring_shortest(P, Q, k)` answers r
+-- `ring_shortest(P, Q, k)` answers r [C1, D8]
 pub record ShortC (P Q : List ℤ) (k : ℕ) (r : Shortlist) : Type 0 where
   pub κs : Lfts 2
   pub p-at : Place
   pub q-at : Place
   pub promised : shortest-c.Post κs (slice p-at P, (slice q-at Q, (k, tt))) r (slice p-at P, (slice q-at Q, (k, tt)))
 
--- `ring_nearest(P, Q, id, size, waiting)` answers r, and the lent numbers are `waiting′` at its exit
+-- `ring_nearest(P, Q, id, size, waiting)` answers r, and the lent numbers are `waiting′` at its exit [C1, D8]
 pub record NearestC (P Q : List ℤ) (id size : ℕ) (waiting : List ℕ) (r : Found) (waiting′ : List ℕ) : Type 0 where
   pub κs : Lfts 3
   pub p-at : Place
@@ -113,7 +113,7 @@ pub record NearestC (P Q : List ℤ) (id size : ℕ) (waiting : List ℕ) (r : F
       r
       (slice p-at P, (slice q-at Q, (id, (size, (slice w-at waiting′, tt)))))
 
--- `ring_near_filter(P, Q, id, waiting)` answers r, and the lent numbers are `waiting′` at its exit
+-- `ring_near_filter(P, Q, id, waiting)` answers r, and the lent numbers are `waiting′` at its exit [C1, D8]
 pub record NearFilterC (P Q : List ℤ) (id : ℕ) (waiting : List ℕ) (r : Filtered) (waiting′ : List ℕ) : Type 0 where
   pub κs : Lfts 3
   pub p-at : Place
@@ -124,14 +124,15 @@ pub record NearFilterC (P Q : List ℤ) (id : ℕ) (waiting : List ℕ) (r : Fil
       r
       (slice p-at P, (slice q-at Q, (id, (slice w-at waiting′, tt))))
 
--- `ring_book_begin(source)` answers r
+-- `ring_book_begin(source)` answers r [C1, D8]
 pub record BeginC (source : Source) (r : BookAnswer) : Type 0 where
   pub promised : begin-c.Post tt (source, tt) r (source, tt)
 
--- `ring_marker(ax, ay, bx, by)` answers r
+-- `ring_marker(ax, ay, bx, by)` answers r [C1, D8]
 pub record MarkC (ax ay bx by : ℤ) (r : MarkAnswer) : Type 0 where
   pub promised : mark-c.Post tt (ax, (ay, (bx, (by, tt)))) r (ax, (ay, (bx, (by, tt))))
 
 -- `ring_book_next_key(b, slots)` answers r. `ring_book_take` promises what `Book::take` does, `ring_leaf_run` what `runs::leaf_run` does: `TakeAnswers` and `RunAnswers` of specs/Promises
+-- [C1, D8]
 abbrev pub NextC : Book → List Pair → KeyAnswer → Type 0
 NextC b slots r = r ≡ keyOver (asked b slots)

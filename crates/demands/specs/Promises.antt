@@ -78,46 +78,46 @@ slice l w = record { ptr = l .address; name = l .name; now = w }
 
 -- ---- ring: the calls on plain slices
 
--- `ring::open::open_no(w)` answers r
+-- `ring::open::open_no(w)` answers r [B1, D1, D7, D8]
 pub record OpenAnswers (w : List ℤ) (r : ℕ) : Type 0 where
   pub κs : Lfts 1
   pub w-at : Place
   pub promised : open-no.Post κs (slice w-at w, tt) r (slice w-at w, tt)
 
--- `ring::open::head_of(w)` answers h
+-- `ring::open::head_of(w)` answers h [D8]
 pub record HeadAnswers (w : List ℤ) (h : Head) : Type 0 where
   pub κs : Lfts 1
   pub w-at : Place
   pub promised : head-of.Post κs (slice w-at w, tt) h (slice w-at w, tt)
 
--- `ring::point::point(w, position)` answers r
+-- `ring::point::point(w, position)` answers r [B1, D1, D7, D8]
 pub record PointAnswers (w : List ℤ) (position : ℕ) (r : Pointed) : Type 0 where
   pub κs : Lfts 1
   pub w-at : Place
   pub promised : point.Post κs (slice w-at w, (position, tt)) r (slice w-at w, (position, tt))
 
--- `ring::filter::filter_walk(P, Q, j)` answers r
+-- `ring::filter::filter_walk(P, Q, j)` answers r [B1, D1, D7, D8]
 pub record FilterAnswers (P Q : List ℤ) (j : ℕ) (r : Filtered) : Type 0 where
   pub κs : Lfts 2
   pub p-at : Place
   pub q-at : Place
   pub promised : filter-walk.Post κs (slice p-at P, (slice q-at Q, (j, tt))) r (slice p-at P, (slice q-at Q, (j, tt)))
 
--- `ring::ringwalk::ring_walk(P, Q, j, i)` answers r
+-- `ring::ringwalk::ring_walk(P, Q, j, i)` answers r [B1, D1, D7, D8]
 pub record RingAnswers (P Q : List ℤ) (j i : ℕ) (r : Walked) : Type 0 where
   pub κs : Lfts 2
   pub p-at : Place
   pub q-at : Place
   pub promised : ring-walk.Post κs (slice p-at P, (slice q-at Q, (j, (i, tt)))) r (slice p-at P, (slice q-at Q, (j, (i, tt))))
 
--- `ring::page::page(P, Q, ask)` answers r
+-- `ring::page::page(P, Q, ask)` answers r [B1, D1, D7, D8]
 pub record PageAnswers (P Q : List ℤ) (ask : Request) (r : Paged) : Type 0 where
   pub κs : Lfts 2
   pub p-at : Place
   pub q-at : Place
   pub promised : page.Post κs (slice p-at P, (slice q-at Q, (ask, tt))) r (slice p-at P, (slice q-at Q, (ask, tt)))
 
--- `ring::own::own_page(S, key, size)` answers r
+-- `ring::own::own_page(S, key, size)` answers r [D8]
 pub record OwnAnswers (S : List ℤ) (key : Key) (size : ℕ) (r : Paged) : Type 0 where
   pub κs : Lfts 1
   pub w-at : Place
@@ -131,7 +131,7 @@ OfKind true a P Q key size r = (P ≡ Q) × (a .threshold ≡ 0) × OwnAnswers P
 abbrev pub TermsAnswers : Terms → List ℤ → List ℤ → Key → ℕ → Paged → Type 0
 TermsAnswers a P Q key size r = OfKind (a .own) a P Q key size r
 
--- `ring::partners::partners(P, Q, id, t)` answers r
+-- `ring::partners::partners(P, Q, id, t)` answers r [D8]
 pub record PartnersAnswers (P Q : List ℤ) (id t : ℕ) (r : Partnered) : Type 0 where
   pub κs : Lfts 2
   pub p-at : Place
@@ -140,7 +140,7 @@ pub record PartnersAnswers (P Q : List ℤ) (id t : ℕ) (r : Partnered) : Type 
 
 -- ---- the shortest circles
 
--- `shortest::shortest(P, Q, k)` answers r
+-- `shortest::shortest(P, Q, k)` answers r [D8]
 pub record ShortAnswers (P Q : List ℤ) (k : ℕ) (r : Shortlist) : Type 0 where
   pub κs : Lfts 2
   pub p-at : Place
@@ -149,7 +149,7 @@ pub record ShortAnswers (P Q : List ℤ) (k : ℕ) (r : Shortlist) : Type 0 wher
 
 -- ---- nearest first
 
--- `nearest::nearest(P, Q, id, size, waiting)` answers r, and the lent numbers are `waiting′` at its exit
+-- `nearest::nearest(P, Q, id, size, waiting)` answers r, and the lent numbers are `waiting′` at its exit [D8]
 pub record NearestAnswers (P Q : List ℤ) (id size : ℕ) (waiting : List ℕ) (r : Found) (waiting′ : List ℕ) : Type 0 where
   pub κs : Lfts 3
   pub p-at : Place
@@ -160,7 +160,7 @@ pub record NearestAnswers (P Q : List ℤ) (id size : ℕ) (waiting : List ℕ) 
       r
       (slice p-at P, (slice q-at Q, (id, (size, (slice w-at waiting′, tt)))))
 
--- `nearest::near_filter(P, Q, id, waiting)` answers r, and the lent numbers are `waiting′` at its exit
+-- `nearest::near_filter(P, Q, id, waiting)` answers r, and the lent numbers are `waiting′` at its exit [D8]
 pub record NearFilterAnswers (P Q : List ℤ) (id : ℕ) (waiting : List ℕ) (r : Filtered) (waiting′ : List ℕ) : Type 0 where
   pub κs : Lfts 3
   pub p-at : Place
@@ -173,7 +173,7 @@ pub record NearFilterAnswers (P Q : List ℤ) (id : ℕ) (waiting : List ℕ) (r
 
 -- ---- pack, marker
 
--- `pack::pack(n, points, order, edition, out)` answers r, and the words of `out` are `out′` at its exit
+-- `pack::pack(n, points, order, edition, out)` answers r, and the words of `out` are `out′` at its exit [B1, D8]
 pub record PackAnswers (n : ℕ) (points order : List ℤ) (edition : ℕ) (out : List ℤ) (r : ℕ) (out′ : List ℤ) : Type 0 where
   pub κs : Lfts 3
   pub p-at : Place
@@ -184,21 +184,21 @@ pub record PackAnswers (n : ℕ) (points order : List ℤ) (edition : ℕ) (out 
       r
       (n, (slice p-at points, (slice o-at order, (edition, (slice out-at out′, tt)))))
 
--- `marker::mark(ax, ay, bx, by)` answers r
+-- `marker::mark(ax, ay, bx, by)` answers r [B1, D8]
 pub record MarkAnswers (ax ay bx by : ℤ) (r : Marked) : Type 0 where
   pub promised : mark.Post tt (ax, (ay, (bx, (by, tt)))) r (ax, (ay, (bx, (by, tt))))
 
 -- ---- the book
 
--- `Book::begin(source)` answers r
+-- `Book::begin(source)` answers r [B1, D8]
 pub record BeginAnswers (source : Source) (r : Begun) : Type 0 where
   pub promised : begin.Post tt (source, tt) r (source, tt)
 
--- `b.next_key(slots)` answers r
+-- `b.next_key(slots)` answers r [B1, D8]
 abbrev pub NextAnswers : Book → List Pair → Asked → Type 0
 NextAnswers b slots r = r ≡ asked b slots
 
--- `b.take(slots, page)` answers r, and the slots are `slots′` at its exit
+-- `b.take(slots, page)` answers r, and the slots are `slots′` at its exit [B1, D1, D7, D8]
 abbrev pub TakeAnswers : Book → List Pair → Page → Taken → List Pair → Type 0
 TakeAnswers b slots page r slots′ = (r ≡ taken b slots page) × (slots′ ≡ takenSlots b slots page)
 
@@ -212,7 +212,7 @@ pub record TakeArrayAnswers (slots : List Pair) (len : ℕ) (b : Book) (page : P
 
 -- ---- one run per leaf
 
--- `runs::leaf_run(P, Q, leaf, slots)` answers r, and the slots are `slots′` at its exit
+-- `runs::leaf_run(P, Q, leaf, slots)` answers r, and the slots are `slots′` at its exit [D8]
 abbrev pub RunAnswers : List ℤ → List ℤ → ℕ → List Pair → Run → List Pair → Type 0
 RunAnswers P Q leaf slots r slots′ = (r ≡ runAnswer P Q leaf (length slots)) × (slots′ ≡ runSlots P Q leaf slots)
 
@@ -228,35 +228,35 @@ pub record RunArrayAnswers (P Q : List ℤ) (leaf : ℕ) (slots : List Pair) (le
 
 -- ---- views
 
--- `view::open(w)` answers r
+-- `view::open(w)` answers r [S26, D8]
 abbrev pub ViewOpens : RefT (List ℤ) → Opened → Type 0
 ViewOpens w r = shown r ≡ openOf w
 
--- `view::point_at(sheet, position)` answers r
+-- `view::point_at(sheet, position)` answers r [S28, N19, D8]
 abbrev pub ViewPoints : Sheet → ℕ → Pointed → Type 0
 ViewPoints sheet position r = r ≡ pointed (now (sheet .words)) position
 
--- `view::filter_walk_at(p, q, j)` answers r
+-- `view::filter_walk_at(p, q, j)` answers r [S28, N19, D8]
 abbrev pub ViewFilters : Sheet → Sheet → ℕ → Filtered → Type 0
 ViewFilters p q j r = r ≡ filtered (now (p .words)) (now (q .words)) j
 
--- `view::ring_walk_at(p, q, j, i)` answers r
+-- `view::ring_walk_at(p, q, j, i)` answers r [S28, N19, D8]
 abbrev pub ViewRings : Sheet → Sheet → ℕ → ℕ → Walked → Type 0
 ViewRings p q j i r = r ≡ walked (now (p .words)) (now (q .words)) j i
 
--- `view::page_at(p, q, ask)` answers r
+-- `view::page_at(p, q, ask)` answers r [S28, N19, D8]
 abbrev pub ViewPages : Sheet → Sheet → Request → Paged → Type 0
 ViewPages p q ask r = r ≡ pageAnswer (now (p .words)) (now (q .words)) ask
 
--- `view::own_page_at(d, key, size)` answers r
+-- `view::own_page_at(d, key, size)` answers r [S28, D8]
 abbrev pub ViewOwnPages : Sheet → Key → ℕ → Paged → Type 0
 ViewOwnPages d key size r = r ≡ ownAnswer (now (d .words)) key size
 
--- `view::partners_at(p, q, id, t)` answers r
+-- `view::partners_at(p, q, id, t)` answers r [S28, D8]
 abbrev pub ViewPartners : Sheet → Sheet → ℕ → ℕ → Partnered → Type 0
 ViewPartners p q id t r = r ≡ partnersAnswer (now (p .words)) (now (q .words)) id t
 
--- `view::nearest_at(p, q, id, size, waiting)` answers r, and the lent numbers are `waiting′` at its exit
+-- `view::nearest_at(p, q, id, size, waiting)` answers r, and the lent numbers are `waiting′` at its exit [S28, D8]
 abbrev pub ViewNearest : Sheet → Sheet → ℕ → ℕ → List ℕ → Found → List ℕ → Type 0
 ViewNearest p q id size waiting r waiting′ =
     (r ≡ nearestAnswer (now (p .words)) (now (q .words)) id size (length waiting))

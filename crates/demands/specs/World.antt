@@ -29,7 +29,7 @@ use Rattle.book.specs.declared.Taken.{Taken}
 use Rattle.demands.specs.Promises.{TermsAnswers, BeginAnswers, NextAnswers, TakeAnswers}
 
 -- "P sheets with one edition number hold the same points, and Q sheets likewise": for each number a sheet of P and one of Q, whose points they are, and one of self
--- joins. (For a number that was never given out this may be any sheet, as the empty one.)
+-- joins. (For a number that was never given out this may be any sheet, as the empty one.) [D9]
 pub record Editions : Type 0 where
   pub pumps : ℕ → List ℤ
   pub chambers : ℕ → List ℤ
@@ -39,16 +39,17 @@ pub record Editions : Type 0 where
   pub assets-open : (e : ℕ) → openNo form1 (assets e) ≡ 0
 
 module _ (w : Editions) where
-  -- a sheet of P in this world: it opens, and its points are those of its edition number. Order and tree are its own.
+  -- a sheet of P in this world: it opens, and its points are those of its edition number. Order and tree are its own. [D9]
   pub record PumpSheet (P : List ℤ) : Type 0 where
     pub opens : openNo form1 P ≡ 0
     pub same : pointsOf P ≡ pointsOf (w .pumps (num (edition P)))
 
+  -- [D9]
   pub record ChamberSheet (Q : List ℤ) : Type 0 where
     pub opens : openNo form1 Q ≡ 0
     pub same : pointsOf Q ≡ pointsOf (w .chambers (num (edition Q)))
 
-  -- a sheet given to self joins
+  -- a sheet given to self joins [J7]
   pub record AssetSheet (S : List ℤ) : Type 0 where
     pub opens : openNo form1 S ≡ 0
     pub same : pointsOf S ≡ pointsOf (w .assets (num (edition S)))
@@ -68,11 +69,11 @@ module _ (w : Editions) where
   abbrev pub chambersOf : Source → List Point
   chambersOf s = cond (s .terms .own) (pointsOf (w .assets (s .«q_edition»))) (pointsOf (w .chambers (s .«q_edition»)))
 
-  -- the list of a book: that of its terms, of these points
+  -- the list of a book: that of its terms, of these points [T6, D4, D5]
   abbrev pub bookList : Book → List Pair
   bookList b = listFor (b .source .terms) (pumpsOf (b .source)) (chambersOf (b .source))
 
-  -- a page "not altered or invented": one that the page request of some terms answered, at some time, for sheets of this world, some key and some size
+  -- a page "not altered or invented": one that the page request of some terms answered, at some time, for sheets of this world, some key and some size [D9]
   pub record Answered (g : Page) : Type 0 where
     pub terms : Terms
     pub P : List ℤ
@@ -87,6 +88,7 @@ module _ (w : Editions) where
 
   -- A book and its slots, as they can come to stand: begun; handed pages that were answered, in any order, any of them any number of times, those that it refuses too;
   -- lent another slice that holds the same pairs. Each step starts from what the step before left: "nobody else writes the book or hands in an older state of it".
+  -- [K9, D4, D5, D9]
   pub data History : Book → List Pair → Type 0 where
     began : (s : Source) (b : Book) (slots : List Pair) → BeginAnswers s (begun.Open b) → History b slots
     took : {b : Book} {slots : List Pair} (g : Page) (r : Taken) (slots′ : List Pair) → History b slots → Answered g → TakeAnswers b slots g r slots′ → History (r .book) slots′
@@ -100,7 +102,7 @@ module _ (w : Editions) where
     pub of-book : sourceOf P Q (of .terms) ≡ of
     pub answers : TermsAnswers (of .terms) P Q key size r
 
-  -- a page "that answers its own next request": the book is asked for its next key, and a page of its list is asked for after it, of any size from 1 to 16
+  -- a page "that answers its own next request": the book is asked for its next key, and a page of its list is asked for after it, of any size from 1 to 16 [D6]
   pub record OwnPage (b : Book) (slots : List Pair) (g : Page) : Type 0 where
     pub asked : Asked
     pub key : Key
@@ -113,7 +115,7 @@ module _ (w : Editions) where
     pub request : Asks (b .source) key size r
     pub is : g ≡ r .page
 
-  -- a book that asks so many times, and takes each answer: from the first book and slots to the last
+  -- a book that asks so many times, and takes each answer: from the first book and slots to the last [D6]
   pub data Asking : ℕ → Book → List Pair → Book → List Pair → Type 0 where
     stops : (b : Book) (slots : List Pair) → Asking zero b slots b slots
     asks : {k : ℕ} {b : Book} {slots : List Pair} {b″ : Book} {slots″ : List Pair} (g : Page) (r : Taken) (slots′ : List Pair)

@@ -30,24 +30,24 @@ use Rattle.ffi.specs.declared.BookAnswer.{BookAnswer}
 use Rattle.ffi.specs.declared.KeyAnswer.{KeyAnswer}
 use Rattle.ffi.specs.declared.MarkAnswer.{MarkAnswer}
 
--- the point reader: 0 and the record, or the number and zeros
+-- the point reader: 0 and the record, or the number and zeros [C1, C2]
 abbrev pub pointOver : Pointed → PointAnswer
 pointOver (pointed.At a) = record { number = 0; id = a .id; x = a .x; y = a .y }
 pointOver (pointed.Refused k) = record { number = k; id = 0; x = pos 0; y = pos 0 }
 
 -- "clear, or blocked by a point (its set and position) or by a box side (its set and node number), together with the nodes opened": the kinds are 0, 1, 2.
--- "Where a box side blocks, the answer shall also name the side": 0 left, 1 bottom, 2 right, 3 top, and 0 where none blocks.
+-- "Where a box side blocks, the answer shall also name the side": 0 left, 1 bottom, 2 right, 3 top, and 0 where none blocks. [E2]
 abbrev pub hitOver : Hit → ℕ → WalkAnswer
 hitOver Clear c = record { number = 0; kind = 0; set = 0; side = 0; at = 0; opened = c }
 hitOver (Point b) c = record { number = 0; kind = 1; set = b .set; side = 0; at = b .position; opened = c }
 hitOver (Side e) c = record { number = 0; kind = 2; set = e .set; side = e .side; at = e .node; opened = c }
 
--- the ring walk: 0 and what it found, or the number and zeros
+-- the ring walk: 0 and what it found, or the number and zeros [C1, C2]
 abbrev pub walkOver : Walked → WalkAnswer
 walkOver (walked.Done a) = hitOver (a .hit) (a .opened)
 walkOver (walked.Refused k) = record { number = k; kind = 0; set = 0; side = 0; at = 0; opened = 0 }
 
--- begin: 0 and the book, or the number and a book of zeros
+-- begin: 0 and the book, or the number and a book of zeros [C1, C2]
 abbrev pub bookOver : Begun → BookAnswer
 bookOver (begun.Open b) = record { number = 0; book = b }
 bookOver (begun.Refused k) =
@@ -58,6 +58,7 @@ abbrev pub nextOver : Next → Book → KeyAnswer
 nextOver (next.After k) b = record { number = 0; key = k; book = b }
 nextOver (next.Refused n) b = record { number = n; key = start; book = b }
 
+-- [C1, C2]
 abbrev pub keyOver : Asked → KeyAnswer
 keyOver a = nextOver (a .next) (a .book)
 
@@ -65,6 +66,7 @@ keyOver a = nextOver (a .next) (a .book)
 abbrev pub zeroFloat : Float
 zeroFloat = ofBits binary64 0
 
+-- [C1, C2]
 abbrev pub markOver : Marked → MarkAnswer
 markOver (marked.At m) = record { number = 0; x = m .x; y = m .y }
 markOver (marked.Refused k) = record { number = k; x = zeroFloat; y = zeroFloat }

@@ -17,7 +17,7 @@ use Rattle.list.specs.Terms.{full, alone}
 use Rattle.join.specs.Walks.{Walks}
 
 -- The filter walk of P for q, its kept set on so many words, and the ring walk of a pair. Of a self join "the filter passes over q, and kept partners of higher id get
--- one ring walk", of the one sheet, which is set 0.
+-- one ring walk", of the one sheet, which is set 0. [J9]
 abbrev pub walksBy : Terms → ℕ → List ℤ → List ℤ → Walks
 walksBy a words P Q =
     record {
@@ -33,6 +33,7 @@ walksBy a words P Q =
 abbrev pub walksOf : ℕ → List ℤ → List ℤ → Walks
 walksOf words P Q = walksBy full words P Q
 
+-- [J9]
 abbrev pub selfWalks : ℕ → List ℤ → Walks
 selfWalks words S = walksBy alone words S S
 

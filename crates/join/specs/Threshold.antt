@@ -37,7 +37,7 @@ module _ (w : Walks) (n : ℕ) where
         pair = w .pair;
       }
 
-  -- the walks of a page of t
+  -- the walks of a page of t [T7]
   unfoldable pub walksFor : ℕ → Walks
   walksFor zero = w
   walksFor (suc t) = allWalked (suc t)

@@ -17,12 +17,12 @@ use Rattle.list.specs.RingList.{ringPair, pairAt}
 use Rattle.walk.specs.RingWalk.{pairWalk}
 use Rattle.leaf.specs.LeafWalk.{slot, leafKept, leafKeeps, chamberAt, chamberSpot}
 
--- the ring pairs of the chambers of leaf v, "by place, then p id"
+-- the ring pairs of the chambers of leaf v, "by place, then p id" [L1, L6]
 unfoldable pub leafList : List ℤ → List ℤ → ℕ → List Pair
 leafList P Q v =
     listBy (λ k i. ringPair (pointsOf P) (pointsOf Q) (chamberAt Q v k) i) (λ k i. pairAt (pointsOf P) (pointsOf Q) (chamberAt Q v k) i) (points P) (countOf Q (points Q) v)
 
--- "Its count is that walk's opened nodes plus those of each kept partner's ring walk." Each chamber's kept set is on so many words.
+-- "Its count is that walk's opened nodes plus those of each kept partner's ring walk." Each chamber's kept set is on so many words. [L7]
 unfoldable pub leafOpened : ℕ → List ℤ → List ℤ → ℕ → ℕ
 leafOpened words P Q v =
     leafKept (chamberSpot Q v) (countOf Q (points Q) v) words P .opened

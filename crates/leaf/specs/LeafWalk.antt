@@ -33,23 +33,23 @@ unfoldable pub chamberSpot : List ℤ → ℕ → ℕ → Spot
 chamberSpot w v k = spotOf w (chamberAt w v k)
 
 module _ (q : ℕ → Spot) (c words : ℕ) (w : List ℤ) (n : ℕ) where
-  -- what rules out a partner of chamber k: a pump house that is kept for it has the test, or another chamber of the leaf
+  -- what rules out a partner of chamber k: a pump house that is kept for it has the test, or another chamber of the leaf [L4]
   unfoldable pub ruledOut : (Spot → Bool) → ℕ → List ℕ → Bool
   ruledOut by k b = someB n (λ p. kept b (slot words k p) && by (spotOf w p)) || someB c (λ h. not (eqb h k) && by (q h))
 
-  -- for chamber k, position i is skipped or kept
+  -- for chamber k, position i is skipped or kept [L4, O5]
   unfoldable pub weigh : ℕ → ℕ → List ℕ → List ℕ
   weigh i k b = cond (ruledOut (λ p. drops (q k) p (spotOf w i)) k b) b (with b (slot words k i))
 
-  -- for each chamber in turn, the position standing at place r
+  -- for each chamber in turn, the position standing at place r [L3]
   unfoldable pub leafTake : ℕ → Kept → Kept
   leafTake r k = soFar (inTurn (weigh (orderOf w n r)) c 0 (k .bits)) (k .opened)
 
-  -- chamber k skips the box of node j
+  -- chamber k skips the box of node j [L5, O5]
   unfoldable pub skips : ℕ → List ℕ → ℕ → Bool
   skips j b k = ruledOut (λ p. dropsBox (q k) p (boxOf w n j)) k b
 
-  -- "A box is skipped exactly when each chamber of the leaf skips it", else its node is opened
+  -- "A box is skipped exactly when each chamber of the leaf skips it", else its node is opened [L5]
   unfoldable pub leafVisit : ℕ → (Kept → Kept) → Kept → Kept
   leafVisit j go k = cond (allB c (skips j (k .bits))) k (go (soFar (k .bits) (k .opened + 1)))
 
@@ -57,7 +57,7 @@ module _ (q : ℕ → Spot) (c words : ℕ) (w : List ℤ) (n : ℕ) where
   unfoldable pub leafNode : ℕ → ℕ → Kept → Kept
   leafNode l j k = walk w n leafVisit leafTake l j k
 
--- the walk of a whole sheet P for c chambers, on sixteen times so many words: all kept sets, and the nodes opened
+-- the walk of a whole sheet P for c chambers, on sixteen times so many words: all kept sets, and the nodes opened [L3]
 unfoldable pub leafKept : (ℕ → Spot) → ℕ → ℕ → List ℤ → Kept
 leafKept q c words w = walkAll w (points w) (nodes w) (leafVisit q c words w (points w)) (leafTake q c words w (points w)) (soFar (none (16 * words)) 0)
 

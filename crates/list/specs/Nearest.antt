@@ -6,7 +6,7 @@ use mathlib.Core.List.{List}
 use Rattle.plane.specs.Rule.{size}
 use Rattle.plane.specs.Point.{Point, spotAt}
 
--- the chamber at position j and the pump house at position i are "at the least distance of all such couples"
+-- the chamber at position j and the pump house at position i are "at the least distance of all such couples" [R6]
 pub record Nearest (P Q : List Point) (j i : ℕ) : Type 0 where
   pub q-in : j < length Q
   pub p-in : i < length P

@@ -15,18 +15,20 @@ use Rattle.list.specs.Pairs.{none, after, lastOr, isNone}
 abbrev pub lastThreshold : ℕ
 lastThreshold = 1000
 
+-- [T9]
 unfoldable pub thresholdNo : ℕ → ℕ
 thresholdNo t = given (not (leb t lastThreshold)) 21
 
--- 10: "size out of range", "a size 1 to 16"
+-- 10: "size out of range", "a size 1 to 16" [P1, N23, H3, H5]
 unfoldable pub sizeNo : ℕ → ℕ
 sizeNo size = given (not (leb 1 size && leb size 16)) 10
 
--- both are of self joins, or neither is
+-- both are of self joins, or neither is [J10]
 abbrev pub sameKind : Source → Source → Bool
 sameKind a b = (a .terms .own && b .terms .own) || (not (a .terms .own) && not (b .terms .own))
 
 -- 22 "wrong kind", then 13 "page of other editions", then 31 "page of another t": the number for a page of `b` and a book of `a`, 0 where they are of one list
+-- [N28, N32, O7, T11, J11]
 unfoldable pub sourceNo : Source → Source → ℕ
 sourceNo a b =
     first
@@ -35,16 +37,16 @@ sourceNo a b =
     ∷ given (not (eqb (a .terms .threshold) (b .terms .threshold))) 31
     ∷ [])
 
--- sixteen pairs, the unused ones three zeros
+-- sixteen pairs, the unused ones three zeros [P6, H4]
 unfoldable pub padded : List Pair → List Pair
 padded l = l ++ replicate (16 - length l) none
 
--- "the first `size` ring pairs strictly after the key (fewer if fewer follow)"
+-- "the first `size` ring pairs strictly after the key (fewer if fewer follow)" [P4]
 unfoldable pub shown : List Pair → Key → ℕ → List Pair
 shown l k size = take size (after k l)
 
 -- "The page holds both editions, the key, the first `size` ring pairs strictly after the key (fewer if fewer follow), their number and an end
--- mark, set exactly when no ring pair follows the last one shown, or follows the key if none is shown." "Unused pairs are three zeros."
+-- mark, set exactly when no ring pair follows the last one shown, or follows the key if none is shown." "Unused pairs are three zeros." [P3, P4, P5, V5, V11, X16]
 unfoldable pub pageOf : Source → List Pair → Key → ℕ → Page
 pageOf s l k size =
     record {

@@ -10,7 +10,7 @@ use Rattle.list.specs.declared.Pair.{Pair}
 abbrev pub start : Key
 start = record { q = 0; p = 0 }
 
--- "Unused pairs are three zeros"
+-- "Unused pairs are three zeros" [P6]
 abbrev pub none : Pair
 none = record { q = 0; p = 0; size = 0 }
 
@@ -18,7 +18,7 @@ none = record { q = 0; p = 0; size = 0 }
 abbrev pub keyOf : Pair → Key
 keyOf v = record { q = v .q; p = v .p }
 
--- `v` stands strictly after `k`: by q id, then p id
+-- `v` stands strictly after `k`: by q id, then p id [P2]
 unfoldable pub follows : Key → Key → Bool
 follows k v = ltb (k .q) (v .q) || (eqb (k .q) (v .q) && ltb (k .p) (v .p))
 
@@ -27,12 +27,12 @@ unfoldable pub ascends : Key → List Pair → Bool
 ascends k [] = true
 ascends k (v ∷ l) = follows k (keyOf v) && ascends (keyOf v) l
 
--- the pairs of a list strictly after `k`
+-- the pairs of a list strictly after `k` [P2]
 unfoldable pub after : Key → List Pair → List Pair
 after k [] = []
 after k (v ∷ l) = cond (follows k (keyOf v)) (v ∷ after k l) (after k l)
 
--- the pairs of a list whose chamber has this id
+-- the pairs of a list whose chamber has this id [T1]
 unfoldable pub chamberPairs : ℕ → List Pair → List Pair
 chamberPairs id [] = []
 chamberPairs id (v ∷ l) = cond (eqb (v .q) id) (v ∷ chamberPairs id l) (chamberPairs id l)

@@ -19,7 +19,7 @@ module _ (rule : ℕ → ℕ → Bool) (pair : ℕ → ℕ → Pair) where
   rows n zero j = []
   rows n (suc k) j = row j n 0 ++ rows n k (j + 1)
 
-  -- "at least t partners": the rule holds, and it holds of at least t of the n positions of P for this q
+  -- "at least t partners": the rule holds, and it holds of at least t of the n positions of P for this q [T3]
   unfoldable pub atLeast : ℕ → ℕ → ℕ → ℕ → Bool
   atLeast t n j i = rule j i && leb t (length (row j n 0))
 

@@ -12,13 +12,15 @@ use Rattle.list.specs.declared.Terms.{Terms}
 use Rattle.list.specs.Rows.{atLeast, listBy}
 use Rattle.list.specs.RingList.{ringPair, pairAt}
 
--- the terms of the full list of two sheets, of the list of t, "0 for the full list", and of a self join, "with [..] t 0"
+-- the terms of the full list of two sheets, of the list of t, "0 for the full list", and of a self join, "with [..] t 0" [T5]
 abbrev pub withT : ℕ → Terms
 withT t = record { threshold = t; own = false }
 
+-- [T5]
 abbrev pub full : Terms
 full = withT 0
 
+-- [J1, J2, J5]
 abbrev pub alone : Terms
 alone = record { threshold = 0; own = true }
 
@@ -30,14 +32,14 @@ abbrev pub requestOf : Terms → Key → ℕ → Request
 requestOf a key size = record { key = key; size = size; threshold = a .threshold }
 
 -- The rule of the terms, t apart: the ring rule. A self join is of one set in both places: "pairs of two different records of one sheet, lower id first", in which q is
--- the lower id, p the higher; "blocked by the other records of that sheet".
+-- the lower id, p the higher; "blocked by the other records of that sheet". [J1, J3]
 unfoldable pub pairFor : Terms → List Point → List Point → ℕ → ℕ → Bool
 pairFor a P Q j i = (not (a .own) || ltb (idAt Q j) (idAt P i)) && ringPair P Q j i
 
--- "list all such chambers by id with all their pairs": those of the rule, of the chambers that have at least t of them
+-- "list all such chambers by id with all their pairs": those of the rule, of the chambers that have at least t of them [T3]
 unfoldable pub listedFor : Terms → List Point → List Point → ℕ → ℕ → Bool
 listedFor a P Q = atLeast (pairFor a P Q) (pairAt P Q) (a .threshold) (length P)
 
--- "The list runs by q id, then p id"
+-- "The list runs by q id, then p id" [P12, T3, J2, J6, D3]
 unfoldable pub listFor : Terms → List Point → List Point → List Pair
 listFor a P Q = listBy (listedFor a P Q) (pairAt P Q) (length P) (length Q)

@@ -11,7 +11,7 @@ pub struct Key {
     pub p: u32,
 }
 
-// A chamber and a pump house, by their ids, with the squared diameter of the circle on the two.
+// A chamber and a pump house, by their ids, with the squared diameter of the circle on the two. [F3]
 #[repr(C)]
 pub struct Pair {
     pub q: u32,
@@ -20,14 +20,14 @@ pub struct Pair {
 }
 
 // What is asked of a list beside its points: the number of partners that a chamber must have to be listed, 0 for the full list, and the kind: whether it is the self
-// join of one sheet.
+// join of one sheet. [T5]
 #[repr(C)]
 pub struct Terms {
     pub threshold: u32,
     pub own: bool,
 }
 
-// What list a page or a book is of: two editions and the terms. The edition of a self join's sheet stands twice.
+// What list a page or a book is of: two editions and the terms. The edition of a self join's sheet stands twice. [T5, J10]
 #[repr(C)]
 pub struct Source {
     pub p_edition: u32,
@@ -35,7 +35,7 @@ pub struct Source {
     pub terms: Terms,
 }
 
-// What a page request asks for: the pairs strictly after a key, how many of them, and of which list.
+// What a page request asks for: the pairs strictly after a key, how many of them, and of which list. [P1]
 #[repr(C)]
 pub struct Request {
     pub key: Key,
@@ -43,7 +43,7 @@ pub struct Request {
     pub threshold: u32,
 }
 
-// One page of a list: the pairs that follow a key, how many they are, and whether none follows them.
+// One page of a list: the pairs that follow a key, how many they are, and whether none follows them. [P7, F3]
 #[repr(C)]
 pub struct Page {
     pub source: Source,

@@ -23,7 +23,7 @@ abbrev pub standsAt : List Point → ℕ → Spot
 standsAt s id = spotAt s (positionOf s id)
 
 -- "q id, p id, twice the centre's x, twice its y, squared diameter": of a pair whose q stands at a and whose p stands at b. The squared diameter is the size that the pair
--- carries (`line-size` of proofs/ShowLaws).
+-- carries (`line-size` of proofs/ShowLaws). [X9]
 unfoldable pub lineAt : Pair → Spot → Spot → List ℕ
 lineAt v a b = lineText (v .q) (v .p) (a .x +ℤ b .x) (a .y +ℤ b .y) (v .size)
 
@@ -45,6 +45,6 @@ pagesText zero P Q l key = []
 pagesText (suc f) P Q l key =
     linesOf P Q (shown l key 16) ++ cond (isNone (after (lastOr key (shown l key 16)) l)) [] (pagesText f P Q l (lastOr key (shown l key 16)))
 
--- a line for each ring pair, "last `end` and the number of pairs"
+-- a line for each ring pair, "last `end` and the number of pairs" [X9, X15]
 unfoldable pub listingOf : List Point → List Point → List ℕ
 listingOf P Q = linesOf P Q (ringList P Q) ++ endText (length (ringList P Q))

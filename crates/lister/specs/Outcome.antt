@@ -37,16 +37,16 @@ sheetsOutcome P Q = answer (sheetNo Q) (answer (sheetNo P) (Listed (length (pair
 unfoldable pub wordsOutcome : List ℤ → Outcome
 wordsOutcome w = sheetsOutcome (take (splitAt w) w) (drop (splitAt w) w)
 
--- "or `refused input`"
+-- "or `refused input`" [X13, X14]
 unfoldable pub outcome : List ℕ → Outcome
 outcome bytes = cond (badInput (length bytes)) BadInput (wordsOutcome (wordsOf bytes (length bytes / 4)))
 
--- of what was read into a room: the bytes up to the end of the input, or a read that failed, which is `refused input` too (decision 11)
+-- of what was read into a room: the bytes up to the end of the input, or a read that failed, which is `refused input` too (decision 11) [X10]
 unfoldable pub gotOutcome : Got → List ℕ → Outcome
 gotOutcome (Bytes n) room = outcome (take n room)
 gotOutcome Failed room = BadInput
 
--- the line of a refusal: 113 is the byte q, 112 is p. Nothing is said so of two sheets that are listed
+-- the line of a refusal: 113 is the byte q, 112 is p. Nothing is said so of two sheets that are listed [X13]
 unfoldable pub refusal : Outcome → List ℕ
 refusal BadInput = inputText
 refusal (BadQ n) = refusedText 113 n

@@ -9,10 +9,10 @@ use lib.ListN.{length}
 use Rattle.words.specs.Word.{within, num}
 use Rattle.sheet.specs.Layout.{span}
 
--- how many of the words are P's: what is left before the last span+6, or none where Q is everything
+-- how many of the words are P's: what is left before the last span+6, or none where Q is everything [X11, X12]
 unfoldable pub splitAt : List ℤ → ℕ
 splitAt w = cond (within (pos 6) (pos (length w)) (span w +ℤ pos 6)) (length w - num (span w +ℤ pos 6)) 0
 
--- "or `refused input` for under 24 bytes, over 62,448, or not a multiple of 4"
+-- "or `refused input` for under 24 bytes, over 62,448, or not a multiple of 4" [X14]
 unfoldable pub badInput : ℕ → Bool
 badInput bytes = ltb bytes 24 || (ltb 62448 bytes || not (eqb (bytes % 4) 0))

@@ -17,7 +17,7 @@ rootWaits m = cond (eqb m 0) [] (boxEntry (m - 1) ∷ [])
 
 -- `skip j s`: node j is skipped in the state s; `opened s`: the state once a node is opened; `meet i s`: the state once the point at position i is looked at
 module _ {S : Type 0} (w : List ℤ) (n m : ℕ) (q : Spot) (skip : ℕ → S → Bool) (opened : S → S) (meet : ℕ → S → S) where
-  -- so many steps, from what waits and from the state s on
+  -- so many steps, from what waits and from the state s on [G1]
   unfoldable pub nearSteps : ℕ → List ℕ → S → S
   nearSteps zero l s = s
   nearSteps (suc k) [] s = s
@@ -30,11 +30,11 @@ module _ {S : Type 0} (w : List ℤ) (n m : ℕ) (q : Spot) (skip : ℕ → S �
   unfoldable pub nearAll : S → S
   nearAll s = nearSteps (n + m) (rootWaits m) s
 
--- "Give the pump houses one after another in that order": the positions of all points, none skipped
+-- "Give the pump houses one after another in that order": the positions of all points, none skipped [G3]
 unfoldable pub nearOrder : List ℤ → Spot → List ℕ
 nearOrder w q = nearAll w (points w) (nodes w) q (λ j s. false) (λ s. s) (λ i s. s ++ (i ∷ [])) []
 
--- "Then use the same walk as a second filter, kept sets and skips as in 01": its kept set on so many words, and the nodes opened
+-- "Then use the same walk as a second filter, kept sets and skips as in 01": its kept set on so many words, and the nodes opened [G4]
 unfoldable pub nearKept : ℕ → List ℤ → Spot → Kept
 nearKept words w q =
     nearAll w (points w) (nodes w) q

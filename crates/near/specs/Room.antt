@@ -7,7 +7,7 @@ use lib.ListN.{length, getD, drop, replicate}
 use Rattle.sheet.specs.Nodes.{firstOf, countOf}
 use Rattle.near.specs.Waiting.{boxEntry, pointEntry}
 
--- "the first n + m zero after an answer, the rest untouched": the first k of the lent numbers are 0, and the others as they were
+-- "the first n + m zero after an answer, the rest untouched": the first k of the lent numbers are 0, and the others as they were [G7, G8]
 unfoldable pub wiped : ℕ → List ℕ → List ℕ
 wiped k ws = replicate k 0 ++ drop k ws
 
@@ -15,7 +15,7 @@ wiped k ws = replicate k 0 ++ drop k ws
 unfoldable pub padded : List ℕ → List ℕ
 padded l = l ++ replicate (16 - length l) 0
 
--- the first c of the lent numbers, the last of them first: what waits
+-- the first c of the lent numbers, the last of them first: what waits [G6]
 unfoldable pub listed : List ℕ → ℕ → List ℕ
 listed ws zero = []
 listed ws (suc c) = getD ws c 0 ∷ listed ws c

@@ -41,15 +41,15 @@ unfoldable pub covered : List ℤ → ℕ → ℕ → ℕ → ℕ → ℕ
 covered w n m j k = cond (eqb (levelOf w n j) 0) (pointEntry m (orderOf w n k)) (boxEntry k)
 
 module _ (w : List ℤ) (n m : ℕ) (q : Spot) where
-  -- the squared distance to q, of a box or a point
+  -- the squared distance to q, of a box or a point [G1]
   unfoldable pub distance : ℕ → ℕ
   distance e = num (cond (isBox m e) (away q (boxOf w n (nodeOf e))) (size q (spotOf w (positionOf m e))))
 
-  -- e comes before f: the least distance first, on a tie the lower number
+  -- e comes before f: the least distance first, on a tie the lower number [G2]
   unfoldable pub before : ℕ → ℕ → Bool
   before e f = ltb (distance e) (distance f) || (eqb (distance e) (distance f) && ltb e f)
 
-  -- e put in where it belongs
+  -- e put in where it belongs [G1]
   unfoldable pub insert : ℕ → List ℕ → List ℕ
   insert e [] = e ∷ []
   insert e (f ∷ l) = cond (before e f) (e ∷ f ∷ l) (f ∷ insert e l)

@@ -27,7 +27,7 @@ use Rattle.nearest.specs.declared.Chamber.{Chamber}
 
 -- ---- numbers
 
--- "25 slice shorter than that": fewer numbers are lent than P has points and nodes
+-- "25 slice shorter than that": fewer numbers are lent than P has points and nodes [G9, G10]
 unfoldable pub waitNo : List ℤ → ℕ → ℕ
 waitNo P len = given (ltb len (points P + nodes P)) 25
 
@@ -35,11 +35,11 @@ waitNo P len = given (ltb len (points P + nodes P)) 25
 unfoldable pub chamberNo : List ℤ → List ℤ → ℕ → ℕ
 chamberNo P Q id = first (sheetNo P ∷ sheetNo Q ∷ idNo (pointsOf Q) id ∷ [])
 
--- then 10 for the size, then 25
+-- then 10 for the size, then 25 [G9, G10]
 unfoldable pub nearestNo : List ℤ → List ℤ → ℕ → ℕ → ℕ → ℕ
 nearestNo P Q id size len = first (sheetNo P ∷ sheetNo Q ∷ idNo (pointsOf Q) id ∷ sizeNo size ∷ waitNo P len ∷ [])
 
--- "the filter has no size"
+-- "the filter has no size" [G9, G10]
 unfoldable pub nearFilterNo : List ℤ → List ℤ → ℕ → ℕ → ℕ
 nearFilterNo P Q id len = first (sheetNo P ∷ sheetNo Q ∷ idNo (pointsOf Q) id ∷ waitNo P len ∷ [])
 
@@ -68,12 +68,12 @@ nearAt P q i = record { id = idAt (pointsOf P) i; distance = distanceTo P q i }
 unfoldable pub sixteen : (ℕ → Near) → List ℕ → List Near
 sixteen f l = map f l ++ replicate (16 - length l) noPoint
 
--- the first `size` pump houses of P for the place q, fewer if P has fewer, and their number
+-- the first `size` pump houses of P for the place q, fewer if P has fewer, and their number [G3]
 unfoldable pub nearestAt : List ℤ → Spot → ℕ → Found
 nearestAt P q size =
     record { number = 0; count = length (take size (nearOrder P q)); points = sixteen (nearAt P q) (take size (nearOrder P q)) }
 
--- refused, the number and zeros
+-- refused, the number and zeros [G11]
 unfoldable pub nearestRefused : ℕ → Found
 nearestRefused k = record { number = k; count = 0; points = replicate 16 noPoint }
 
@@ -85,6 +85,6 @@ nearestAnswer P Q id size len = answer (nearestNo P Q id size len) (nearestAt P 
 unfoldable pub nearFiltered : List ℤ → List ℤ → ℕ → ℕ → Filtered
 nearFiltered P Q id len = answer (nearFilterNo P Q id len) (filteredTo (nearKept 16 P (standsAt Q id))) unfiltered
 
--- ---- the lent numbers after a call by its number: "the first n + m zero after an answer, the rest untouched"; a refusal "leaves lent memory [..] as they stood"
+-- ---- the lent numbers after a call by its number: "the first n + m zero after an answer, the rest untouched"; a refusal "leaves lent memory [..] as they stood" [G7, G8, G11]
 unfoldable pub waitedBy : ℕ → List ℤ → List ℕ → List ℕ
 waitedBy k P ws = answer k (wiped (points P + nodes P) ws) (λ n. ws)

@@ -16,7 +16,7 @@ pub record Roomy (lim : Limits) : Type 0 where
   pub low : lim .points ≤ 4294967296
   pub nodes-enough : lim .points + 15 ≤ 5 * lim .nodes
 
--- what the words say that `pack` leaves where it answers 0
+-- what the words say that `pack` leaves where it answers 0 [S25]
 pub record Returned (n : ℕ) (p : List ℤ) (ed : ℕ) (w : List ℤ) : Type 0 where
   pub opens : openNo form1 w ≡ 0
   pub same-points : pointsOf w ≡ pointsIn n p

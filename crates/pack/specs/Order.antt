@@ -16,6 +16,6 @@ placeIn o i k = firstB k (λ p. eqZ (at o p) (pos i))
 unfoldable pub listOk : List ℤ → ℕ → ℕ → Bool
 listOk o n i = isBelow n (at o i) && ltb (placeIn o i n) n
 
--- so it is for every i below n: the list is a permutation of 0 to n-1
+-- so it is for every i below n: the list is a permutation of 0 to n-1 [N16]
 unfoldable pub orderListOk : List ℤ → ℕ → Bool
 orderListOk o n = allB n (listOk o n)

@@ -45,9 +45,10 @@ unfoldable pub packWord : List ℤ → List ℤ → ℕ → ℕ → ℕ → ℤ
 packWord p o n ed i =
     cond (ltb i (5 * n + 7 * nodesFor n)) (bodyWord p o n i) (trailerWord n (nodesFor n) ed (i - (5 * n + 7 * nodesFor n)))
 
--- "A sheet is exactly span+6 words"
+-- "A sheet is exactly span+6 words" [N17]
 unfoldable pub sheetSize : ℕ → ℕ
 sheetSize n = 5 * n + 7 * nodesFor n + 6
 
+-- [S23]
 unfoldable pub packed : List ℤ → List ℤ → ℕ → ℕ → List ℤ
 packed p o n ed = tab (sheetSize n) (packWord p o n ed)

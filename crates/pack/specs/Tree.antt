@@ -32,7 +32,7 @@ unfoldable pub nodesFrom : ℕ → Due → ℕ
 nodesFrom zero d = 0
 nodesFrom (suc f) d = width d + cond (oneLeft d) 0 (nodesFrom f (above d))
 
--- the number of nodes of a tree over n points
+-- the number of nodes of a tree over n points [S23, S24]
 unfoldable pub nodesFor : ℕ → ℕ
 nodesFor n = nodesFrom n (ground n)
 
@@ -45,7 +45,7 @@ unfoldable pub nodeFrom : ℕ → Due → ℕ → Due
 nodeFrom zero d j = d
 nodeFrom (suc f) d j = cond (ltb j (d .head + width d)) (nodeOn d (j - d .head)) (nodeFrom f (above d) j)
 
--- node j of a tree over n points
+-- node j of a tree over n points [S23]
 unfoldable pub planOf : ℕ → ℕ → Due
 planOf n j = nodeFrom n (ground n) j
 

@@ -37,6 +37,7 @@ at x y = spot (pos x) (pos y)
 abbrev box : ℤ → ℤ → ℤ → ℤ → Boxed
 box a b c d = record { xmin = a; ymin = b; xmax = c; ymax = d }
 
+-- [X1, X2, X3, X4, X5, X6, X7, X8, X18]
 unfoldable pub table : List Case
 table =
     -- "(0,0),(4,0): (2,2) blocks, the product is 0. (2,3) doesn't, 5. (2,1) blocks, -3. another record at (0,0) blocks.": that turns round

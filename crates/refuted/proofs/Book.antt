@@ -41,12 +41,12 @@ abbrev isShut : Begun → Bool
 isShut (begun.Open b) = b .closed
 isShut (begun.Refused n) = false
 
--- A book is begun closed. "A book is begun for two editions with nothing held, open, key (0, 0)."
+-- A book is begun closed. "A book is begun for two editions with nothing held, open, key (0, 0)." [K1, D5]
 pub begun-closed-wrong : begunFor (source 7 9 full) ≡ begun.Open (book 0 true) → ⊥
 unfolding begunFor beginNo first given answer begunBook editionOk thresholdNo
 begun-closed-wrong e = true≢false (sym (ap isShut e))
 
--- Two editions of a self join. "Begin gives 3 for a self join of two editions, 21 with a t."
+-- Two editions of a self join. "Begin gives 3 for a self join of two editions, 21 with a t." [J12]
 abbrev editionsAlone : Source → ℕ
 editionsAlone s = given (not (editionOk (s .«p_edition») && editionOk (s .«q_edition»))) 3
 
@@ -54,7 +54,7 @@ pub two-alone-wrong : (editionsAlone (source 7 9 alone) ≡ 0) × (beginNo (sour
 unfolding beginNo first given editionOk
 two-alone-wrong = (refl, refl)
 
--- A self join with a t, which is in range.
+-- A self join with a t, which is in range. [J13]
 abbrev inRange : Source → ℕ
 inRange s = first (editionsAlone s ∷ thresholdNo (s .terms .threshold) ∷ [])
 
@@ -65,7 +65,7 @@ pub own-with-t-wrong : (inRange (ownWith 2) ≡ 0) × (beginNo (ownWith 2) ≡ 2
 unfolding beginNo first given editionOk thresholdNo
 own-with-t-wrong = (refl, refl)
 
--- t before the editions. "21 [..] after [..] 3 for begin".
+-- t before the editions. "21 [..] after [..] 3 for begin". [T10]
 abbrev thresholdFirst : Source → ℕ
 thresholdFirst s = first (thresholdNo (s .terms .threshold) ∷ editionsAlone s ∷ [])
 
@@ -75,7 +75,7 @@ begin-t-first-wrong = (refl, refl)
 
 -- ---- the next key
 
--- From the slot after the last held one, or from the first. "Its next key is its last pair."
+-- From the slot after the last held one, or from the first. "Its next key is its last pair." [K4]
 abbrev keyAfter : ℕ → List Pair → Key
 keyAfter held l = keyOf (getD l held none)
 
@@ -86,11 +86,12 @@ next-from-held-wrong = (refl, refl)
 abbrev keyFirst : ℕ → List Pair → Key
 keyFirst held l = keyOf (getD l 0 none)
 
+-- [K4]
 pub next-from-first-wrong : (keyFirst 2 slots ≡ key 5 1) × (lastKey 2 slots ≡ key 1 1)
 unfolding lastKey
 next-from-first-wrong = (refl, refl)
 
--- A closed book is asked for no key. "Asking the next key refuses only by 11."
+-- A closed book is asked for no key. "Asking the next key refuses only by 11." [N25]
 abbrev closedRefused : Book → ℕ → ℕ
 closedRefused b len = first (given (ltb len (b .held)) 11 ∷ given (b .closed) 12 ∷ [])
 
@@ -100,12 +101,12 @@ closed-refused-wrong = (refl, refl)
 
 -- ---- take
 
--- "a book that takes nothing": the answer to its own next request brings it on.
+-- "a book that takes nothing": the answer to its own next request brings it on. [K5, D6, V3]
 pub takes-nothing-wrong : taken (book 1 false) slots (page (key 5 1) false (to 5 2 36 ∷ [])) .book ≡ book 1 false → ⊥
 unfolding taken decided accepted refused advanced takeNo takeNoAt sourceNo first given answer sameKey pageBad pairsOk pairOk idOk sizeOk ascends follows pagePairs lastKey
 takes-nothing-wrong e = true≢false (ap (λ (b : Book). eqb (b .held) 2) e)
 
--- A page of any key. "14 page key is not the book's next key": else a page that comes again is appended again.
+-- A page of any key. "14 page key is not the book's next key": else a page that comes again is appended again. [N29, D4]
 abbrev anyKey : Book → List Pair → Page → ℕ
 anyKey b l g =
     first (given (ltb (length l) (b .held)) 11 ∷ given (b .closed) 12 ∷ sourceNo (b .source) (g .source) ∷ given (pageBad g) 15 ∷ given (ltb (length l - b .held) (g .count)) 16 ∷ [])
@@ -115,7 +116,7 @@ pub other-key-wrong :
 unfolding taken decided accepted refused advanced takeNo takeNoAt sourceNo first given answer sameKey pageBad pairsOk pairOk idOk sizeOk ascends follows pagePairs lastKey
 other-key-wrong = (refl, refl)
 
--- All sixteen pairs are stored whatever the page counts. "Slots past the held ones are never touched."
+-- All sixteen pairs are stored whatever the page counts. "Slots past the held ones are never touched." [K7]
 abbrev storedAll : Book → List Pair → Page → List Pair
 storedAll b l g = paste l (b .held) (g .pairs) 16
 
@@ -125,7 +126,7 @@ pub past-held-wrong :
 unfolding takenSlots taken decided accepted refused advanced takeNo takeNoAt sourceNo first given answer sameKey pageBad pairsOk pairOk idOk sizeOk ascends follows pagePairs lastKey
 past-held-wrong = (refl, refl)
 
--- A pair of any size. "15 is also given when a size lies outside 0 to 8,000,000,000,000."
+-- A pair of any size. "15 is also given when a size lies outside 0 to 8,000,000,000,000." [Z3]
 abbrev anySize : Pair → Bool
 anySize v = idOk (v .q) && idOk (v .p)
 
@@ -133,7 +134,7 @@ pub any-size-wrong : (anySize (to 5 2 8000000000001) ≡ true) × (pairOk (to 5 
 unfolding pairOk idOk sizeOk
 any-size-wrong = (refl, refl)
 
--- A full book takes nothing more. "A full book still takes an empty page with the end mark."
+-- A full book takes nothing more. "A full book still takes an empty page with the end mark." [N33]
 abbrev fullRefused : Book → List Pair → ℕ
 fullRefused b l = given (not (ltb (b .held) (length l))) 16
 
@@ -141,7 +142,7 @@ pub full-refused-wrong : (fullRefused (book 3 false) slots ≡ 16) × (takeNo (b
 unfolding taken decided accepted refused advanced takeNo takeNoAt sourceNo first given answer sameKey pageBad pairsOk pairOk idOk sizeOk ascends follows pagePairs lastKey
 full-refused-wrong = (refl, refl)
 
--- An empty page with no end mark. 15 is given for "no pair and no end mark".
+-- An empty page with no end mark. 15 is given for "no pair and no end mark". [N30]
 abbrev emptyOk : Page → Bool
 emptyOk g = not (ltb 16 (g .count)) && pairsOk (pagePairs g) && ascends (g .key) (pagePairs g)
 
@@ -149,7 +150,7 @@ pub empty-page-wrong : (emptyOk (page (key 5 1) false []) ≡ true) × (takeNo (
 unfolding taken decided accepted refused advanced takeNo takeNoAt sourceNo first given answer sameKey pageBad pairsOk pairOk idOk sizeOk ascends follows pagePairs lastKey
 empty-page-wrong = (refl, refl)
 
--- The book stays open. "closes the book if the end mark is set".
+-- The book stays open. "closes the book if the end mark is set". [K6]
 abbrev staysOpen : Book → Page → Book
 staysOpen b g = record { held = b .held + g .count; closed = false; source = b .source }
 

@@ -23,12 +23,12 @@ use Rattle.refuted.proofs.Cases.{at, to, key, pumps, chambers}
 
 -- ---- the list
 
--- "an unchanging list": whatever it holds, it is not the list of all points.
+-- "an unchanging list": whatever it holds, it is not the list of all points. [R3, D2, V2]
 pub unchanging-wrong : (l : List Pair) → ((P Q : List Point) → ringList P Q ≡ l) → ⊥
 unfolding ringList listBy rows row ringPair unblocked allB sameSpot blocks isNone
 unchanging-wrong l same = true≢false (ap isNone (same [] [] ∙ sym (same pumps chambers)))
 
--- Chambers alone block, or pump houses alone. "when no other record of P or Q blocks it".
+-- Chambers alone block, or pump houses alone. "when no other record of P or Q blocks it". [R3]
 abbrev chambersBlock : List Point → List Point → ℕ → ℕ → Bool
 chambersBlock P Q j i = unblocked Q (spotAt Q j) (spotAt P i)
 
@@ -39,11 +39,12 @@ chambers-alone-wrong = (refl, refl)
 abbrev pumpsBlock : List Point → List Point → ℕ → ℕ → Bool
 pumpsBlock P Q j i = unblocked P (spotAt Q j) (spotAt P i)
 
+-- [R3]
 pub pumps-alone-wrong : (pumpsBlock (at 1 4 0 ∷ []) (at 5 0 0 ∷ at 6 2 0 ∷ []) 0 0 ≡ true) × (ringPair (at 1 4 0 ∷ []) (at 5 0 0 ∷ at 6 2 0 ∷ []) 0 0 ≡ false)
 unfolding ringPair unblocked allB sameSpot blocks
 pumps-alone-wrong = (refl, refl)
 
--- By p id, then q id. "The list runs by q id, then p id."
+-- By p id, then q id. "The list runs by q id, then p id." [R4]
 abbrev byPump : List Point → List Point → List Pair
 byPump P Q = listBy (λ i j. ringPair P Q j i) (λ i j. pairAt P Q j i) (length Q) (length P)
 
@@ -53,7 +54,7 @@ pub by-pump-wrong :
 unfolding ringList listBy rows row ringPair unblocked allB sameSpot blocks
 by-pump-wrong = (refl, refl)
 
--- The size of a pair from one of its ends. "Each pair [..] now has its squared diameter beside the ids."
+-- The size of a pair from one of its ends. "Each pair [..] now has its squared diameter beside the ids." [Z1]
 abbrev sizeOfEnd : Spot → Spot → ℕ
 sizeOfEnd a b = natAbs (size a a)
 
@@ -61,14 +62,14 @@ pub size-of-one-end-wrong : (sizeOfEnd (spotAt chambers 0) (spotAt pumps 0) ≡ 
 size-of-one-end-wrong = (refl, refl)
 
 -- Every chamber has a pair with the pump house nearest to it. Request 6 speaks of the least distance "of all such couples": here chamber 5's one pump house is
--- blocked by chamber 6.
+-- blocked by chamber 6. [R6]
 pub own-nearest-wrong : ringPair (at 1 4 0 ∷ []) (at 5 0 0 ∷ at 6 2 0 ∷ []) 0 0 ≡ true → ⊥
 unfolding ringPair unblocked allB sameSpot blocks
 own-nearest-wrong e = true≢false (sym e)
 
 -- ---- a chamber's partners
 
--- More than t partners. "Which chambers have at least t partners."
+-- More than t partners. "Which chambers have at least t partners." [T3]
 abbrev moreThan : ℕ → List Point → List Point → List Pair
 moreThan t P Q = listBy (atLeast (ringPair P Q) (pairAt P Q) (suc t) (length P)) (pairAt P Q) (length P) (length Q)
 
@@ -76,7 +77,7 @@ pub more-than-t-wrong : (moreThan 2 pumps chambers ≡ []) × (listFor (withT 2)
 unfolding listBy rows row atLeast pairFor listedFor listFor ringPair unblocked allB sameSpot blocks
 more-than-t-wrong = (refl, refl)
 
--- The first t pairs of such a chamber. "with all their pairs".
+-- The first t pairs of such a chamber. "with all their pairs". [T3]
 abbrev firstOnes : ℕ → List Point → List Point → List Pair
 firstOnes t P Q = take t (listFor (withT t) P Q)
 
@@ -84,7 +85,7 @@ pub first-t-wrong : (firstOnes 1 pumps chambers ≡ to 5 1 16 ∷ []) × (listFo
 unfolding listBy rows row atLeast pairFor listedFor listFor ringPair unblocked allB sameSpot blocks
 first-t-wrong = (refl, refl)
 
--- t up to 999. 21 is given for "t outside 0 to 1,000".
+-- t up to 999. 21 is given for "t outside 0 to 1,000". [T9]
 abbrev belowThousand : ℕ → ℕ
 belowThousand t = given (not (ltb t 1000)) 21
 
@@ -94,13 +95,13 @@ below-thousand-wrong = (refl, refl)
 
 -- ---- the self join
 
--- The list of one sheet in both places. "One sheet used as both P and Q doesn't give a self join": each record is listed with itself, and two both ways.
+-- The list of one sheet in both places. "One sheet used as both P and Q doesn't give a self join": each record is listed with itself, and two both ways. [B4, J1]
 pub both-ways-wrong :
     (ringList pumps pumps ≡ to 1 1 0 ∷ to 1 2 100 ∷ to 2 1 100 ∷ to 2 2 0 ∷ []) × (listFor alone pumps pumps ≡ to 1 2 100 ∷ [])
 unfolding ringList listBy rows row atLeast pairFor listedFor listFor ringPair unblocked allB sameSpot blocks
 both-ways-wrong = (refl, refl)
 
--- The higher id first. "lower id first".
+-- The higher id first. "lower id first". [J1]
 abbrev highFirst : List Point → List Pair
 highFirst S = listBy (λ j i. ltb (idAt S i) (idAt S j) && ringPair S S j i) (pairAt S S) (length S) (length S)
 
@@ -110,7 +111,7 @@ high-first-wrong = (refl, refl)
 
 -- ---- pages
 
--- "Setting the end mark only when the page is not full: a full last page has it too."
+-- "Setting the end mark only when the page is not full: a full last page has it too." [P5, V11]
 abbrev markNotFull : List Pair → Key → ℕ → Bool
 markNotFull l k n = ltb (length (shown l k n)) n
 
@@ -124,7 +125,7 @@ pub mark-not-full-wrong : (markNotFull three (key 5 2) 1 ≡ false) × (pageOf o
 unfolding pageOf shown after follows lastOr isNone
 mark-not-full-wrong = (refl, refl)
 
--- "a page maker honest on the first page and then closing with an empty one": the page of (5, 2) shows a pair.
+-- "a page maker honest on the first page and then closing with an empty one": the page of (5, 2) shows a pair. [P4, P5, V5]
 abbrev closesEmpty : List Pair → Key → ℕ → List Pair
 closesEmpty l k n = cond (eqb (k .q) 0) (shown l k n) []
 
@@ -132,7 +133,7 @@ pub closes-empty-wrong : (closesEmpty three (key 5 2) 2 ≡ []) × (shown three 
 unfolding shown after follows
 closes-empty-wrong = (refl, refl)
 
--- From the key on. "strictly after the key".
+-- From the key on. "strictly after the key". [P4]
 abbrev fromKey : Key → List Pair → List Pair
 fromKey k [] = []
 fromKey k (v ∷ l) = cond (follows (keyOf v) k) (fromKey k l) (v ∷ fromKey k l)
@@ -141,7 +142,7 @@ pub from-key-wrong : (take 1 (fromKey (key 5 2) three) ≡ to 5 2 36 ∷ []) × 
 unfolding shown after follows
 from-key-wrong = (refl, refl)
 
--- Any size up to 16. "a size 1 to 16": 0 is refused by 10, and so is it of the k shortest and of the pump houses nearest first.
+-- Any size up to 16. "a size 1 to 16": 0 is refused by 10, and so is it of the k shortest and of the pump houses nearest first. [P1, N23, G10, H3, H5]
 abbrev upToSixteen : ℕ → ℕ
 upToSixteen n = given (not (leb n 16)) 10
 
@@ -160,7 +161,7 @@ own e = record { «p_edition» = e; «q_edition» = e; terms = alone }
 abbrev differs : Source → Source → Bool
 differs a b = not (eqb (a .«p_edition») (b .«p_edition») && eqb (a .«q_edition») (b .«q_edition»))
 
--- The editions alone. "31 page of another t".
+-- The editions alone. "31 page of another t". [T6, T11]
 abbrev editionsAlone : Source → Source → ℕ
 editionsAlone a b = given (differs a b) 13
 
@@ -168,12 +169,12 @@ pub other-t-wrong : (editionsAlone (ofT 0) (ofT 2) ≡ 0) × (sourceNo (ofT 0) (
 unfolding sourceNo first given
 other-t-wrong = (refl, refl)
 
--- "so that no self join's page enters a two-sheet book".
+-- "so that no self join's page enters a two-sheet book". [J10]
 pub other-kind-wrong : (editionsAlone (ofT 0) (own 7) ≡ 0) × (sourceNo (ofT 0) (own 7) ≡ 22)
 unfolding sourceNo first given
 other-kind-wrong = (refl, refl)
 
--- The editions before the kind. "22 wrong kind, after 12 and before 13".
+-- The editions before the kind. "22 wrong kind, after 12 and before 13". [N32, J11]
 abbrev kindLast : Source → Source → ℕ
 kindLast a b = first (editionsAlone a b ∷ given (a .terms .own || b .terms .own) 22 ∷ [])
 
@@ -181,7 +182,7 @@ pub kind-last-wrong : (kindLast (ofT 0) (own 8) ≡ 13) × (sourceNo (ofT 0) (ow
 unfolding sourceNo first given
 kind-last-wrong = (refl, refl)
 
--- t before the editions. "31 page of another t, after 13".
+-- t before the editions. "31 page of another t, after 13". [N32, T11]
 abbrev thresholdFirst : Source → Source → ℕ
 thresholdFirst a b = first (given (not (eqb (a .terms .threshold) (b .terms .threshold))) 31 ∷ editionsAlone a b ∷ [])
 

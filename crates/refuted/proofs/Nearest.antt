@@ -36,7 +36,7 @@ use Rattle.refuted.proofs.Cases.{pumps, chambers, pumpSheet, chamberShe
 
 -- ---- the order
 
--- Points before boxes, on a tie. "on a tie, boxes before points": the point at (0, 0) and its leaf's box are as near to (0, 0).
+-- Points before boxes, on a tie. "on a tie, boxes before points": the point at (0, 0) and its leaf's box are as near to (0, 0). [G2]
 abbrev pointsFirst : List ℤ → Spot → ℕ → ℕ → Bool
 pointsFirst w q e f = ltb (distance w 2 1 q e) (distance w 2 1 q f) || (eqb (distance w 2 1 q e) (distance w 2 1 q f) && ltb f e)
 
@@ -48,7 +48,7 @@ pub points-first-wrong :
 unfolding before distance boxOf sideOf spotOf num
 points-first-wrong = (refl, refl)
 
--- The higher position, on a tie. "then lower position or node": (4, 0) and (6, 0) are as near to (5, 0).
+-- The higher position, on a tie. "then lower position or node": (4, 0) and (6, 0) are as near to (5, 0). [G2]
 abbrev between : List ℤ
 between = line 1 4 2 6 4 6
 
@@ -58,7 +58,7 @@ pub higher-first-wrong :
 unfolding before distance boxOf sideOf spotOf num
 higher-first-wrong = (refl, refl)
 
--- By position. "the box or point with the least squared distance to q first".
+-- By position. "the box or point with the least squared distance to q first". [G1, G3]
 abbrev byPosition : List ℤ → List ℕ
 byPosition w = tab (points w) (λ i. i)
 
@@ -68,7 +68,7 @@ near-by-position-wrong = (refl, refl)
 
 -- ---- the filter
 
--- No box is opened. "Pairs made with its kept set equal the list": chamber 5 and pump house 1 are one, and it is not kept.
+-- No box is opened. "Pairs made with its kept set equal the list": chamber 5 and pump house 1 are one, and it is not kept. [G4, G5]
 abbrev neverOpened : List ℤ → Spot → Kept
 neverOpened w q = nearAll w 2 1 q (λ j k. true) (λ k. soFar (k .bits) (k .opened + 1)) (λ i k. soFar (consider w 2 q i (k .bits)) (k .opened)) (soFar (none 1) 0)
 
@@ -81,7 +81,7 @@ near-skipped-wrong = (refl, refl, refl)
 
 -- ---- the lent numbers
 
--- One number too few. "a lent slice of at least n + m entries": two points and a node need three.
+-- One number too few. "a lent slice of at least n + m entries": two points and a node need three. [G6, G9]
 abbrev oneLess : List ℤ → ℕ → ℕ
 oneLess P len = given (ltb (len + 1) (points P + nodes P)) 25
 
@@ -89,7 +89,7 @@ pub one-too-few-wrong : (oneLess pumpSheet 2 ≡ 0) × (waitNo pumpSheet 2 ≡ 2
 unfolding waitNo given num
 one-too-few-wrong = (refl, refl)
 
--- One more than is needed. Exactly n + m are enough.
+-- One more than is needed. Exactly n + m are enough. [G6, G9]
 abbrev oneMore : List ℤ → ℕ → ℕ
 oneMore P len = given (leb len (points P + nodes P)) 25
 
@@ -100,7 +100,7 @@ just-enough-wrong = (refl, refl)
 abbrev lent : List ℕ
 lent = 9 ∷ 9 ∷ 9 ∷ 9 ∷ []
 
--- All are zero after an answer. "the first n + m zero after an answer, the rest untouched".
+-- All are zero after an answer. "the first n + m zero after an answer, the rest untouched". [G7, G8]
 abbrev allZero : List ℕ → List ℕ
 allZero ws = replicate (length ws) 0
 
@@ -108,14 +108,14 @@ pub rest-wiped-wrong : (allZero lent ≡ 0 ∷ 0 ∷ 0 ∷ 0 ∷ []) × (waitedB
 unfolding waitedBy answer wiped num
 rest-wiped-wrong = (refl, refl)
 
--- A refused call writes. A refusal "leaves lent memory [..] as they stood".
+-- A refused call writes. A refusal "leaves lent memory [..] as they stood". [G11]
 pub refused-writes-wrong : (wiped 1 lent ≡ 0 ∷ 9 ∷ 9 ∷ 9 ∷ []) × (waitedBy 25 pumpSheet lent ≡ lent)
 unfolding waitedBy answer wiped
 refused-writes-wrong = (refl, refl)
 
 -- ---- numbers of refusal
 
--- The size before the id, and the slice before the size. "Refusals: 20, 10 [..], then 25".
+-- The size before the id, and the slice before the size. "Refusals: 20, 10 [..], then 25". [G10]
 abbrev sizeFirst : List ℤ → ℕ → ℕ → ℕ
 sizeFirst Q id size = first (sizeNo size ∷ idNo (pointsOf Q) id ∷ [])
 
@@ -126,6 +126,7 @@ size-first-wrong = (refl, refl)
 abbrev sliceFirst : List ℤ → ℕ → ℕ → ℕ
 sliceFirst P size len = first (waitNo P len ∷ sizeNo size ∷ [])
 
+-- [G10]
 pub slice-first-wrong : (sliceFirst pumpSheet 0 0 ≡ 25) × (nearestNo pumpSheet chamberSheet 5 0 0 ≡ 10)
 unfolding nearestNo sizeNo idNo positionOf firstB pointsOf tab spotOf waitNo openNo bodyNo trailerNo first given countsOk within editionWord layoutOk rootWord pointsOk pointOk fieldsOk risesOk idWord coordWord wordBefore orderOk placeOk isBelow rankOf orderOf nodesOk tableOk nodeOk nodeRule runOk endOk isLast sameLevel dueOf dueNext tightOk tightSide best better minZ maxZ coordOf sideOf levelOf firstOf countOf eqZ num allB form1
 slice-first-wrong = (refl, refl)

@@ -45,7 +45,7 @@ use Rattle.refuted.proofs.Cases.{key, chambers, pumpSheet, chamberSheet
 
 -- ---- the count of nodes opened
 
--- "an invented number of nodes opened": one for each chamber. Over a sheet of nothing no node is opened.
+-- "an invented number of nodes opened": one for each chamber. Over a sheet of nothing no node is opened. [P8, V6]
 abbrev oneEach : Walks → Walks
 oneEach w = record { kept = w .kept; keptOpened = λ j. 1; clear = w .clear; clearOpened = w .clearOpened; qid = w .qid; pair = w .pair }
 
@@ -54,7 +54,7 @@ pub invented-count-wrong :
 unfolding pageOpened steps ringSteps spentOn firstFrom firstB follows pointsOf tab pairWalk filterKept filterVisit filterTake filterPlace consider dropped shut some none kept with bitAt digit drops dropsBox inBox ringWalk ringOn ringVisit ringTake meet enter walkAll walk inTurn levelOf firstOf countOf boxOf sideOf spotOf orderOf num blocks sameSpot far sideIn inside
 invented-count-wrong = (refl, refl)
 
--- Partners before the key are walked too. "its kept partners after the key are ring-walked in id order".
+-- Partners before the key are walked too. "its kept partners after the key are ring-walked in id order". [P10]
 abbrev earlyWalked : Walks → Key → ℕ → ℕ → ℕ → ℕ
 earlyWalked w k size np nq = pageOpened w (key (k .q) 0) size np nq
 
@@ -63,14 +63,14 @@ pub early-walked-wrong :
 unfolding pageOpened steps ringSteps spentOn firstFrom firstB follows pointsOf tab pairWalk filterKept filterVisit filterTake filterPlace consider dropped shut some none kept with bitAt digit drops dropsBox inBox ringWalk ringOn ringVisit ringTake meet enter walkAll walk inTurn levelOf firstOf countOf boxOf sideOf spotOf orderOf num blocks sameSpot far sideIn inside
 early-walked-wrong = (refl, refl)
 
--- The work stops with the page's last pair. "the work stops at the first pair beyond the size, or after the last q".
+-- The work stops with the page's last pair. "the work stops at the first pair beyond the size, or after the last q". [P11]
 pub stops-full-wrong :
     (spentOn 1 (steps (walksOf 1 pumpSheet chamberSheet) start 2 2 0) ≡ 5) × (pageOpened (walksOf 1 pumpSheet chamberSheet) start 2 2 2 ≡ 8)
 unfolding pageOpened steps ringSteps spentOn firstFrom firstB follows pointsOf tab pairWalk filterKept filterVisit filterTake filterPlace consider dropped shut some none kept with bitAt digit drops dropsBox inBox ringWalk ringOn ringVisit ringTake meet enter walkAll walk inTurn levelOf firstOf countOf boxOf sideOf spotOf orderOf num blocks sameSpot far sideIn inside
 stops-full-wrong = (refl, refl)
 
 -- The count of t is that of the full list. "With t above 0 a page's count takes in all kept partners of each chamber reached, the last one too": one chamber with
--- three partners, of which the third is walked after the second, the first pair beyond the size.
+-- three partners, of which the third is walked after the second, the first pair beyond the size. [T7]
 abbrev corners : List ℤ
 corners = words (1 ∷ 0 ∷ 0 ∷ 2 ∷ 10 ∷ 0 ∷ 3 ∷ 5 ∷ 12 ∷ 0 ∷ 1 ∷ 2 ∷ 0 ∷ 1 ∷ 2 ∷ 0 ∷ 0 ∷ 3 ∷ 0 ∷ 0 ∷ 10 ∷ 12 ∷ 22 ∷ 7 ∷ 3 ∷ 1 ∷ 7 ∷ 1 ∷ [])
 
@@ -81,7 +81,7 @@ pub count-of-t-wrong : (pageOpened (walksOf 1 corners middle) start 1 3 1 ≡ 5)
 unfolding walksFor allWalked ringOpened foundFor sumOver row pageOpened steps ringSteps spentOn firstFrom firstB follows pointsOf tab pairWalk filterKept filterVisit filterTake filterPlace consider dropped shut some none kept with bitAt digit drops dropsBox inBox ringWalk ringOn ringVisit ringTake meet enter walkAll walk inTurn levelOf firstOf countOf boxOf sideOf spotOf orderOf num blocks sameSpot far sideIn inside
 count-of-t-wrong = (refl, refl)
 
--- q is walked with itself, in a self join. "Pairs of two different records"; "kept partners of higher id get one ring walk".
+-- q is walked with itself, in a self join. "Pairs of two different records"; "kept partners of higher id get one ring walk". [J8, J9]
 abbrev withItself : List ℤ → Walks
 withItself S =
     record {
@@ -98,7 +98,7 @@ pub with-itself-wrong :
 unfolding passKept passTake pageOpened steps ringSteps spentOn firstFrom firstB follows pointsOf tab pairWalk filterKept filterVisit filterTake filterPlace consider dropped shut some none kept with bitAt digit drops dropsBox inBox ringWalk ringOn ringVisit ringTake meet enter walkAll walk inTurn levelOf firstOf countOf boxOf sideOf spotOf orderOf num blocks sameSpot far sideIn inside
 with-itself-wrong = (refl, refl)
 
--- Both sheets are walked for a pair of a self join: "one ring walk".
+-- Both sheets are walked for a pair of a self join: "one ring walk". [J9]
 abbrev walkedTwice : List ℤ → Walks
 walkedTwice S =
     record {
@@ -120,12 +120,12 @@ walked-twice-wrong = (refl, refl)
 abbrev request : Request
 request = record { key = start; size = 2; threshold = 0 }
 
--- "refusing all": the document's own request is served.
+-- "refusing all": the document's own request is served. [N22, D2, V1]
 pub refusing-all-wrong : (k : ℕ) → pageAnswer pumpSheet chamberSheet request ≡ pageRefused (suc k) → ⊥
 unfolding pageAnswer pageNo pageGiven pageRefused answer keyNo sizeNo thresholdNo openNo bodyNo trailerNo first given countsOk within editionWord layoutOk rootWord pointsOk pointOk fieldsOk risesOk idWord coordWord before orderOk placeOk isBelow rankOf orderOf nodesOk tableOk nodeOk nodeRule runOk endOk isLast sameLevel dueOf dueNext tightOk tightSide best better minZ maxZ coordOf sideOf levelOf firstOf countOf eqZ num allB form1
 refusing-all-wrong k e = let z : 0 ≡ suc k = ap (λ (r : Paged). r .number) e in omega arith
 
--- Q before P. "1 to 8 for P, then for Q": P has another form number, and Q has under 6 words.
+-- Q before P. "1 to 8 for P, then for Q": P has another form number, and Q has under 6 words. [N18]
 abbrev chambersFirst : List ℤ → List ℤ → ℕ
 chambersFirst P Q = first (sheetNo Q ∷ sheetNo P ∷ [])
 
@@ -133,7 +133,7 @@ pub chambers-first-wrong : (chambersFirst noForm [] ≡ 1) × (sheetsNo noForm [
 unfolding sheetsNo openNo trailerNo first given eqZ
 chambers-first-wrong = (refl, refl)
 
--- A key's ids are from 1. "each 0 to 2,000,000,000".
+-- A key's ids are from 1. "each 0 to 2,000,000,000". [P1, N22]
 abbrev fromOne : Key → ℕ
 fromOne k = given (not (leb 1 (k .q) && leb (k .q) lastId && leb 1 (k .p) && leb (k .p) lastId)) 9
 
@@ -141,7 +141,7 @@ pub key-from-one-wrong : (fromOne start ≡ 9) × (keyNo start ≡ 0)
 unfolding keyNo given
 key-from-one-wrong = (refl, refl)
 
--- t before the size. "21 [..] after 10 for a page".
+-- t before the size. "21 [..] after 10 for a page". [T10]
 abbrev tBeforeSize : Key → ℕ → ℕ → ℕ
 tBeforeSize k size t = first (keyNo k ∷ thresholdNo t ∷ sizeNo size ∷ [])
 
@@ -151,17 +151,17 @@ t-before-size-wrong = (refl, refl)
 
 -- ---- a chamber's partners
 
--- The id of a pump house. "20 unknown q id".
+-- The id of a pump house. "20 unknown q id". [T8]
 pub pump-id-wrong : (idNo (pointsOf pumpSheet) 1 ≡ 0) × (idNo (pointsOf chamberSheet) 1 ≡ 20)
 unfolding idNo given positionOf firstB pointsOf tab spotOf num
 pump-id-wrong = (refl, refl)
 
--- t of 0 in the single question, as in a page's. "21 t outside 0 to 1,000, or 0 in the single question".
+-- t of 0 in the single question, as in a page's. "21 t outside 0 to 1,000, or 0 in the single question". [T9]
 pub t-of-none-wrong : (thresholdNo 0 ≡ 0) × (leastNo 0 ≡ 21)
 unfolding thresholdNo leastNo given
 t-of-none-wrong = (refl, refl)
 
--- t before the id: 20, then 21.
+-- t before the id: 20, then 21. [T10]
 abbrev tBeforeId : List Point → ℕ → ℕ → ℕ
 tBeforeId Q id t = first (leastNo t ∷ idNo Q id ∷ [])
 
@@ -169,7 +169,7 @@ pub t-before-id-wrong : (tBeforeId chambers 1 0 ≡ 21) × (partnersNo nothing n
 unfolding partnersNo idNo leastNo positionOf firstB pointsOf tab openNo bodyNo trailerNo first given countsOk within editionWord layoutOk rootWord pointsOk pointOk fieldsOk risesOk idWord coordWord before orderOk placeOk isBelow rankOf orderOf nodesOk tableOk nodeOk nodeRule runOk endOk isLast sameLevel dueOf dueNext tightOk tightSide best better minZ maxZ coordOf sideOf levelOf firstOf countOf eqZ num allB form1
 t-before-id-wrong = (refl, refl)
 
--- All partners. "the smaller of t and the number of its pairs in the list".
+-- All partners. "the smaller of t and the number of its pairs in the list". [T1]
 abbrev allPartners : List ℤ → List ℤ → ℕ → ℕ
 allPartners P Q id = length (chamberPairs id (ringList (pointsOf P) (pointsOf Q)))
 

@@ -16,7 +16,7 @@ box a b c d = record { xmin = pos a; ymin = pos b; xmax = pos c; ymax = pos d }
 
 -- ---- the ring rule
 
--- A point on the circle itself does not block. "x blocks the pair a, b when (a-x)·(b-x) <= 0": (2,2) does.
+-- A point on the circle itself does not block. "x blocks the pair a, b when (a-x)·(b-x) <= 0": (2,2) does. [R1, R2, X1]
 abbrev openCircle : Spot → Spot → Spot → Bool
 openCircle a b z = ltZ (dot a b z) (pos 0) && not (sameSpot z a) && not (sameSpot z b)
 
@@ -24,7 +24,7 @@ pub open-circle-wrong : (openCircle (at 0 0) (at 4 0) (at 2 2) ≡ false) × (bl
 unfolding blocks sameSpot
 open-circle-wrong = (refl, refl)
 
--- The rule from before request 3. "A record at exactly the place of either end doesn't count as another point."
+-- The rule from before request 3. "A record at exactly the place of either end doesn't count as another point." [O1, X2]
 abbrev endSpot : Spot → Spot → Spot → Bool
 endSpot a b z = leZ (dot a b z) (pos 0)
 
@@ -32,7 +32,7 @@ pub end-spot-wrong : (endSpot (at 0 0) (at 4 0) (at 0 0) ≡ true) × (blocks (a
 unfolding blocks sameSpot
 end-spot-wrong = (refl, refl)
 
--- Only the place of the first end is excused: "either end".
+-- Only the place of the first end is excused: "either end". [O1, O3]
 abbrev oneEnd : Spot → Spot → Spot → Bool
 oneEnd a b z = leZ (dot a b z) (pos 0) && not (sameSpot z a)
 
@@ -42,7 +42,7 @@ one-end-wrong = (refl, refl)
 
 -- ---- the filter
 
--- A kept point at q's place skips a point. "A kept point at q's place skips nothing."
+-- A kept point at q's place skips a point. "A kept point at q's place skips nothing." [O2]
 abbrev keptAtQ : Spot → Spot → Spot → Bool
 keptAtQ q p z = behind q p z && not (sameSpot p z)
 
@@ -61,7 +61,7 @@ pub record Loses (rule : Spot → Spot → Boxed → Bool) : Type 0 where
   pub kept : drops q p z ≡ false
   pub right : dropsBox q p o ≡ false
 
--- "Skipping a box when its centre, or three corners, lie behind the line." Three corners: the fourth is not behind it.
+-- "Skipping a box when its centre, or three corners, lie behind the line." Three corners: the fourth is not behind it. [W4, V10]
 abbrev threeCorners : Spot → Spot → Boxed → Bool
 threeCorners q p o =
     behind q p (spot (o .xmin) (o .ymin)) && behind q p (spot (o .xmin) (o .ymax)) && behind q p (spot (o .xmax) (o .ymin)) && not (sameSpot p q) && not (inBox o p)
@@ -70,7 +70,7 @@ pub three-corners-wrong : Loses threeCorners
 unfolding inBox drops blocks sameSpot dropsBox
 three-corners-wrong = record { q = at 10 10; p = at 2 2; o = box 0 0 4 1; z = at 4 1; skipped = refl; holds = refl; kept = refl; right = refl }
 
--- The centre: half of the box may lie before the line.
+-- The centre: half of the box may lie before the line. [V9]
 abbrev centreBehind : Spot → Spot → Boxed → Bool
 centreBehind q p o = behind q p (spot (shrZ (o .xmin +ℤ o .xmax) 2) (shrZ (o .ymin +ℤ o .ymax) 2)) && not (sameSpot p q) && not (inBox o p)
 
@@ -78,7 +78,7 @@ pub centre-behind-wrong : Loses centreBehind
 unfolding inBox drops blocks sameSpot dropsBox
 centre-behind-wrong = record { q = at 10 0; p = at 4 0; o = box 0 1 8 1; z = at 8 1; skipped = refl; holds = refl; kept = refl; right = refl }
 
--- The corner nearest along the way from p to q: "Only the corner farthest along the direction from the kept point to q can decide".
+-- The corner nearest along the way from p to q: "Only the corner farthest along the direction from the kept point to q can decide". [W9]
 abbrev nearEnd : ℤ → ℤ → ℤ → ℤ → ℤ
 nearEnd q p lo hi = cond (ltZ p q) lo hi
 
@@ -90,7 +90,7 @@ pub nearest-corner-wrong : Loses nearestCorner
 unfolding inBox drops blocks sameSpot dropsBox
 nearest-corner-wrong = record { q = at 10 0; p = at 4 0; o = box 0 1 8 1; z = at 8 1; skipped = refl; holds = refl; kept = refl; right = refl }
 
--- A box that contains the kept point is skipped. "A box containing the kept point's place is opened as far as that point goes": another point may stand there.
+-- A box that contains the kept point is skipped. "A box containing the kept point's place is opened as far as that point goes": another point may stand there. [O4, X4]
 abbrev keptInside : Spot → Spot → Boxed → Bool
 keptInside q p o =
     behind q p (spot (o .xmin) (o .ymin)) && behind q p (spot (o .xmin) (o .ymax)) && behind q p (spot (o .xmax) (o .ymin)) && behind q p (spot (o .xmax) (o .ymax))
@@ -100,7 +100,7 @@ pub kept-inside-wrong : Loses keptInside
 unfolding inBox drops blocks sameSpot dropsBox
 kept-inside-wrong = record { q = at 0 0; p = at 3 0; o = box 3 0 9 4; z = at 3 0; skipped = refl; holds = refl; kept = refl; right = refl }
 
--- A kept point at q's place skips a box.
+-- A kept point at q's place skips a box. [O2]
 abbrev boxAtQ : Spot → Spot → Boxed → Bool
 boxAtQ q p o =
     behind q p (spot (o .xmin) (o .ymin)) && behind q p (spot (o .xmin) (o .ymax)) && behind q p (spot (o .xmax) (o .ymin)) && behind q p (spot (o .xmax) (o .ymax))
@@ -112,7 +112,7 @@ box-at-q-wrong = record { q = at 3 0; p = at 3 0; o = box 4 0 9 4; z = at 4 0; s
 
 -- ---- the ring walk's rules
 
--- "Halving the centre in whole numbers": a box is called far and holds a place that blocks.
+-- "Halving the centre in whole numbers": a box is called far and holds a place that blocks. [W13, V8]
 abbrev halvedGap : Spot → Spot → Boxed → ℤ
 halvedGap a b o =
     sq (out (pos 2 *ℤ o .xmin) (pos 2 *ℤ o .xmax) (pos 2 *ℤ shrZ (a .x +ℤ b .x) 2)) +ℤ sq (out (pos 2 *ℤ o .ymin) (pos 2 *ℤ o .ymax) (pos 2 *ℤ shrZ (a .y +ℤ b .y) 2))
@@ -125,7 +125,7 @@ pub halved-centre-wrong :
 unfolding far blocks sameSpot
 halved-centre-wrong = (refl, refl, refl)
 
--- "Letting a side that touches the circle block: the touching point may be the end itself. A leaf holding only p would kill every pair of p."
+-- "Letting a side that touches the circle block: the touching point may be the end itself. A leaf holding only p would kill every pair of p." [W14, V7]
 abbrev touching : Spot → Spot → Spot → Bool
 touching a b c = leZ (dot a b c) (pos 0)
 
@@ -137,7 +137,7 @@ pub touching-side-wrong :
 unfolding sideIn inside blocks sameSpot
 touching-side-wrong = (refl, refl, refl)
 
--- Right is named before bottom. "the first that qualifies of left, bottom, right, top".
+-- Right is named before bottom. "the first that qualifies of left, bottom, right, top". [E1]
 abbrev rightFirst : Spot → Spot → Boxed → ℕ
 rightFirst a b o = cond (cornersIn a b o 0) 0 (cond (cornersIn a b o 2) 2 (cond (cornersIn a b o 1) 1 (cond (cornersIn a b o 3) 3 4)))
 

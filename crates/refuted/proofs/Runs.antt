@@ -39,7 +39,7 @@ use Rattle.refuted.proofs.Cases.{words, to, pumpSheet, chamberSheet}
 abbrev tall : List ℤ
 tall = replicate 85 (pos 0) ++ words (0 ∷ 0 ∷ 16 ∷ 0 ∷ 0 ∷ 0 ∷ 0 ∷ 0 ∷ 16 ∷ 1 ∷ 0 ∷ 0 ∷ 0 ∷ 0 ∷ 1 ∷ 0 ∷ 2 ∷ 0 ∷ 0 ∷ 0 ∷ 0 ∷ 106 ∷ 7 ∷ 17 ∷ 3 ∷ 7 ∷ 1 ∷ [])
 
--- A node above the leaves is taken for a leaf. "19 no such leaf".
+-- A node above the leaves is taken for a leaf. "19 no such leaf". [L8]
 abbrev anyNode : List ℤ → ℕ → ℕ
 anyNode Q v = given (not (ltb v (nodes Q))) 19
 
@@ -47,7 +47,7 @@ pub node-for-leaf-wrong : (anyNode tall 2 ≡ 0) × (leafNo tall 2 ≡ 19)
 unfolding leafNo given levelOf num
 node-for-leaf-wrong = (refl, refl)
 
--- A number past the table, where zeros are read, is taken for a leaf.
+-- A number past the table, where zeros are read, is taken for a leaf. [L8]
 abbrev pastTable : List ℤ → ℕ → ℕ
 pastTable Q v = given (not (eqb (levelOf Q (points Q) v) 0)) 19
 
@@ -58,7 +58,7 @@ past-table-wrong = (refl, refl)
 abbrev three : List Pair
 three = to 5 1 16 ∷ to 5 2 36 ∷ to 6 2 37 ∷ []
 
--- Pairs that just fill the slots are refused. "16 exactly when the pairs outnumber the slots".
+-- Pairs that just fill the slots are refused. "16 exactly when the pairs outnumber the slots". [L9]
 abbrev justFits : List Pair → ℕ → ℕ
 justFits l len = given (leb len (length l)) 16
 
@@ -66,7 +66,7 @@ pub just-fits-wrong : (justFits three 3 ≡ 16) × (roomNo three 3 ≡ 0)
 unfolding roomNo given
 just-fits-wrong = (refl, refl)
 
--- 16 before 19. "19 no such leaf, then 16": with no such leaf and no slot lent it is 19.
+-- 16 before 19. "19 no such leaf, then 16": with no such leaf and no slot lent it is 19. [L8, L9]
 abbrev roomFirst : ℕ → List ℤ → ℕ → ℕ
 roomFirst len Q v = first (given (eqb len 0) 16 ∷ leafNo Q v ∷ [])
 
@@ -76,7 +76,7 @@ room-first-wrong = (refl, refl)
 
 -- ---- the slots
 
--- The slots past the pairs go. "the rest of the slice isn't touched".
+-- The slots past the pairs go. "the rest of the slice isn't touched". [L2]
 abbrev restGone : List ℤ → List ℤ → ℕ → List Pair → List Pair
 restGone P Q v slots = leafList P Q v ++ replicate (length (drop (length (leafList P Q v)) slots)) none
 
@@ -88,7 +88,7 @@ pub rest-touched-wrong :
 unfolding runSlots runNo leafNo roomNo answer leafList chamberAt listBy rows row ringPair unblocked blocks sameSpot pointsOf tab spotOf openNo bodyNo trailerNo first given countsOk within editionWord layoutOk rootWord pointsOk pointOk fieldsOk risesOk idWord coordWord before orderOk placeOk isBelow rankOf orderOf nodesOk tableOk nodeOk nodeRule runOk endOk isLast sameLevel dueOf dueNext tightOk tightSide best better minZ maxZ coordOf sideOf levelOf firstOf countOf eqZ num allB form1
 rest-touched-wrong = (refl, refl)
 
--- By q id. "by place, then p id": in this leaf chamber 6 stands at the first place.
+-- By q id. "by place, then p id": in this leaf chamber 6 stands at the first place. [L1]
 abbrev turned : List ℤ
 turned = words (5 ∷ 4 ∷ 0 ∷ 6 ∷ 16 ∷ 1 ∷ 1 ∷ 0 ∷ 1 ∷ 0 ∷ 0 ∷ 0 ∷ 2 ∷ 4 ∷ 0 ∷ 16 ∷ 1 ∷ 17 ∷ 7 ∷ 2 ∷ 1 ∷ 9 ∷ 1 ∷ [])
 
@@ -104,7 +104,7 @@ abbrev ends : ℕ → Spot
 ends k = cond (eqb k 0) (spot (pos 0) (pos 0)) (spot (pos 20) (pos 0))
 
 -- A box is skipped as soon as one chamber skips it. "A box is skipped exactly when each chamber of the leaf skips it": the box from (21, 0) to (25, 0) is skipped
--- for the chamber at (0, 0) by the other, and of that one a ring partner stands there.
+-- for the chamber at (0, 0) by the other, and of that one a ring partner stands there. [L5]
 abbrev oneSkips : (ℕ → Spot) → ℕ → List ℤ → Kept
 oneSkips q c w =
     walkAll w 2 1 (λ j go k. cond (someB c (skips q c 1 w 2 j (k .bits))) k (go (soFar (k .bits) (k .opened + 1)))) (leafTake q c 1 w 2) (soFar (noBits 16) 0)
@@ -116,7 +116,7 @@ pub one-skips-wrong : (kept (oneSkips ends 2 beyond .bits) (slot 1 1 0) ≡ fals
 unfolding leafKept leafVisit leafTake skips weigh ruledOut walkAll walk inTurn noBits kept with bitAt digit allB levelOf firstOf countOf boxOf sideOf spotOf orderOf num drops dropsBox blocks sameSpot inBox
 one-skips-wrong = (refl, refl)
 
--- Pump houses alone rule out a partner. "another chamber of the leaf rules out a partner just as a kept pump house does": (21, 0) is behind the chamber at (20, 0).
+-- Pump houses alone rule out a partner. "another chamber of the leaf rules out a partner just as a kept pump house does": (21, 0) is behind the chamber at (20, 0). [L4]
 abbrev pumpsAlone : (ℕ → Spot) → ℕ → ℕ → List ℕ → Bool
 pumpsAlone q i k b = someB 2 (λ p. kept b (slot 1 k p) && drops (q k) (spotOf beyond p) (spotOf beyond i))
 
@@ -126,7 +126,7 @@ pumps-rule-wrong = (refl, refl)
 
 -- ---- the count
 
--- The walk of P alone. "Its count is that walk's opened nodes plus those of each kept partner's ring walk."
+-- The walk of P alone. "Its count is that walk's opened nodes plus those of each kept partner's ring walk." [L7]
 abbrev walkAlone : List ℤ → List ℤ → ℕ → ℕ
 walkAlone P Q v = leafKept (chamberSpot Q v) (countOf Q (points Q) v) 1 P .opened
 

@@ -29,7 +29,7 @@ use Rattle.refuted.proofs.Cases.{words, pumpSheet}
 
 -- ---- words in files
 
--- The highest byte first. "little-endian two's complement".
+-- The highest byte first. "little-endian two's complement". [S1]
 abbrev bigEndian : ℕ → ℕ → ℕ → ℕ → ℤ
 bigEndian b0 b1 b2 b3 = toZ w32 (spell b3 b2 b1 b0)
 
@@ -37,7 +37,7 @@ pub big-endian-wrong : (bigEndian 1 0 0 0 ≡ pos 16777216) × (word 1 0 0 0 ≡
 unfolding word spell
 big-endian-wrong = (refl, refl)
 
--- Never negative. "Signed 32-bit words".
+-- Never negative. "Signed 32-bit words". [S1]
 abbrev unsigned : ℕ → ℕ → ℕ → ℕ → ℤ
 unsigned b0 b1 b2 b3 = pos (spell b0 b1 b2 b3)
 
@@ -51,7 +51,7 @@ unsigned-wrong = (refl, refl)
 abbrev one : ℕ → List ℤ
 one x = words (1 ∷ x ∷ 0 ∷ 0 ∷ 0 ∷ 0 ∷ 0 ∷ 1 ∷ 0 ∷ 0 ∷ 9 ∷ 0 ∷ 12 ∷ 7 ∷ 1 ∷ 1 ∷ 3 ∷ 1 ∷ [])
 
--- "Trusting a box that is merely large enough: rule (2) then blocks on nothing." "8 a box is not tightest."
+-- "Trusting a box that is merely large enough: rule (2) then blocks on nothing." "8 a box is not tightest." [S21, N13, V12]
 abbrev largeEnough : List ℤ → ℕ → ℕ → ℕ → Bool
 largeEnough w n j q =
     cond (ltb q 2) (leZ (sideOf w n q j) (tightSide w n q (levelOf w n j) j)) (leZ (tightSide w n q (levelOf w n j) j) (sideOf w n q j))
@@ -63,7 +63,7 @@ pub loose-box-wrong : (looseOk (one 4) 1 1 ≡ true) × (sheetNo (one 4) ≡ 8)
 unfolding openNo bodyNo trailerNo first given countsOk within editionWord layoutOk rootWord pointsOk pointOk fieldsOk risesOk idWord coordWord orderOk placeOk isBelow rankOf orderOf nodesOk tableOk nodeOk nodeRule runOk endOk isLast sameLevel dueOf dueNext tightOk tightSide best better minZ maxZ coordOf sideOf levelOf firstOf countOf eqZ num allB form1
 loose-box-wrong = (refl, refl)
 
--- Words past the sheet's end. "A sheet is exactly span+6 words."
+-- Words past the sheet's end. "A sheet is exactly span+6 words." [S12, N9]
 abbrev atLeastSpan : List ℤ → Bool
 atLeastSpan w =
     eqZ (span w) (pos (5 * points w + 7 * nodes w)) && eqZ (root w) (pos (rootWord (nodes w))) && leb (5 * points w + 7 * nodes w + 6) (length w)
@@ -72,7 +72,7 @@ pub longer-than-span-wrong : (atLeastSpan (pos 0 ∷ pumpSheet) ≡ true) × (sh
 unfolding openNo trailerNo first given countsOk within editionWord layoutOk rootWord eqZ num form1
 longer-than-span-wrong = (refl, refl)
 
--- The root word is always 7. "root (7 words back, or 0 when m is 0)": a sheet of nothing opens.
+-- The root word is always 7. "root (7 words back, or 0 when m is 0)": a sheet of nothing opens. [S11]
 abbrev empty : ℕ → List ℤ
 empty r = words (0 ∷ r ∷ 0 ∷ 0 ∷ 3 ∷ 1 ∷ [])
 
@@ -80,7 +80,7 @@ pub root-always-wrong : (sheetNo (empty 7) ≡ 4) × (sheetNo (empty 0) ≡ 0)
 unfolding openNo bodyNo trailerNo first given countsOk within editionWord layoutOk rootWord pointsOk orderOk nodesOk tableOk tightOk eqZ num allB form1
 root-always-wrong = (refl, refl)
 
--- Two records of one id. "Ids strictly ascending".
+-- Two records of one id. "Ids strictly ascending". [S3]
 abbrev notFalling : List ℤ → ℕ → Bool
 notFalling w i = leZ (idAt w 0) (idAt w i)
 
@@ -91,7 +91,7 @@ pub same-id-wrong : (notFalling twins 1 ≡ true) × (sheetNo twins ≡ 5)
 unfolding openNo bodyNo trailerNo first given countsOk within editionWord layoutOk rootWord pointsOk pointOk fieldsOk risesOk idWord coordWord before eqZ num allB form1
 same-id-wrong = (refl, refl)
 
--- The order before the points. "The first that applies, in the order listed": an id of 0 and a place of 5 give 5.
+-- The order before the points. "The first that applies, in the order listed": an id of 0 and a place of 5 give 5. [N35]
 abbrev orderFirst : List ℤ → ℕ → ℕ → ℕ
 orderFirst w n m = first (given (not (orderOk w n)) 6 ∷ given (not (pointsOk form1 w n)) 5 ∷ [])
 
@@ -102,7 +102,7 @@ pub order-first-wrong : (orderFirst faults 1 1 ≡ 6) × (sheetNo faults ≡ 5)
 unfolding openNo bodyNo trailerNo first given countsOk within editionWord layoutOk rootWord pointsOk pointOk fieldsOk risesOk idWord coordWord orderOk placeOk isBelow rankOf eqZ num allB form1
 order-first-wrong = (refl, refl)
 
--- A rank that is any place. "order at rank of i is i for every i".
+-- A rank that is any place. "order at rank of i is i for every i". [S8]
 abbrev anyRank : List ℤ → ℕ → ℕ → Bool
 anyRank w n i = ltb (orderOf w n i) n && ltb (rankOf w n i) n
 
@@ -115,7 +115,7 @@ any-rank-wrong = (refl, refl)
 
 -- ---- the packer
 
--- "It makes nodes of 16, [..] until one node is left": with two nodes left it is not at its end. "17 gives 3".
+-- "It makes nodes of 16, [..] until one node is left": with two nodes left it is not at its end. "17 gives 3". [S23, S24]
 abbrev twoLeft : ℕ → ℕ
 twoLeft n = width (ground n) + cond (leb (width (ground n)) 2) 0 1
 
@@ -123,7 +123,7 @@ pub stops-early-wrong : (twoLeft 17 ≡ 2) × (nodesFor 17 ≡ 3)
 unfolding nodesFor nodesFrom oneLeft width ground above up16
 stops-early-wrong = (refl, refl)
 
--- "a packer that writes nothing": of one point at (4, 0), the lent words do not stay as they were.
+-- "a packer that writes nothing": of one point at (4, 0), the lent words do not stay as they were. [S25, V4]
 pub writes-nothing-wrong : packOut form1 1 (words (1 ∷ 4 ∷ 0 ∷ [])) (words (0 ∷ [])) 3 (replicate 18 (pos 0)) ≡ replicate 18 (pos 0) → ⊥
 unfolding packOut packNo answer first given shapeOk rangeOk editionOk pointsOk pointOk fieldsOk risesOk idWord coordWord within orderListOk listOk isBelow placeIn firstB sheetSize nodesFor nodesFrom oneLeft width ground above up16 eqZ allB form1 packed tab packWord bodyWord flatWord
 writes-nothing-wrong e = true≢false (ap (λ (l : List ℤ). eqZ (getD l 0 (pos 0)) (pos 1)) e)

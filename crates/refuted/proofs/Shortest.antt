@@ -10,7 +10,7 @@ use Rattle.list.specs.Pairs.{follows}
 use Rattle.shortest.specs.Order.{shorter, insert, inOrder, shortestOf}
 use Rattle.refuted.proofs.Cases.{to, key}
 
--- Ties by p id, then q id. "ties by q id and then p id".
+-- Ties by p id, then q id. "ties by q id and then p id". [H2]
 abbrev tiesByPump : Pair → Pair → Bool
 tiesByPump v w = ltb (v .size) (w .size) || (eqb (v .size) (w .size) && follows (key (v .p) (v .q)) (key (w .p) (w .q)))
 
@@ -18,7 +18,7 @@ pub ties-by-pump-wrong : (tiesByPump (to 6 1 4) (to 5 2 4) ≡ true) × (shorter
 unfolding shorter follows
 ties-by-pump-wrong = (refl, refl)
 
--- The first k of the list. "the k pairs with the smallest squared size".
+-- The first k of the list. "the k pairs with the smallest squared size". [H1]
 abbrev firstOnes : ℕ → List Pair → List Pair
 firstOnes k l = take k l
 

@@ -27,7 +27,7 @@ use Rattle.refuted.proofs.Cases.{words, pumps, chambers, pumpSheet, cha
 
 -- ---- the kept set
 
--- Position i at bit i mod 32. "position i is bit i mod 64, counted from the lowest, of word i div 64".
+-- Position i at bit i mod 32. "position i is bit i mod 64, counted from the lowest, of word i div 64". [W5]
 abbrev with32 : List ℕ → ℕ → List ℕ
 with32 ws i = set ws (i / 64) (getD ws (i / 64) 0 + 2 ^ (i % 32))
 
@@ -37,7 +37,7 @@ wrong-bit-wrong = (refl, refl)
 
 -- ---- the filter walk
 
--- No box is opened. "For every position, a ring partner of q is kept": chamber 5 and pump house 1 are a pair, and it is not.
+-- No box is opened. "For every position, a ring partner of q is kept": chamber 5 and pump house 1 are a pair, and it is not. [W1, W8]
 abbrev neverOpened : List ℤ → Spot → Kept
 neverOpened w q = walkAll w 2 1 (λ j go k. k) (filterTake w 2 q) (soFar (none 1) 0)
 
@@ -48,14 +48,14 @@ pub all-skipped-wrong :
 unfolding filterKept filterVisit filterTake filterPlace consider dropped shut some walkAll walk inTurn none kept with at digit levelOf firstOf countOf boxOf sideOf spotOf orderOf num drops dropsBox blocks sameSpot inBox ringPair unblocked allB
 all-skipped-wrong = (refl, refl, refl)
 
--- The filter of a self join keeps q itself. "The filter passes over q."
+-- The filter of a self join keeps q itself. "The filter passes over q." [J8]
 pub q-kept-wrong : (filterKeeps 1 pumpSheet (spotOf pumpSheet 0) 0 ≡ true) × (passKeeps 1 pumpSheet 0 0 ≡ false)
 unfolding passKept passTake filterKept filterVisit filterTake filterPlace consider dropped shut some walkAll walk inTurn none kept with at digit levelOf firstOf countOf boxOf sideOf spotOf orderOf num drops dropsBox blocks sameSpot inBox
 q-kept-wrong = (refl, refl)
 
 -- ---- the ring walk
 
--- A node that is opened counts twice. "nodes opened never exceed m in one walk of one sheet": the sheet has one.
+-- A node that is opened counts twice. "nodes opened never exceed m in one walk of one sheet": the sheet has one. [W22, V6]
 abbrev enterTwice : ℕ → List ℤ → ℕ → Spot → Spot → ℕ → (Answer → Answer) → Answer → Answer
 enterTwice set w n a b j go s =
     cond (far a b (boxOf w n j)) s
@@ -70,7 +70,7 @@ pub counted-twice-wrong :
 unfolding ringWalk ringOn ringVisit ringTake meet enter walkAll walk inTurn levelOf firstOf countOf boxOf sideOf spotOf orderOf num blocks sameSpot far sideIn inside
 counted-twice-wrong = (refl, refl)
 
--- P is walked first. "Q is walked first, then P if Q is clear": the pair of (0, 0) and (10, 0) is blocked by a record of each.
+-- P is walked first. "Q is walked first, then P if Q is clear": the pair of (0, 0) and (10, 0) is blocked by a record of each. [W19]
 abbrev pumpsFirst : List ℤ → List ℤ → ℕ → ℕ → Answer
 pumpsFirst P Q j i = ringOn 1 Q (spotOf Q j) (spotOf P i) (ringWalk 0 P (spotOf Q j) (spotOf P i))
 
@@ -80,7 +80,7 @@ pub pumps-first-wrong :
 unfolding pairWalk ringWalk ringOn ringVisit ringTake meet enter walkAll walk inTurn levelOf firstOf countOf boxOf sideOf spotOf orderOf num blocks sameSpot far sideIn inside
 pumps-first-wrong = (refl, refl)
 
--- The count of the last walk alone. "the counts add up".
+-- The count of the last walk alone. "the counts add up". [W20]
 abbrev lastCount : List ℤ → List ℤ → ℕ → ℕ → ℕ
 lastCount P Q j i = ringWalk 0 P (spotOf Q j) (spotOf P i) .opened
 
@@ -88,7 +88,7 @@ pub last-count-wrong : (lastCount pumpSheet chamberSheet 0 0 ≡ 1) × (pairWalk
 unfolding pairWalk ringWalk ringOn ringVisit ringTake meet enter walkAll walk inTurn levelOf firstOf countOf boxOf sideOf spotOf orderOf num blocks sameSpot far sideIn inside
 last-count-wrong = (refl, refl)
 
--- The records of a leaf by position. "depth first in table order": of (2, 0) and (2, 4), both on the circle, that at the first place is met first.
+-- The records of a leaf by position. "depth first in table order": of (2, 0) and (2, 4), both on the circle, that at the first place is met first. [W12, W16]
 abbrev upright : List ℤ
 upright = words (1 ∷ 2 ∷ 0 ∷ 2 ∷ 2 ∷ 4 ∷ 1 ∷ 0 ∷ 1 ∷ 0 ∷ 0 ∷ 0 ∷ 2 ∷ 2 ∷ 0 ∷ 2 ∷ 4 ∷ 17 ∷ 7 ∷ 2 ∷ 1 ∷ 7 ∷ 1 ∷ [])
 

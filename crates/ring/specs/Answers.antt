@@ -23,7 +23,7 @@ use Rattle.ring.specs.declared.Walked.{Walked}
 use Rattle.ring.specs.declared.Walked.the-variants.{Done, Refused}
 use Rattle.ring.specs.declared.Pointed.the-variants.{At, Refused as NoPoint}
 
--- of words: 0 with the length and the counts, or the number with zeros
+-- of words: 0 with the length and the counts, or the number with zeros [N2, N4]
 unfoldable pub headOf : List ℤ → Head
 headOf w =
     answer (sheetNo w) (record { number = 0; len = length w; n = points w; m = nodes w }) (λ k. record { number = k; len = 0; n = 0; m = 0 })
@@ -38,35 +38,37 @@ headsOf P Q =
 unfoldable pub assetOf : List ℤ → ℕ → Asset
 assetOf w i = record { id = num (idAt w i); x = xAt w i; y = yAt w i }
 
--- the point reader's answer: the number of each case
+-- the point reader's answer: the number of each case [F10]
 abbrev pub pointedNo : Pointed → ℕ
 pointedNo (At a) = 0
 pointedNo (NoPoint k) = k
 
+-- [N2]
 unfoldable pub pointed : List ℤ → ℕ → Pointed
 pointed w i = answer (pointNo w i) (At (assetOf w i)) NoPoint
 
--- the filter walk's answer: "one bit a position in sixteen 64-bit words [..], with the number of bits set and the nodes opened"
+-- the filter walk's answer: "one bit a position in sixteen 64-bit words [..], with the number of bits set and the nodes opened" [W6]
 unfoldable pub filteredTo : Kept → Filtered
 filteredTo k = record { number = 0; bits = k .bits; count = card (k .bits); opened = k .opened }
 
--- refused, the number and zeros
+-- refused, the number and zeros [N4]
 unfoldable pub unfiltered : ℕ → Filtered
 unfiltered k = record { number = k; bits = replicate 16 0; count = 0; opened = 0 }
 
--- for position j of Q over P
+-- for position j of Q over P [W6, N2, N20]
 unfoldable pub filtered : List ℤ → List ℤ → ℕ → Filtered
 filtered P Q j = answer (filterNo P Q j) (filteredTo (filterKept 16 P (spotOf Q j))) unfiltered
 
--- the ring walk's answer: the number of each case, and whether it says that the pair is clear: a refused walk never does
+-- the ring walk's answer: the number of each case, and whether it says that the pair is clear: a refused walk never does [F10]
 abbrev pub walkedNo : Walked → ℕ
 walkedNo (Done a) = 0
 walkedNo (Refused k) = k
 
+-- [F10]
 abbrev pub walkedClear : Walked → Bool
 walkedClear (Done a) = clear (a .hit)
 walkedClear (Refused k) = false
 
--- q is position j of Q, p is position i of P
+-- q is position j of Q, p is position i of P [W17, W18, N2, N20]
 unfoldable pub walked : List ℤ → List ℤ → ℕ → ℕ → Walked
 walked P Q j i = answer (ringNo P Q j i) (Done (pairWalk P Q j i)) Refused

@@ -8,11 +8,11 @@ use Rattle.words.specs.First.{given, first}
 use Rattle.sheet.specs.Layout.{points}
 use Rattle.sheet.specs.Open.{sheetNo}
 
--- "checks its sheets first [..]: 1 to 8 for P, then for Q"
+-- "checks its sheets first [..]: 1 to 8 for P, then for Q" [N18]
 unfoldable pub sheetsNo : List ℤ → List ℤ → ℕ
 sheetsNo P Q = first (sheetNo P ∷ sheetNo Q ∷ [])
 
--- 9: "a position not below its sheet's n"
+-- 9: "a position not below its sheet's n" [N21]
 unfoldable pub positionNo : List ℤ → ℕ → ℕ
 positionNo w i = given (not (ltb i (points w))) 9
 

@@ -10,10 +10,10 @@ use Rattle.list.specs.Terms.{alone}
 use Rattle.ring.specs.declared.Paged.{Paged}
 use Rattle.ring.specs.Page.{keyNo, pageGiven, pageRefused}
 
--- 1 to 8 of the sheet, then 9, then 10
+-- 1 to 8 of the sheet, then 9, then 10 [J6]
 unfoldable pub ownNo : List ℤ → Key → ℕ → ℕ
 ownNo S key size = first (sheetNo S ∷ keyNo key ∷ sizeNo size ∷ [])
 
--- "Pages, counts, end mark [..] work as before, with one edition in both fields and t 0": the answer by its number, 0 is the page, any other is the refusal of that number
+-- "Pages, counts, end mark [..] work as before, with one edition in both fields and t 0": the answer by its number, 0 is the page, any other is the refusal of that number [J4]
 unfoldable pub ownAnswer : List ℤ → Key → ℕ → Paged
 ownAnswer S key size = answer (ownNo S key size) (pageGiven alone S S key size) pageRefused

@@ -23,23 +23,23 @@ use Rattle.join.specs.Sheets.{walksBy}
 use Rattle.join.specs.Threshold.{walksFor}
 use Rattle.ring.specs.declared.Paged.{Paged}
 
--- 9: "key out of range", "each 0 to 2,000,000,000"
+-- 9: "key out of range", "each 0 to 2,000,000,000" [P1, N22]
 unfoldable pub keyNo : Key → ℕ
 keyNo key = given (not (leb (key .q) lastId && leb (key .p) lastId)) 9
 
--- 9, then 10, then 21 "t outside 0 to 1,000 [..] after 10 for a page": what the request itself is refused by
+-- 9, then 10, then 21 "t outside 0 to 1,000 [..] after 10 for a page": what the request itself is refused by [N22, N23, T10, V1]
 unfoldable pub askedNo : Key → ℕ → ℕ → ℕ
 askedNo key size t = first (keyNo key ∷ sizeNo size ∷ thresholdNo t ∷ [])
 
--- "checks its sheets first [..]: 1 to 8 for P, then for Q"
+-- "checks its sheets first [..]: 1 to 8 for P, then for Q" [V1]
 unfoldable pub pageNo : List ℤ → List ℤ → Request → ℕ
 pageNo P Q a = first (sheetNo P ∷ sheetNo Q ∷ keyNo (a .key) ∷ sizeNo (a .size) ∷ thresholdNo (a .threshold) ∷ [])
 
--- "The page holds both editions"; "Pages and books now carry t, 0 for the full list" and "say their kind"
+-- "The page holds both editions"; "Pages and books now carry t, 0 for the full list" and "say their kind" [P3, T5, J5, J10]
 unfoldable pub sourceOf : List ℤ → List ℤ → Terms → Source
 sourceOf P Q a = record { «p_edition» = num (edition P); «q_edition» = num (edition Q); terms = a }
 
--- the page of the terms' list, from the points alone, and beside it the count of the walks, the kept sets on sixteen words
+-- the page of the terms' list, from the points alone, and beside it the count of the walks, the kept sets on sixteen words [P3, P8, T4]
 unfoldable pub pageGiven : Terms → List ℤ → List ℤ → Key → ℕ → Paged
 pageGiven a P Q key size =
     record {
@@ -48,7 +48,7 @@ pageGiven a P Q key size =
       page = pageOf (sourceOf P Q a) (listFor a (pointsOf P) (pointsOf Q)) key size;
     }
 
--- "Every refusal gives only its number [..]. An array or number in a refused answer is all zero"
+-- "Every refusal gives only its number [..]. An array or number in a refused answer is all zero" [N2, N4]
 unfoldable pub pageRefused : ℕ → Paged
 pageRefused k =
     record {

@@ -16,22 +16,23 @@ use Rattle.sheet.specs.Find.{positionOf}
 use Rattle.join.specs.Threshold.{smaller}
 use Rattle.ring.specs.declared.Partnered.{Partnered}
 
--- 20: "unknown q id"
+-- 20: "unknown q id" [T8, G9, G10]
 unfoldable pub idNo : List Point → ℕ → ℕ
 idNo Q id = given (not (ltb (positionOf Q id) (length Q))) 20
 
--- 21: "t outside 0 to 1,000, or 0 in the single question"
+-- 21: "t outside 0 to 1,000, or 0 in the single question" [T9]
 unfoldable pub leastNo : ℕ → ℕ
 leastNo t = given (not (leb 1 t && leb t lastThreshold)) 21
 
--- the sheets' numbers, then 20, then 21
+-- the sheets' numbers, then 20, then 21 [T8]
 unfoldable pub partnersNo : List ℤ → List ℤ → ℕ → ℕ → ℕ
 partnersNo P Q id t = first (sheetNo P ∷ sheetNo Q ∷ idNo (pointsOf Q) id ∷ leastNo t ∷ [])
 
--- the smaller of t and the number of the chamber's pairs in the list, and whether that is t
+-- the smaller of t and the number of the chamber's pairs in the list, and whether that is t [T1]
 unfoldable pub partnersCount : List ℤ → List ℤ → ℕ → ℕ → ℕ
 partnersCount P Q id t = smaller t (length (chamberPairs id (ringList (pointsOf P) (pointsOf Q))))
 
+-- [T2]
 unfoldable pub partnersGiven : List ℤ → List ℤ → ℕ → ℕ → Partnered
 partnersGiven P Q id t = record { number = 0; count = partnersCount P Q id t; enough = eqb (partnersCount P Q id t) t }
 

@@ -43,7 +43,7 @@ pub enum Pointed {
     Refused(u32),
 }
 
-// What the filter walk answers: 0, the kept set with one bit a position, how many bits are set and the nodes opened; or the number of refusal and zeros.
+// What the filter walk answers: 0, the kept set with one bit a position, how many bits are set and the nodes opened; or the number of refusal and zeros. [F7]
 #[repr(C)]
 pub struct Filtered {
     pub number: u32,
@@ -58,7 +58,7 @@ pub enum Walked {
     Refused(u32),
 }
 
-// What a page request answers: 0, the count of nodes opened and the page; or the number of refusal and zeros.
+// What a page request answers: 0, the count of nodes opened and the page; or the number of refusal and zeros. [F6]
 #[repr(C)]
 pub struct Paged {
     pub number: u32,

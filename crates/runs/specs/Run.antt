@@ -16,15 +16,15 @@ use Rattle.leaf.specs.LeafRun.{leafList, leafOpened}
 use Rattle.runs.specs.declared.Run.{Run}
 use Rattle.runs.specs.declared.RunArray.{RunArray}
 
--- "19 no such leaf": the number names no node of Q, or one that is no leaf
+-- "19 no such leaf": the number names no node of Q, or one that is no leaf [L8]
 unfoldable pub leafNo : List ℤ → ℕ → ℕ
 leafNo Q v = given (not (ltb v (nodes Q) && eqb (levelOf Q (points Q) v) 0)) 19
 
--- "then 16 exactly when the pairs outnumber the slots"
+-- "then 16 exactly when the pairs outnumber the slots" [L9]
 unfoldable pub roomNo : List Pair → ℕ → ℕ
 roomNo l len = given (ltb len (length l)) 16
 
--- "Refusals: 19 no such leaf, then 16 exactly when the pairs outnumber the slots", after the sheets' own: "1 to 8 for P, then for Q"
+-- "Refusals: 19 no such leaf, then 16 exactly when the pairs outnumber the slots", after the sheets' own: "1 to 8 for P, then for Q" [L8, L9]
 unfoldable pub runNo : List ℤ → List ℤ → ℕ → ℕ → ℕ
 runNo P Q v len = first (sheetNo P ∷ sheetNo Q ∷ leafNo Q v ∷ roomNo (leafList P Q v) len ∷ [])
 
@@ -32,7 +32,7 @@ runNo P Q v len = first (sheetNo P ∷ sheetNo Q ∷ leafNo Q v ∷ roomNo (leaf
 unfoldable pub runGiven : List ℤ → List ℤ → ℕ → Run
 runGiven P Q v = record { number = 0; count = length (leafList P Q v); opened = leafOpened 16 P Q v }
 
--- "Every refusal gives only its number [..]. An array or number in a refused answer is all zero"
+-- "Every refusal gives only its number [..]. An array or number in a refused answer is all zero" [L10]
 unfoldable pub runRefused : ℕ → Run
 runRefused k = record { number = k; count = 0; opened = 0 }
 
@@ -40,7 +40,7 @@ runRefused k = record { number = k; count = 0; opened = 0 }
 unfoldable pub runAnswer : List ℤ → List ℤ → ℕ → ℕ → Run
 runAnswer P Q v len = answer (runNo P Q v len) (runGiven P Q v) runRefused
 
--- the slots after it: the pairs stand from the first slot on, "the rest of the slice isn't touched"; a refusal "leaves lent memory [..] as they stood"
+-- the slots after it: the pairs stand from the first slot on, "the rest of the slice isn't touched"; a refusal "leaves lent memory [..] as they stood" [L1, L2, L10]
 unfoldable pub runSlots : List ℤ → List ℤ → ℕ → List Pair → List Pair
 runSlots P Q v slots = answer (runNo P Q v (length slots)) (leafList P Q v ++ drop (length (leafList P Q v)) slots) (λ k. slots)
 

@@ -4,7 +4,7 @@ use lib.IntN.{pos}
 use lib.Signed.{_≤ℤ_}
 use Rattle.sheet.specs.declared.Limits.{Limits}
 
--- form 1: "n is 0 to 1,000, m 0 to 400", "x and y from -1,000,000 to 1,000,000"
+-- form 1: "n is 0 to 1,000, m 0 to 400", "x and y from -1,000,000 to 1,000,000" [S4, S13]
 unfoldable pub form1 : Limits
 form1 = record { points = 1000; nodes = 400; coordinate = pos 1000000 }
 

@@ -13,7 +13,7 @@ use Rattle.list.specs.RingList.{ringList}
 use Rattle.shortest.specs.declared.Shortlist.{Shortlist}
 use Rattle.shortest.specs.Order.{shortestOf}
 
--- "Refusals: 10 for k", "k from 1 to 16", after the sheets' own: "1 to 8 for P, then for Q"
+-- "Refusals: 10 for k", "k from 1 to 16", after the sheets' own: "1 to 8 for P, then for Q" [H3, H5]
 unfoldable pub shortNo : List ℤ → List ℤ → ℕ → ℕ
 shortNo P Q k = first (sheetNo P ∷ sheetNo Q ∷ sizeNo k ∷ [])
 
@@ -21,7 +21,7 @@ shortNo P Q k = first (sheetNo P ∷ sheetNo Q ∷ sizeNo k ∷ [])
 abbrev pub pairsOf : List ℤ → List ℤ → List Pair
 pairsOf P Q = ringList (pointsOf P) (pointsOf Q)
 
--- how many pairs, and the pairs; "Unused pairs are three zeros"
+-- how many pairs, and the pairs; "Unused pairs are three zeros" [H1, H4]
 unfoldable pub shortGiven : List ℤ → List ℤ → ℕ → Shortlist
 shortGiven P Q k =
     record {

@@ -9,11 +9,11 @@ use lib.ListN.{take}
 use Rattle.list.specs.declared.Pair.{Pair}
 use Rattle.list.specs.Pairs.{keyOf, follows}
 
--- v is shorter than w: by squared size, "ties by q id and then p id"
+-- v is shorter than w: by squared size, "ties by q id and then p id" [H2]
 unfoldable pub shorter : Pair → Pair → Bool
 shorter v w = ltb (v .size) (w .size) || (eqb (v .size) (w .size) && follows (keyOf v) (keyOf w))
 
--- what that says, in numbers
+-- what that says, in numbers [H2]
 abbrev pub Before : Pair → Pair → Type 0
 Before v w = (v .size < w .size) ⊎ ((v .size ≡ w .size) × ((v .q < w .q) ⊎ ((v .q ≡ w .q) × (v .p < w .p))))
 
@@ -22,11 +22,11 @@ unfoldable pub insert : Pair → List Pair → List Pair
 insert v [] = v ∷ []
 insert v (w ∷ l) = cond (shorter v w) (v ∷ (w ∷ l)) (w ∷ insert v l)
 
--- the pairs of a list "in order", the shortest first
+-- the pairs of a list "in order", the shortest first [H1]
 unfoldable pub inOrder : List Pair → List Pair
 inOrder [] = []
 inOrder (v ∷ l) = insert v (inOrder l)
 
--- "the k pairs with the smallest squared size [..], fewer if the list is shorter"
+-- "the k pairs with the smallest squared size [..], fewer if the list is shorter" [H1]
 unfoldable pub shortestOf : ℕ → List Pair → List Pair
 shortestOf k l = take k (inOrder l)

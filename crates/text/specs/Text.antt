@@ -28,11 +28,11 @@ number n b = decimal n ++ (b ∷ [])
 abbrev pub signed : ℤ → ℕ → List ℕ
 signed z b = signedText z ++ (b ∷ [])
 
--- "prints q id, p id, twice the centre's x, twice its y, squared diameter"
+-- "prints q id, p id, twice the centre's x, twice its y, squared diameter" [X9]
 unfoldable pub lineText : ℕ → ℕ → ℤ → ℤ → ℕ → List ℕ
 lineText q p x y d = number q 32 ++ (number p 32 ++ (signed x 32 ++ (signed y 32 ++ number d 10)))
 
--- "last `end` and the number of pairs"
+-- "last `end` and the number of pairs" [X9]
 unfoldable pub endText : ℕ → List ℕ
 endText n = (101 ∷ 110 ∷ 100 ∷ 32 ∷ []) ++ number n 10
 

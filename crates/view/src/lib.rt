@@ -19,7 +19,7 @@ ghost use Rattle.ring.specs.Partners.{partnersAnswer};
 ghost use Rattle.nearest.specs.Nearest.{nearestNo, nearestAnswer, waitedBy};
 ghost use Rattle.view.specs.Shown.{shown, openOf};
 
-// The words that the view covers, and the numbers of points and nodes that it claims for them.
+// The words that the view covers, and the numbers of points and nodes that it claims for them. [F9]
 pub struct Sheet<'a> {
     pub words: &'a [i32],
     pub n: usize,

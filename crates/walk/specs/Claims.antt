@@ -28,7 +28,7 @@ pub record Blocks (w : List ℤ) (n : ℕ) (a b : Spot) (i : ℕ) : Type 0 where
   pub below : i < n
   pub blocking : blocks a b (spotOf w i) ≡ true
 
--- side s of node j's box is the first of left, bottom, right, top that lies strictly inside, and on it such a position stands, at a place below the node
+-- side s of node j's box is the first of left, bottom, right, top that lies strictly inside, and on it such a position stands, at a place below the node [E1]
 pub record BlocksBySide (w : List ℤ) (n : ℕ) (a b : Spot) (j s : ℕ) : Type 0 where
   pub first : FirstSide a b (boxOf w n j) s
   pub place : ℕ

@@ -15,7 +15,7 @@ use Rattle.walk.specs.FilterWalk.{Kept, soFar, filterTake, filterVisit}
 unfoldable pub passTake : List ℤ → ℕ → ℕ → ℕ → Kept → Kept
 passTake w n j r k = cond (eqb (orderOf w n r) j) k (filterTake w n (spotOf w j) r k)
 
--- the walk of the whole sheet, its kept set on so many words: the kept set and the nodes opened
+-- the walk of the whole sheet, its kept set on so many words: the kept set and the nodes opened [J8]
 unfoldable pub passKept : ℕ → List ℤ → ℕ → Kept
 passKept words w j = walkAll w (points w) (nodes w) (filterVisit w (points w) (spotOf w j)) (passTake w (points w) j) (soFar (none words) 0)
 

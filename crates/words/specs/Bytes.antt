@@ -10,7 +10,7 @@ use mir.Val.{toZ}
 unfoldable pub spell : ℕ → ℕ → ℕ → ℕ → ℕ
 spell b0 b1 b2 b3 = b0 + 256 * b1 + 65536 * b2 + 16777216 * b3
 
--- that number below 2 ^ 31, and that number less 2 ^ 32 from there on (`toZ`)
+-- that number below 2 ^ 31, and that number less 2 ^ 32 from there on (`toZ`) [S1]
 unfoldable pub word : ℕ → ℕ → ℕ → ℕ → ℤ
 word b0 b1 b2 b3 = toZ w32 (spell b0 b1 b2 b3)
 

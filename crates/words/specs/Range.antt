@@ -5,25 +5,27 @@ use lib.Dec.{leb}
 use lib.IntN.{ℤ, pos, negℤ}
 use Rattle.words.specs.Word.{within}
 
--- "Ids strictly ascending, 1 to 2,000,000,000"; "edition 1 to 1,000,000,000"
+-- "Ids strictly ascending, 1 to 2,000,000,000"; "edition 1 to 1,000,000,000" [S3]
 abbrev pub lastId : ℕ
 lastId = 2000000000
 
+-- [S13]
 abbrev pub lastEdition : ℕ
 lastEdition = 1000000000
 
--- "15 is also given when a size lies outside 0 to 8,000,000,000,000"
+-- "15 is also given when a size lies outside 0 to 8,000,000,000,000" [Z3]
 abbrev pub lastSize : ℕ
 lastSize = 8000000000000
 
--- the word of an id, of an edition
+-- the word of an id, of an edition [S3]
 unfoldable pub idWord : ℤ → Bool
 idWord z = within (pos 1) (pos lastId) z
 
+-- [S13]
 unfoldable pub editionWord : ℤ → Bool
 editionWord z = within (pos 1) (pos lastEdition) z
 
--- "x and y from -1,000,000 to 1,000,000": c is the form's limit, `Limits` of the sheet
+-- "x and y from -1,000,000 to 1,000,000": c is the form's limit, `Limits` of the sheet [S4]
 unfoldable pub coordWord : ℤ → ℤ → Bool
 coordWord c z = within (negℤ c) c z
 
@@ -31,9 +33,10 @@ coordWord c z = within (negℤ c) c z
 unfoldable pub idOk : ℕ → Bool
 idOk k = leb 1 k && leb k lastId
 
+-- [N24]
 unfoldable pub editionOk : ℕ → Bool
 editionOk k = leb 1 k && leb k lastEdition
 
--- the squared diameter of a pair
+-- the squared diameter of a pair [Z3]
 unfoldable pub sizeOk : ℕ → Bool
 sizeOk k = leb k lastSize
