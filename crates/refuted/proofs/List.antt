@@ -5,7 +5,7 @@ use mathlib.Core.List.{List, [], _∷_}
 use Prim.Native.Nat.{ℕ, suc}
 use lib.Dec.{eqb, leb, ltb}
 use lib.IntN.{natAbs}
-use lib.ListN.{length, take}
+use lib.ListN.{length, take, getD}
 use Rattle.words.specs.All.{allB}
 use Rattle.words.specs.First.{given, first}
 use Rattle.plane.specs.declared.Spot.{Spot}
@@ -14,8 +14,8 @@ use Rattle.plane.specs.Point.{Point, idAt, spotAt}
 use Rattle.list.specs.declared.Key.{Key}
 use Rattle.list.specs.declared.Pair.{Pair}
 use Rattle.list.specs.declared.Source.{Source}
-use Rattle.list.specs.Pairs.{keyOf, follows, after, lastOr, isNone}
-use Rattle.list.specs.Pages.{thresholdNo, sizeNo, sourceNo, shown, pageOf}
+use Rattle.list.specs.Pairs.{start, none, keyOf, follows, after, lastOr, isNone}
+use Rattle.list.specs.Pages.{thresholdNo, sizeNo, sourceNo, padded, shown, pageOf}
 use Rattle.list.specs.Rows.{row, rows, atLeast, listBy}
 use Rattle.list.specs.RingList.{unblocked, ringPair, sizeOf, pairAt, ringList}
 use Rattle.list.specs.Terms.{full, withT, alone, pairFor, listedFor, listFor}
@@ -109,6 +109,17 @@ pub high-first-wrong : (highFirst pumps ≡ to 2 1 100 ∷ []) × (listFor alone
 unfolding listBy rows row atLeast pairFor listedFor listFor ringPair unblocked allB sameSpot blocks
 high-first-wrong = (refl, refl)
 
+-- Any two records. "Blocked by the other records of that sheet": (0, 0) and (10, 0) are, by the record between them. [J3]
+abbrev anyTwo : List Point → List Pair
+anyTwo S = listBy (λ j i. ltb (idAt S j) (idAt S i)) (pairAt S S) (length S) (length S)
+
+abbrev inLine : List Point
+inLine = at 1 0 0 ∷ at 2 5 0 ∷ at 3 10 0 ∷ []
+
+pub any-two-wrong : (anyTwo inLine ≡ to 1 2 25 ∷ to 1 3 100 ∷ to 2 3 25 ∷ []) × (listFor alone inLine inLine ≡ to 1 2 25 ∷ to 2 3 25 ∷ [])
+unfolding listBy rows row atLeast pairFor listedFor listFor ringPair unblocked allB sameSpot blocks
+any-two-wrong = (refl, refl)
+
 -- ---- pages
 
 -- "Setting the end mark only when the page is not full: a full last page has it too." [P5, V11]
@@ -132,6 +143,15 @@ closesEmpty l k n = cond (eqb (k .q) 0) (shown l k n) []
 pub closes-empty-wrong : (closesEmpty three (key 5 2) 2 ≡ []) × (shown three (key 5 2) 2 ≡ to 6 2 37 ∷ [])
 unfolding shown after follows
 closes-empty-wrong = (refl, refl)
+
+-- The pairs that follow stand in the unused places. "Unused pairs are three zeros." [P6]
+abbrev goesOn : List Pair → Key → List Pair
+goesOn l k = after k l
+
+pub unused-filled-wrong :
+    (getD (goesOn three start) 2 none ≡ to 6 2 37) × (getD (pageOf ours three start 2 .pairs) 2 none ≡ none) × (pageOf ours three start 2 .count ≡ 2)
+unfolding pageOf padded shown after follows lastOr isNone
+unused-filled-wrong = (refl, refl, refl)
 
 -- From the key on. "strictly after the key". [P4]
 abbrev fromKey : Key → List Pair → List Pair

@@ -1,12 +1,12 @@
 -- Wrong readings of page requests, of what they count, and of a chamber's partners.
-use mathlib.Core.Path.{_≡_, refl, ap}
-use mathlib.Core.Bool.{not, _&&_}
+use mathlib.Core.Path.{_≡_, refl, sym, ap, _∙_}
+use mathlib.Core.Bool.{not, _&&_, true≢false}
 use mathlib.Core.List.{List, [], _∷_}
 use Prim.Native.Nat.{ℕ, suc}
 use native.Mathlib.Omega.{arith}
-use lib.Dec.{leb}
+use lib.Dec.{eqb, leb}
 use lib.IntN.{ℤ}
-use lib.ListN.{length}
+use lib.ListN.{length, getD}
 use Rattle.words.specs.Word.{num, eqZ, within, before, isBelow, minZ, maxZ}
 use Rattle.words.specs.All.{allB, firstB, tab}
 use Rattle.words.specs.First.{given, first, answer}
@@ -24,11 +24,13 @@ use Rattle.sheet.specs.Places.{spotOf, boxOf, pointsOf}
 use Rattle.sheet.specs.Find.{positionOf}
 use Rattle.bits.specs.Set.{digit, at as bitAt, kept, with, none, some}
 use Rattle.list.specs.declared.Key.{Key}
+use Rattle.list.specs.declared.Pair.{Pair}
 use Rattle.list.specs.declared.Request.{Request}
-use Rattle.list.specs.Pairs.{start, follows, chamberPairs}
-use Rattle.list.specs.Pages.{thresholdNo, sizeNo}
-use Rattle.list.specs.Rows.{row, rows, listBy}
+use Rattle.list.specs.Pairs.{start, none as nonePair, follows, after, chamberPairs}
+use Rattle.list.specs.Pages.{thresholdNo, sizeNo, padded, shown, pageOf}
+use Rattle.list.specs.Rows.{row, rows, atLeast, listBy}
 use Rattle.list.specs.RingList.{unblocked, ringPair, ringList}
+use Rattle.list.specs.Terms.{pairFor, listedFor, listFor}
 use Rattle.walk.specs.Walk.{inTurn, walk, walkAll}
 use Rattle.walk.specs.FilterWalk.{dropped, shut, consider, filterPlace, filterTake, filterVisit, filterKept, filterKeeps}
 use Rattle.walk.specs.SelfWalk.{passTake, passKept}
@@ -124,6 +126,12 @@ request = record { key = start; size = 2; threshold = 0 }
 pub refusing-all-wrong : (k : ℕ) → pageAnswer pumpSheet chamberSheet request ≡ pageRefused (suc k) → ⊥
 unfolding pageAnswer pageNo pageGiven pageRefused answer keyNo sizeNo thresholdNo openNo bodyNo trailerNo first given countsOk within editionWord layoutOk rootWord pointsOk pointOk fieldsOk risesOk idWord coordWord before orderOk placeOk isBelow rankOf orderOf nodesOk tableOk nodeOk nodeRule runOk endOk isLast sameLevel dueOf dueNext tightOk tightSide best better minZ maxZ coordOf sideOf levelOf firstOf countOf eqZ num allB form1
 refusing-all-wrong k e = let z : 0 ≡ suc k = ap (λ (r : Paged). r .number) e in omega arith
+
+-- "an unchanging list", of what ships: of sheets that open, the pages' pairs are not always the same. [D2, V2]
+pub unchanging-page-wrong : (l : List Pair) → ((P Q : List ℤ) → sheetsNo P Q ≡ 0 → pageAnswer P Q request .page .pairs ≡ l) → ⊥
+unfolding pageAnswer pageNo pageGiven pageRefused answer keyNo sizeNo thresholdNo openNo bodyNo trailerNo first given countsOk within editionWord layoutOk rootWord pointsOk pointOk fieldsOk risesOk idWord coordWord before orderOk placeOk isBelow rankOf orderOf nodesOk tableOk nodeOk nodeRule runOk endOk isLast sameLevel dueOf dueNext tightOk tightSide best better minZ maxZ coordOf sideOf levelOf firstOf countOf eqZ num allB form1 sheetsNo pageOf shown padded after follows listFor listedFor pairFor atLeast listBy rows row ringPair unblocked blocks sameSpot pointsOf tab spotOf
+unchanging-page-wrong l same =
+    true≢false (ap (λ (k : List Pair). eqb (getD k 0 nonePair .q) 5) (same pumpSheet chamberSheet refl ∙ sym (same nothing chamberSheet refl)))
 
 -- Q before P. "1 to 8 for P, then for Q": P has another form number, and Q has under 6 words. [N18]
 abbrev chambersFirst : List ℤ → List ℤ → ℕ

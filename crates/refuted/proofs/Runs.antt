@@ -5,13 +5,13 @@ use mathlib.Core.List.{List, [], _∷_, _++_}
 use Prim.Native.Nat.{ℕ, _+_}
 use lib.Dec.{eqb, leb, ltb}
 use lib.IntN.{ℤ, pos}
-use lib.ListN.{length, drop, replicate}
+use lib.ListN.{length, take, drop, replicate}
 use Rattle.words.specs.Word.{num, eqZ, within, before, isBelow, minZ, maxZ}
 use Rattle.words.specs.All.{allB, tab}
 use Rattle.words.specs.First.{given, first, answer}
 use Rattle.words.specs.Range.{idWord, editionWord, coordWord}
 use Rattle.plane.specs.declared.Spot.{Spot}
-use Rattle.plane.specs.Rule.{spot, sameSpot, inBox, blocks, drops, dropsBox, far, inside, sideIn}
+use Rattle.plane.specs.Rule.{spot, sameSpot, inBox, blocks, behind, drops, dropsBox, far, inside, sideIn}
 use Rattle.sheet.specs.Limits.{form1}
 use Rattle.sheet.specs.Layout.{points, nodes, countsOk, rootWord, layoutOk, trailerNo}
 use Rattle.sheet.specs.Points.{fieldsOk, risesOk, pointOk, pointsOk}
@@ -88,6 +88,17 @@ pub rest-touched-wrong :
 unfolding runSlots runNo leafNo roomNo answer leafList chamberAt listBy rows row ringPair unblocked blocks sameSpot pointsOf tab spotOf openNo bodyNo trailerNo first given countsOk within editionWord layoutOk rootWord pointsOk pointOk fieldsOk risesOk idWord coordWord before orderOk placeOk isBelow rankOf orderOf nodesOk tableOk nodeOk nodeRule runOk endOk isLast sameLevel dueOf dueNext tightOk tightSide best better minZ maxZ coordOf sideOf levelOf firstOf countOf eqZ num allB form1
 rest-touched-wrong = (refl, refl)
 
+-- As many pairs as there are slots for. Refused by 16, the call "leaves lent memory [..] as they stood". [L10]
+abbrev filledUp : List ℤ → List ℤ → ℕ → List Pair → List Pair
+filledUp P Q v slots = take (length slots) (leafList P Q v)
+
+abbrev few : List Pair
+few = to 9 9 9 ∷ []
+
+pub filled-up-wrong : (filledUp pumpSheet chamberSheet 0 few ≡ to 5 1 16 ∷ []) × (runSlots pumpSheet chamberSheet 0 few ≡ few)
+unfolding runSlots runNo leafNo roomNo answer leafList chamberAt listBy rows row ringPair unblocked blocks sameSpot pointsOf tab spotOf openNo bodyNo trailerNo first given countsOk within editionWord layoutOk rootWord pointsOk pointOk fieldsOk risesOk idWord coordWord before orderOk placeOk isBelow rankOf orderOf nodesOk tableOk nodeOk nodeRule runOk endOk isLast sameLevel dueOf dueNext tightOk tightSide best better minZ maxZ coordOf sideOf levelOf firstOf countOf eqZ num allB form1
+filled-up-wrong = (refl, refl)
+
 -- By q id. "by place, then p id": in this leaf chamber 6 stands at the first place. [L1]
 abbrev turned : List ℤ
 turned = words (5 ∷ 4 ∷ 0 ∷ 6 ∷ 16 ∷ 1 ∷ 1 ∷ 0 ∷ 1 ∷ 0 ∷ 0 ∷ 0 ∷ 2 ∷ 4 ∷ 0 ∷ 16 ∷ 1 ∷ 17 ∷ 7 ∷ 2 ∷ 1 ∷ 9 ∷ 1 ∷ [])
@@ -124,7 +135,28 @@ pub pumps-rule-wrong : (pumpsAlone ends 0 0 (noBits 16) ≡ false) × (ruledOut 
 unfolding leafKept leafVisit leafTake skips weigh ruledOut walkAll walk inTurn noBits kept with bitAt digit allB levelOf firstOf countOf boxOf sideOf spotOf orderOf num drops dropsBox blocks sameSpot inBox
 pumps-rule-wrong = (refl, refl)
 
+-- A chamber at q's own place rules out a partner, as before request 3. "The same holds for leaf runs and their second rule." [O5]
+abbrev oneSpot : ℕ → Spot
+oneSpot k = spot (pos 0) (pos 0)
+
+abbrev oldRule : (ℕ → Spot) → ℕ → ℕ → ℕ → Bool
+oldRule q h k i = behind (q k) (q h) (spotOf beyond i)
+
+pub same-spot-rules-wrong :
+    (oldRule oneSpot 1 0 0 ≡ true) × (ruledOut oneSpot 2 1 beyond 2 (λ p. drops (oneSpot 0) p (spotOf beyond 0)) 0 (noBits 16) ≡ false)
+unfolding leafKept leafVisit leafTake skips weigh ruledOut walkAll walk inTurn noBits kept with bitAt digit allB levelOf firstOf countOf boxOf sideOf spotOf orderOf num drops dropsBox blocks sameSpot inBox
+same-spot-rules-wrong = (refl, refl)
+
 -- ---- the count
+
+-- A walk of P for each chamber. "one walk of P serves all points of the leaf". [L3]
+abbrev walkEach : List ℤ → List ℤ → ℕ → ℕ
+walkEach P Q v = sumOver (λ k. leafKept (λ h. chamberSpot Q v k) 1 1 P .opened) 0 (countOf Q (points Q) v)
+
+pub walk-each-wrong :
+    (walkEach pumpSheet chamberSheet 0 ≡ 2) × (leafKept (chamberSpot chamberSheet 0) (countOf chamberSheet 2 0) 1 pumpSheet .opened ≡ 1)
+unfolding sumOver chamberSpot chamberAt leafKept leafVisit leafTake skips weigh ruledOut walkAll walk inTurn noBits kept with bitAt digit allB levelOf firstOf countOf boxOf sideOf spotOf orderOf num drops dropsBox blocks sameSpot inBox
+walk-each-wrong = (refl, refl)
 
 -- The walk of P alone. "Its count is that walk's opened nodes plus those of each kept partner's ring walk." [L7]
 abbrev walkAlone : List ℤ → List ℤ → ℕ → ℕ
