@@ -89,7 +89,7 @@ fn walked(p: &[i32], hp: Size, q: &[i32], hq: Size, terms: Terms, j: usize, i: u
         let b = sheet::reads::spot_at(p, hp.n, hp.m, i);
         return walk::ring::ring_on(p, hp.n, hp.m, 0, a, b, 0);
     }
-    walk::ring::pair_walk(p, hp.n, hp.m, q, hq.n, hq.m, j, i)
+    walk::ring::pair_walk(p, hp, q, hq, j, i)
 }
 
 // The kept partner at position i of P, for the q at position j: ring-walked if it is after the key.
@@ -137,7 +137,7 @@ fn with_partners(
         let t = try_partner(p, hp, q, hq, ask, j, i);
         r.opened = r.opened + t.opened;
         if t.finds {
-            let v = walk::pair::pair_at(p, hp.n, hp.m, q, hq.n, hq.m, j, i);
+            let v = walk::pair::pair_at(p, hp, q, hq, j, i);
             r = with_found(r, ask.size, v);
         }
         i = bits::next_from(bits, i + 1);
@@ -155,7 +155,7 @@ fn keep_clear(p: &[i32], hp: Size, q: &[i32], hq: Size, j: usize, bits: &mut [u6
     let mut count: usize = 0;
     let mut i = bits::next_from(bits, 0);
     while i < n {
-        let a = walk::ring::pair_walk(p, hp.n, hp.m, q, hq.n, hq.m, j, i);
+        let a = walk::ring::pair_walk(p, hp, q, hq, j, i);
         opened += a.opened;
         if walk::clear_after(a) {
             count += 1;
@@ -193,7 +193,7 @@ fn with_kept(
             return r;
         }
         if is_late(p, hp, q, hq, key, j, i) {
-            let v = walk::pair::pair_at(p, hp.n, hp.m, q, hq.n, hq.m, j, i);
+            let v = walk::pair::pair_at(p, hp, q, hq, j, i);
             r = with_found(r, ask.size, v);
         }
         i = bits::next_from(bits, i + 1);
@@ -257,7 +257,7 @@ fn count_to(p: &[i32], hp: Size, q: &[i32], hq: Size, j: usize, t: usize, bits: 
     let mut count: usize = 0;
     let mut i = bits::next_from(bits, 0);
     while (i < n) & (count < t) {
-        let a = walk::ring::pair_walk(p, hp.n, hp.m, q, hq.n, hq.m, j, i);
+        let a = walk::ring::pair_walk(p, hp, q, hq, j, i);
         if walk::clear_after(a) {
             count += 1;
         }

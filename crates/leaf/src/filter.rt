@@ -2,6 +2,7 @@
 // In which order those that rule out are asked is free: the other chambers of the leaf first, since they are few.
 use plane::Boxed;
 use plane::Spot;
+use sheet::Size;
 ghost use mathlib.Core.Path.{_≡_};
 ghost use mathlib.Core.Bool.{not, _&&_};
 ghost use Prim.Native.Nat.{_+_, _≤_, _<_};
@@ -19,10 +20,8 @@ ghost use Rattle.leaf.specs.Room.{Leaf, Sets};
 
 // What stays the same all through a run: the points and the nodes of P and of Q, the leaf v of Q with the places that it covers, and the words of a kept set.
 struct Job {
-    np: usize,
-    mp: usize,
-    nq: usize,
-    mq: usize,
+    hp: Size,
+    hq: Size,
     v: usize,
     first: usize,
     count: usize,
@@ -31,16 +30,16 @@ struct Job {
 
 // Where the chamber at place k of the leaf stands.
 fn chamber(q: &[i32], j: Job, k: usize) -> Spot
-    requires { ⌜ Leaf (now q) (j .nq) (j .mq) (j .v) (j .first) (j .count) × (k < j .count) ⌝ }
+    requires { ⌜ Leaf (now q) (j .hq .n) (j .hq .m) (j .v) (j .first) (j .count) × (k < j .count) ⌝ }
     ensures { λ r. ⌜ (r ≡ chamberSpot (now (q .entry)) (j .v) k) × SpotIn r ⌝ }
 {
-    let at = sheet::reads::order_at(q, j.nq, j.mq, j.first + k);
-    sheet::reads::spot_at(q, j.nq, j.mq, at)
+    let at = sheet::reads::order_at(q, j.hq.n, j.hq.m, j.first + k);
+    sheet::reads::spot_at(q, j.hq.n, j.hq.m, at)
 }
 
 // Whether the chamber at place h is another than k, and drops the box o, for a.
 fn other_shuts(q: &[i32], j: Job, k: usize, a: Spot, o: Boxed, h: usize) -> bool
-    requires { ⌜ Leaf (now q) (j .nq) (j .mq) (j .v) (j .first) (j .count) × SpotIn a × BoxIn o × (h < j .count) ⌝ }
+    requires { ⌜ Leaf (now q) (j .hq .n) (j .hq .m) (j .v) (j .first) (j .count) × SpotIn a × BoxIn o × (h < j .count) ⌝ }
     ensures { λ r. ⌜ r ≡ (not (eqb h k) && dropsBox a (chamberSpot (now (q .entry)) (j .v) h) o) ⌝ }
 {
     if h == k {
@@ -52,7 +51,7 @@ fn other_shuts(q: &[i32], j: Job, k: usize, a: Spot, o: Boxed, h: usize) -> bool
 
 // Whether another chamber of the leaf than k drops the box o, for a.
 fn others_shut(q: &[i32], j: Job, k: usize, a: Spot, o: Boxed) -> bool
-    requires { ⌜ Leaf (now q) (j .nq) (j .mq) (j .v) (j .first) (j .count) × SpotIn a × BoxIn o ⌝ }
+    requires { ⌜ Leaf (now q) (j .hq .n) (j .hq .m) (j .v) (j .first) (j .count) × SpotIn a × BoxIn o ⌝ }
     ensures { λ r. ⌜ r ≡ someB (j .count) (λ h. not (eqb h k) && dropsBox a (chamberSpot (now (q .entry)) (j .v) h) o) ⌝ }
 {
     let mut h = 0;
@@ -67,8 +66,8 @@ fn others_shut(q: &[i32], j: Job, k: usize, a: Spot, o: Boxed) -> bool
 
 // Whether the box o is ruled out for the chamber k, which stands at a.
 fn rules_box(p: &[i32], q: &[i32], j: Job, k: usize, a: Spot, o: Boxed, bits: &[u64]) -> bool
-    requires { ⌜ Opens (now p) (j .np) (j .mp) × Leaf (now q) (j .nq) (j .mq) (j .v) (j .first) (j .count) × (k < j .count) × SpotIn a × BoxIn o × Sets (now bits) (j .words) (j .np) ⌝ }
-    ensures { λ r. ⌜ r ≡ ruledOut (chamberSpot (now (q .entry)) (j .v)) (j .count) (j .words) (now (p .entry)) (j .np) (λ s. dropsBox a s o) k (now (bits .entry)) ⌝ }
+    requires { ⌜ Opens (now p) (j .hp .n) (j .hp .m) × Leaf (now q) (j .hq .n) (j .hq .m) (j .v) (j .first) (j .count) × (k < j .count) × SpotIn a × BoxIn o × Sets (now bits) (j .words) (j .hp .n) ⌝ }
+    ensures { λ r. ⌜ r ≡ ruledOut (chamberSpot (now (q .entry)) (j .v)) (j .count) (j .words) (now (p .entry)) (j .hp .n) (λ s. dropsBox a s o) k (now (bits .entry)) ⌝ }
 {
     if others_shut(q, j, k, a, o) {
         return true;
@@ -76,16 +75,16 @@ fn rules_box(p: &[i32], q: &[i32], j: Job, k: usize, a: Spot, o: Boxed, bits: &[
     let from = j.words * k;
     let to = from + j.words;
     let own = &bits[from..to];
-    walk::filter::seek_all(p, j.np, j.mp, a, o, own) < j.np
+    walk::filter::seek_all(p, j.hp.n, j.hp.m, a, o, own) < j.hp.n
 }
 
 // Position i is kept for the chamber k, unless it is ruled out for it.
 fn weigh_at(p: &[i32], q: &[i32], j: Job, i: usize, k: usize, bits: &mut [u64])
-    requires { ⌜ Opens (now p) (j .np) (j .mp) × Leaf (now q) (j .nq) (j .mq) (j .v) (j .first) (j .count) × (i < j .np) × (k < j .count) × Sets (now bits) (j .words) (j .np) ⌝ }
-    ensures { λ _. ⌜ now (bits .exit) ≡ weigh (chamberSpot (now (q .entry)) (j .v)) (j .count) (j .words) (now (p .entry)) (j .np) i k (now (bits .entry)) ⌝ }
+    requires { ⌜ Opens (now p) (j .hp .n) (j .hp .m) × Leaf (now q) (j .hq .n) (j .hq .m) (j .v) (j .first) (j .count) × (i < j .hp .n) × (k < j .count) × Sets (now bits) (j .words) (j .hp .n) ⌝ }
+    ensures { λ _. ⌜ now (bits .exit) ≡ weigh (chamberSpot (now (q .entry)) (j .v)) (j .count) (j .words) (now (p .entry)) (j .hp .n) i k (now (bits .entry)) ⌝ }
 {
     let a = chamber(q, j, k);
-    let z = sheet::reads::spot_at(p, j.np, j.mp, i);
+    let z = sheet::reads::spot_at(p, j.hp.n, j.hp.m, i);
     if rules_box(p, q, j, k, a, plane::box_at(z), bits) {
         return;
     }
@@ -94,8 +93,8 @@ fn weigh_at(p: &[i32], q: &[i32], j: Job, i: usize, k: usize, bits: &mut [u64])
 
 // Position i, for each chamber in turn.
 fn weigh_all(p: &[i32], q: &[i32], j: Job, i: usize, bits: &mut [u64])
-    requires { ⌜ Opens (now p) (j .np) (j .mp) × Leaf (now q) (j .nq) (j .mq) (j .v) (j .first) (j .count) × (i < j .np) × Sets (now bits) (j .words) (j .np) ⌝ }
-    ensures { λ _. ⌜ now (bits .exit) ≡ inTurn (weigh (chamberSpot (now (q .entry)) (j .v)) (j .count) (j .words) (now (p .entry)) (j .np) i) (j .count) 0 (now (bits .entry)) ⌝ }
+    requires { ⌜ Opens (now p) (j .hp .n) (j .hp .m) × Leaf (now q) (j .hq .n) (j .hq .m) (j .v) (j .first) (j .count) × (i < j .hp .n) × Sets (now bits) (j .words) (j .hp .n) ⌝ }
+    ensures { λ _. ⌜ now (bits .exit) ≡ inTurn (weigh (chamberSpot (now (q .entry)) (j .v)) (j .count) (j .words) (now (p .entry)) (j .hp .n) i) (j .count) 0 (now (bits .entry)) ⌝ }
 {
     let mut k = 0;
     while k < j.count {
@@ -106,12 +105,12 @@ fn weigh_all(p: &[i32], q: &[i32], j: Job, i: usize, bits: &mut [u64])
 
 // The places of a leaf of P, in turn.
 fn leaf_places(p: &[i32], q: &[i32], j: Job, first: usize, count: usize, bits: &mut [u64])
-    requires { ⌜ Opens (now p) (j .np) (j .mp) × Leaf (now q) (j .nq) (j .mq) (j .v) (j .first) (j .count) × (first + count ≤ j .np) × Sets (now bits) (j .words) (j .np) ⌝ }
-    ensures { λ _. ⌜ now (bits .exit) ≡ inTurn (λ r. inTurn (weigh (chamberSpot (now (q .entry)) (j .v)) (j .count) (j .words) (now (p .entry)) (j .np) (orderOf (now (p .entry)) (j .np) r)) (j .count) 0) count first (now (bits .entry)) ⌝ }
+    requires { ⌜ Opens (now p) (j .hp .n) (j .hp .m) × Leaf (now q) (j .hq .n) (j .hq .m) (j .v) (j .first) (j .count) × (first + count ≤ j .hp .n) × Sets (now bits) (j .words) (j .hp .n) ⌝ }
+    ensures { λ _. ⌜ now (bits .exit) ≡ inTurn (λ r. inTurn (weigh (chamberSpot (now (q .entry)) (j .v)) (j .count) (j .words) (now (p .entry)) (j .hp .n) (orderOf (now (p .entry)) (j .hp .n) r)) (j .count) 0) count first (now (bits .entry)) ⌝ }
 {
     let mut i = 0;
     while i < count {
-        let at = sheet::reads::order_at(p, j.np, j.mp, first + i);
+        let at = sheet::reads::order_at(p, j.hp.n, j.hp.m, first + i);
         weigh_all(p, q, j, at, bits);
         i += 1;
     }
@@ -119,10 +118,10 @@ fn leaf_places(p: &[i32], q: &[i32], j: Job, first: usize, count: usize, bits: &
 
 // Whether each chamber of the leaf skips the box of node u.
 fn skips_all(p: &[i32], q: &[i32], j: Job, u: usize, bits: &[u64]) -> bool
-    requires { ⌜ Opens (now p) (j .np) (j .mp) × Leaf (now q) (j .nq) (j .mq) (j .v) (j .first) (j .count) × (u < j .mp) × Sets (now bits) (j .words) (j .np) ⌝ }
-    ensures { λ r. ⌜ r ≡ allB (j .count) (skips (chamberSpot (now (q .entry)) (j .v)) (j .count) (j .words) (now (p .entry)) (j .np) u (now (bits .entry))) ⌝ }
+    requires { ⌜ Opens (now p) (j .hp .n) (j .hp .m) × Leaf (now q) (j .hq .n) (j .hq .m) (j .v) (j .first) (j .count) × (u < j .hp .m) × Sets (now bits) (j .words) (j .hp .n) ⌝ }
+    ensures { λ r. ⌜ r ≡ allB (j .count) (skips (chamberSpot (now (q .entry)) (j .v)) (j .count) (j .words) (now (p .entry)) (j .hp .n) u (now (bits .entry))) ⌝ }
 {
-    let o = sheet::reads::box_at(p, j.np, j.mp, u);
+    let o = sheet::reads::box_at(p, j.hp.n, j.hp.m, u);
     let mut k = 0;
     while k < j.count {
         let a = chamber(q, j, k);
@@ -136,15 +135,15 @@ fn skips_all(p: &[i32], q: &[i32], j: Job, u: usize, bits: &[u64]) -> bool
 
 // The walk from node u of P down, on from the kept sets and the nodes opened so far; the nodes opened after it.
 fn leaf_node(p: &[i32], q: &[i32], j: Job, u: usize, bits: &mut [u64], opened: u64) -> u64
-    requires { ⌜ Opens (now p) (j .np) (j .mp) × Leaf (now q) (j .nq) (j .mq) (j .v) (j .first) (j .count) × (u < j .mp) × Sets (now bits) (j .words) (j .np) × (opened + treeSize (now p) (j .np) (levelOf (now p) (j .np) u) u < 9223372036854775808) ⌝ }
-    ensures { λ r. ⌜ soFar (now (bits .exit)) r ≡ leafNode (chamberSpot (now (q .entry)) (j .v)) (j .count) (j .words) (now (p .entry)) (j .np) (levelOf (now (p .entry)) (j .np) u) u (soFar (now (bits .entry)) opened) ⌝ }
+    requires { ⌜ Opens (now p) (j .hp .n) (j .hp .m) × Leaf (now q) (j .hq .n) (j .hq .m) (j .v) (j .first) (j .count) × (u < j .hp .m) × Sets (now bits) (j .words) (j .hp .n) × (opened + treeSize (now p) (j .hp .n) (levelOf (now p) (j .hp .n) u) u < 9223372036854775808) ⌝ }
+    ensures { λ r. ⌜ soFar (now (bits .exit)) r ≡ leafNode (chamberSpot (now (q .entry)) (j .v)) (j .count) (j .words) (now (p .entry)) (j .hp .n) (levelOf (now (p .entry)) (j .hp .n) u) u (soFar (now (bits .entry)) opened) ⌝ }
 {
     if skips_all(p, q, j, u, bits) {
         return opened;
     }
-    let level = sheet::reads::level_at(p, j.np, j.mp, u);
-    let first = sheet::reads::first_at(p, j.np, j.mp, u);
-    let count = sheet::reads::count_at(p, j.np, j.mp, u);
+    let level = sheet::reads::level_at(p, j.hp.n, j.hp.m, u);
+    let first = sheet::reads::first_at(p, j.hp.n, j.hp.m, u);
+    let count = sheet::reads::count_at(p, j.hp.n, j.hp.m, u);
     let mut so = opened + 1;
     if level == 0 {
         leaf_places(p, q, j, first, count, bits);
@@ -161,33 +160,29 @@ fn leaf_node(p: &[i32], q: &[i32], j: Job, u: usize, bits: &mut [u64], opened: u
 // The filter walk of all of P for the chambers of the leaf v of Q: the lent words are the kept sets, and the answer is the nodes opened.
 pub fn leaf_kept(
     p: &[i32],
-    np: usize,
-    mp: usize,
+    hp: Size,
     q: &[i32],
-    nq: usize,
-    mq: usize,
+    hq: Size,
     v: usize,
     words: usize,
     bits: &mut [u64],
 ) -> u64
-    requires { ⌜ Opens (now p) np mp × Opens (now q) nq mq × (v < mq) × (levelOf (now q) nq v ≡ 0) × Sets (now bits) words np ⌝ }
-    ensures { λ r. ⌜ (now (bits .exit) ≡ leafKept (chamberSpot (now (q .entry)) v) (countOf (now (q .entry)) nq v) words (now (p .entry)) .bits) × (r ≡ leafKept (chamberSpot (now (q .entry)) v) (countOf (now (q .entry)) nq v) words (now (p .entry)) .opened) ⌝ }
+    requires { ⌜ Opens (now p) (hp .n) (hp .m) × Opens (now q) (hq .n) (hq .m) × (v < hq .m) × (levelOf (now q) (hq .n) v ≡ 0) × Sets (now bits) words (hp .n) ⌝ }
+    ensures { λ r. ⌜ (now (bits .exit) ≡ leafKept (chamberSpot (now (q .entry)) v) (countOf (now (q .entry)) (hq .n) v) words (now (p .entry)) .bits) × (r ≡ leafKept (chamberSpot (now (q .entry)) v) (countOf (now (q .entry)) (hq .n) v) words (now (p .entry)) .opened) ⌝ }
 {
     bits::clear(bits);
-    if mp == 0 {
+    if hp.m == 0 {
         return 0;
     }
-    let first = sheet::reads::first_at(q, nq, mq, v);
-    let count = sheet::reads::count_at(q, nq, mq, v);
+    let first = sheet::reads::first_at(q, hq.n, hq.m, v);
+    let count = sheet::reads::count_at(q, hq.n, hq.m, v);
     let j = Job {
-        np,
-        mp,
-        nq,
-        mq,
+        hp,
+        hq,
         v,
         first,
         count,
         words,
     };
-    leaf_node(p, q, j, mp - 1, bits, 0)
+    leaf_node(p, q, j, hp.m - 1, bits, 0)
 }

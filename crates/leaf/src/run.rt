@@ -1,5 +1,6 @@
 // The run of a leaf, on lent words: its ring pairs, each by its bit, and how they are read one after the other.
 use list::Pair;
+use sheet::Size;
 ghost use mathlib.Core.Path.{_≡_};
 ghost use mathlib.Core.List.{[], _∷_};
 ghost use Prim.Native.Nat.{_<_};
@@ -24,27 +25,25 @@ pub struct Step {
 // The run of the leaf v of Q: of the words lent, the bits of its ring pairs are left, and no other.
 pub fn run_made(
     p: &[i32],
-    np: usize,
-    mp: usize,
+    hp: Size,
     q: &[i32],
-    nq: usize,
-    mq: usize,
+    hq: Size,
     v: usize,
     words: usize,
     bits: &mut [u64],
 ) -> Made
-    requires { ⌜ Opens (now p) np mp × Opens (now q) nq mq × (v < mq) × (levelOf (now q) nq v ≡ 0) × Sets (now bits) words np ⌝ }
+    requires { ⌜ Opens (now p) (hp .n) (hp .m) × Opens (now q) (hq .n) (hq .m) × (v < hq .m) × (levelOf (now q) (hq .n) v ≡ 0) × Sets (now bits) words (hp .n) ⌝ }
     ensures { λ r. ⌜ RunSet (now (p .entry)) (now (q .entry)) v words (now (bits .exit)) × (r .count ≡ length (leafList (now (p .entry)) (now (q .entry)) v)) × (r .opened ≡ leafOpened words (now (p .entry)) (now (q .entry)) v) ⌝ }
 {
-    let first = sheet::reads::first_at(q, nq, mq, v);
-    let chambers = sheet::reads::count_at(q, nq, mq, v);
+    let first = sheet::reads::first_at(q, hq.n, hq.m, v);
+    let chambers = sheet::reads::count_at(q, hq.n, hq.m, v);
     let end = 64 * (words * chambers);
-    let mut opened = crate::filter::leaf_kept(p, np, mp, q, nq, mq, v, words, bits);
+    let mut opened = crate::filter::leaf_kept(p, hp, q, hq, v, words, bits);
     let mut count: usize = 0;
     let mut at = bits::next_from(bits, 0);
     while at < end {
-        let j = sheet::reads::order_at(q, nq, mq, first + at / (64 * words));
-        let a = walk::ring::pair_walk(p, np, mp, q, nq, mq, j, at % (64 * words));
+        let j = sheet::reads::order_at(q, hq.n, hq.m, first + at / (64 * words));
+        let a = walk::ring::pair_walk(p, hp, q, hq, j, at % (64 * words));
         opened += a.opened;
         if walk::clear_after(a) {
             count += 1;
@@ -62,23 +61,21 @@ pub fn run_made(
 // The first pair of a run from bit `at` on, where there is one.
 pub fn pair_from(
     p: &[i32],
-    np: usize,
-    mp: usize,
+    hp: Size,
     q: &[i32],
-    nq: usize,
-    mq: usize,
+    hq: Size,
     v: usize,
     words: usize,
     bits: &[u64],
     at: usize,
 ) -> Step
-    requires { ⌜ Opens (now p) np mp × Opens (now q) nq mq × (v < mq) × (levelOf (now q) nq v ≡ 0) × Sets (now bits) words np × RunSet (now p) (now q) v words (now bits) × (leftFrom (now p) (now q) v words (now bits) at ≡ [] → ⊥) ⌝ }
+    requires { ⌜ Opens (now p) (hp .n) (hp .m) × Opens (now q) (hq .n) (hq .m) × (v < hq .m) × (levelOf (now q) (hq .n) v ≡ 0) × Sets (now bits) words (hp .n) × RunSet (now p) (now q) v words (now bits) × (leftFrom (now p) (now q) v words (now bits) at ≡ [] → ⊥) ⌝ }
     ensures { λ r. ⌜ leftFrom (now (p .entry)) (now (q .entry)) v words (now (bits .entry)) at ≡ r .pair ∷ leftFrom (now (p .entry)) (now (q .entry)) v words (now (bits .entry)) (r .next) ⌝ }
 {
     let x = bits::next_from(bits, at);
-    let first = sheet::reads::first_at(q, nq, mq, v);
-    let j = sheet::reads::order_at(q, nq, mq, first + x / (64 * words));
-    let pair = walk::pair::pair_at(p, np, mp, q, nq, mq, j, x % (64 * words));
+    let first = sheet::reads::first_at(q, hq.n, hq.m, v);
+    let j = sheet::reads::order_at(q, hq.n, hq.m, first + x / (64 * words));
+    let pair = walk::pair::pair_at(p, hp, q, hq, j, x % (64 * words));
     let next = x + 1;
     Step {
         pair: pair,

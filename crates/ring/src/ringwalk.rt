@@ -1,5 +1,6 @@
 // The ring walk.
 use crate::Walked;
+use sheet::Size;
 ghost use mathlib.Core.Path.{_≡_};
 ghost use Rattle.ring.specs.Answers.{walked};
 
@@ -18,5 +19,7 @@ pub fn ring_walk(p: &[i32], q: &[i32], j: usize, i: usize) -> Walked
     if h.np <= i {
         return Walked::Refused(9);
     }
-    Walked::Done(walk::ring::pair_walk(p, h.np, h.mp, q, h.nq, h.mq, j, i))
+    let hp = Size { n: h.np, m: h.mp };
+    let hq = Size { n: h.nq, m: h.mq };
+    Walked::Done(walk::ring::pair_walk(p, hp, q, hq, j, i))
 }

@@ -1,6 +1,7 @@
 // One run per leaf: the ring pairs of a leaf's chambers, stored in a slice that the caller lends.
 use leaf::run::Step;
 use list::Pair;
+use sheet::Size;
 ghost use mathlib.Core.Path.{_≡_};
 ghost use mathlib.Core.List.{[], _∷_};
 ghost use lib.ListN.{length};
@@ -60,7 +61,9 @@ fn decide(p: &[i32], q: &[i32], leaf: usize, len: usize, bits: &mut [u64]) -> Ru
     if no != 0 {
         return refused(no);
     }
-    let made = leaf::run::run_made(p, a.n, a.m, q, b.n, b.m, leaf, 16, bits);
+    let hp = Size { n: a.n, m: a.m };
+    let hq = Size { n: b.n, m: b.m };
+    let made = leaf::run::run_made(p, hp, q, hq, leaf, 16, bits);
     if len < made.count {
         return refused(16);
     }
@@ -80,7 +83,9 @@ fn next_pair(p: &[i32], q: &[i32], leaf: usize, bits: &[u64], at: usize) -> Step
     let mp = words::num_at(p, p.len() - 3);
     let nq = words::num_at(q, q.len() - 4);
     let mq = words::num_at(q, q.len() - 3);
-    leaf::run::pair_from(p, np, mp, q, nq, mq, leaf, 16, bits, at)
+    let hp = Size { n: np, m: mp };
+    let hq = Size { n: nq, m: mq };
+    leaf::run::pair_from(p, hp, q, hq, leaf, 16, bits, at)
 }
 
 // The ring pairs of the chambers of a leaf of Q, by place, then p id, stored from the first slot on; the slots past them are not touched.

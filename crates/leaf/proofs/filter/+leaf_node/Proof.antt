@@ -27,7 +27,7 @@ use Rattle.leaf.proofs.filter.+leaf_node.{statement}
 use Rattle.leaf.proofs.filter.+leaf_node.Tie.{close}
 
 abbrev μ-leaf-node : Measures 3 leaf-node-kinds.ps ℕ
-μ-leaf-node κs a = levelOf (a .0 .now) (a .1 .1 .0 .np) (a .1 .1 .1 .0)
+μ-leaf-node κs a = levelOf (a .0 .now) (a .1 .1 .0 .hp .n) (a .1 .1 .1 .0)
 
 abbrev leaf-node-at : ℕ → In 3 leaf-node-kinds.ps
 leaf-node-at t = and 3 leaf-node-kinds.ps (is 3 leaf-node-kinds.ps μ-leaf-node t) leaf-node.Pre
@@ -40,7 +40,7 @@ abbrev claims : ℕ → leaf-node-lts.Claims
 claims t = (skips-all-reads.Asked, skips-all-reads.Learnt, level-at-reads.Asked, level-at-reads.Learnt, first-at-reads.Asked, first-at-reads.Learnt, count-at-reads.Asked, count-at-reads.Learnt, leaf-places-reads.Asked, leaf-places-reads.Learnt, leaf-node-below t, leaf-node.Post)
 
 abbrev leaf-node-Inv-loop : leaf-node-lts.InvT-loop
-leaf-node-Inv-loop p q j u bits₀ opened level first count so₀ i₀ bits so i = Rounds (chamberSpot q (j .v)) (j .count) (j .words) p (j .np) (level - 1) first count bits₀ so₀ bits so i
+leaf-node-Inv-loop p q j u bits₀ opened level first count so₀ i₀ bits so i = Rounds (chamberSpot q (j .v)) (j .count) (j .words) p (j .hp .n) (level - 1) first count bits₀ so₀ bits so i
 
 abbrev leaf-node-μ-loop : leaf-node-lts.MeasureT-loop
 leaf-node-μ-loop p q j u bits₀ opened level first count so₀ i₀ bits so i = count - i
@@ -56,21 +56,21 @@ start t c = c .before .before .before .before .before .before .before
 abbrev chambers : (t : ℕ) → Read t → ℕ → Spot
 chambers t c = chamberSpot (start t c .args .q .now) (start t c .args .j .v)
 
-node : (t : ℕ) (c : Read t) → Node (start t c .args .p .now) (start t c .args .j .np) (start t c .args .j .mp) (start t c .args .u) (c .before .before .level-at .result) (c .before .first-at .result) (c .count-at .result)
+node : (t : ℕ) (c : Read t) → Node (start t c .args .p .now) (start t c .args .j .hp .n) (start t c .args .j .hp .m) (start t c .args .u) (c .before .before .level-at .result) (c .before .first-at .result) (c .count-at .result)
 node t c = record { table = start t c .pre .1 .0 .table; here = start t c .pre .1 .2; is-level = c .before .before .level-at .ensures; is-first = c .before .first-at .ensures; is-count = c .count-at .ensures }
 
-unskipped : (t : ℕ) (c : Read t) → allB (start t c .args .j .count) (skips (chambers t c) (start t c .args .j .count) (start t c .args .j .words) (start t c .args .p .now) (start t c .args .j .np) (start t c .args .u) (start t c .args .bits .now)) ≡ false
+unskipped : (t : ℕ) (c : Read t) → allB (start t c .args .j .count) (skips (chambers t c) (start t c .args .j .count) (start t c .args .j .words) (start t c .args .p .now) (start t c .args .j .hp .n) (start t c .args .u) (start t c .args .bits .now)) ≡ false
 unskipped t c = sym (c .before .before .before .before .skips-all .ensures) ∙ c .before .before .before .if1 .left
 
-room : (t : ℕ) (c : Read t) → start t c .args .opened + treeSize (start t c .args .p .now) (start t c .args .j .np) (c .before .before .level-at .result) (start t c .args .u) < 9223372036854775808
-room t c = subst (λ (l : ℕ). start t c .args .opened + treeSize (start t c .args .p .now) (start t c .args .j .np) l (start t c .args .u) < 9223372036854775808) (sym (c .before .before .level-at .ensures)) (start t c .pre .1 .4)
+room : (t : ℕ) (c : Read t) → start t c .args .opened + treeSize (start t c .args .p .now) (start t c .args .j .hp .n) (c .before .before .level-at .result) (start t c .args .u) < 9223372036854775808
+room t c = subst (λ (l : ℕ). start t c .args .opened + treeSize (start t c .args .p .now) (start t c .args .j .hp .n) l (start t c .args .u) < 9223372036854775808) (sym (c .before .before .level-at .ensures)) (start t c .pre .1 .4)
 
 -- the answer from the state at the start, by the level of the node
 abbrev answer : (t : ℕ) → Read t → ℕ → Kept
-answer t c l = leafNode (chambers t c) (start t c .args .j .count) (start t c .args .j .words) (start t c .args .p .now) (start t c .args .j .np) l (start t c .args .u) (soFar (start t c .args .bits .now) (start t c .args .opened))
+answer t c l = leafNode (chambers t c) (start t c .args .j .count) (start t c .args .j .words) (start t c .args .p .now) (start t c .args .j .hp .n) l (start t c .args .u) (soFar (start t c .args .bits .now) (start t c .args .opened))
 
 -- that for the level that was read is that for the node's level
-home : (t : ℕ) (c : Read t) → answer t c (c .before .before .level-at .result) ≡ answer t c (levelOf (start t c .args .p .now) (start t c .args .j .np) (start t c .args .u))
+home : (t : ℕ) (c : Read t) → answer t c (c .before .before .level-at .result) ≡ answer t c (levelOf (start t c .args .p .now) (start t c .args .j .hp .n) (start t c .args .u))
 home t c = ap (answer t c) (c .before .before .level-at .ensures)
 
 leaf-node-skips-all-requires : (t : ℕ) → leaf-node-lts.Need-skips-all-requires (claims t) (leaf-node-at t) leaf-node.Post leaf-node-Inv-loop leaf-node-μ-loop

@@ -15,8 +15,8 @@ same-length c = search needs
 
 returns : tie.Need-returns
 returns c =
-    let p = c .before .before .before .before .before .before .pre in
-    walked-none _ _ _ _ _ _ _ _ (p .0 .n-is) (p .0 .m-is) (c .if1 .taken) (p .4) (c .before .before .before .clear .ensures)
+    let p = c .before .before .before .before .before .before .before .pre in
+    walked-none _ _ _ _ _ _ _ _ (p .0 .n-is) (p .0 .m-is) (c .if1 .taken) (p .4) (c .before .before .before .before .clear .ensures)
 
 first-at-requires : tie.Need-first-at-requires
 first-at-requires c κs = search needs
@@ -29,13 +29,13 @@ sub-leaf-node c = search needs
 
 leaf-node-requires : tie.Need-leaf-node-requires
 leaf-node-requires c κs =
-    let e = c .before .before .before in
-    let p = e .before .before .before .before .before .before .pre in
+    let e = c .before .before .before .before in
+    let p = e .before .before .before .before .before .before .before .pre in
     let z = e .if1 .left in (
       p .0,
-      record { opens = p .1; here = p .2; level = p .3; is-first = c .before .before .first-at .ensures; is-count = c .before .count-at .ensures },
+      record { opens = p .1; here = p .2; level = p .3; is-first = c .before .before .before .first-at .ensures; is-count = c .before .before .count-at .ensures },
       omega (arith, pos-of-ne-zero z),
-      still-sets _ _ _ _ (e .before .before .before .clear .kept .0) (p .4),
+      still-sets _ _ _ _ (e .before .before .before .before .clear .kept .0) (p .4),
       room-top _ _ _ _ (p .0 .table) (omega (arith, p .0 .m-le)) z (omega arith),
     )
 
@@ -44,9 +44,9 @@ same-length-2 c = search needs
 
 returns-2 : tie.Need-returns-2
 returns-2 c =
-    let e = c .before .before .before .before .before .before in
-    let p = e .before .before .before .before .before .before .pre in
-    walked _ _ _ _ _ _ _ _ _ _ _ (c .before .before .before .before .count-at .ensures) (p .0 .n-is) (p .0 .m-is) (e .if1 .left) (p .4) (e .before .before .before .clear .ensures) (c .before .before .leaf-node .ensures)
+    let e = c .before .before .before .before .before .before .before in
+    let p = e .before .before .before .before .before .before .before .pre in
+    walked _ _ _ _ _ _ _ _ _ _ _ (c .before .before .before .before .before .count-at .ensures) (p .0 .n-is) (p .0 .m-is) (e .if1 .left) (p .4) (e .before .before .before .before .clear .ensures) (c .before .before .leaf-node .ensures)
 
 pub leaf-kept-spec : {M : Type 1} → statement M
 leaf-kept-spec =

@@ -9,7 +9,7 @@ use Rattle.leaf.proofs.filter.leaf_places.Statement.{statement}
 use Rattle.leaf.proofs.filter.leaf_places.Tie as tie
 
 abbrev Inv-loop : tie.InvT-loop
-Inv-loop p q j first count bits₀ i₀ bits i = Turned (place (chamberSpot q (j .v)) (j .count) (j .words) p (j .np)) first count bits₀ bits i
+Inv-loop p q j first count bits₀ i₀ bits i = Turned (place (chamberSpot q (j .v)) (j .count) (j .words) p (j .hp .n)) first count bits₀ bits i
 
 abbrev μ-loop : tie.MeasureT-loop
 μ-loop p q j first count bits₀ i₀ bits i = count - i

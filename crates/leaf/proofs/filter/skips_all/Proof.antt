@@ -13,7 +13,7 @@ use Rattle.leaf.proofs.filter.skips_all.Statement.{statement}
 use Rattle.leaf.proofs.filter.skips_all.Tie as tie
 
 abbrev Inv-loop : tie.InvT-loop
-Inv-loop p q j u bits o k₀ k = (k ≤ j .count) × (allB k (skips (chamberSpot q (j .v)) (j .count) (j .words) p (j .np) u bits) ≡ true)
+Inv-loop p q j u bits o k₀ k = (k ≤ j .count) × (allB k (skips (chamberSpot q (j .v)) (j .count) (j .words) p (j .hp .n) u bits) ≡ true)
 
 abbrev μ-loop : tie.MeasureT-loop
 μ-loop p q j u bits o k₀ k = j .count - k
@@ -25,7 +25,7 @@ abbrev start : tie.At-loop Inv-loop μ-loop → tie.Start Inv-loop μ-loop
 start l = l .before .before .before
 
 -- what the call says of the chamber
-said : (c : tie.After-rules-box Inv-loop μ-loop) → let s = start (loop c) .args in c .rules-box .result ≡ skips (chamberSpot (s .q .now) (s .j .v)) (s .j .count) (s .j .words) (s .p .now) (s .j .np) (s .u) (s .bits .now) (loop c .loop .k)
+said : (c : tie.After-rules-box Inv-loop μ-loop) → let s = start (loop c) .args in c .rules-box .result ≡ skips (chamberSpot (s .q .now) (s .j .v)) (s .j .count) (s .j .words) (s .p .now) (s .j .hp .n) (s .u) (s .bits .now) (loop c .loop .k)
 said c = skips-is _ _ _ _ _ _ _ _ _ _ _ (c .before .chamber .ensures .0) (c .before .before .before .before .before .box-at .ensures) (c .rules-box .ensures)
 
 box-at-requires : tie.Need-box-at-requires Inv-loop μ-loop

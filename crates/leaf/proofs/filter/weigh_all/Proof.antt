@@ -7,7 +7,7 @@ use Rattle.leaf.proofs.filter.weigh_all.Statement.{statement}
 use Rattle.leaf.proofs.filter.weigh_all.Tie as tie
 
 abbrev Inv-loop : tie.InvT-loop
-Inv-loop p q j i bits₀ k₀ bits k = Turned (weigh (chamberSpot q (j .v)) (j .count) (j .words) p (j .np) i) 0 (j .count) bits₀ bits k
+Inv-loop p q j i bits₀ k₀ bits k = Turned (weigh (chamberSpot q (j .v)) (j .count) (j .words) p (j .hp .n) i) 0 (j .count) bits₀ bits k
 
 abbrev μ-loop : tie.MeasureT-loop
 μ-loop p q j i bits₀ k₀ bits k = j .count - k

@@ -16,24 +16,24 @@ mul-order-at : tie.Need-mul-order-at
 mul-order-at c = search needs
 
 -- what the function is told
-told : (s : tie.Start) → Told (s .args .p .now) (s .args .np) (s .args .mp) (s .args .q .now) (s .args .nq) (s .args .mq) (s .args .v) (s .args .words)
+told : (s : tie.Start) → Told (s .args .p .now) (s .args .hp .n) (s .args .hp .m) (s .args .q .now) (s .args .hq .n) (s .args .hq .m) (s .args .v) (s .args .words)
 told s = tell (s .pre .0) (s .pre .1) (s .pre .2) (s .pre .3) (s .pre .4)
 
 abbrev start : tie.After-first-at → tie.Start
 start c = c .before .before .before
 
 -- the bit of the next pair
-met : (c : tie.After-first-at) → Met (start c .args .q .now) (start c .args .np) (start c .args .nq) (start c .args .v) (start c .args .words) (start c .args .bits .now) (c .before .next-from .result)
+met : (c : tie.After-first-at) → Met (start c .args .q .now) (start c .args .hp .n) (start c .args .hq .n) (start c .args .v) (start c .args .words) (start c .args .bits .now) (c .before .next-from .result)
 met c = next-met (told (start c)) _ (start c .pre .5) _ _ (c .before .next-from .ensures) (start c .pre .6)
 
-place : (c : tie.After-first-at) → c .first-at .result + c .before .next-from .result / (64 * start c .args .words) < start c .args .nq
+place : (c : tie.After-first-at) → c .first-at .result + c .before .next-from .result / (64 * start c .args .words) < start c .args .hq .n
 place c = place-in (told (start c)) _ _ (c .first-at .ensures) (met c .chamber)
 
 div-order-at : tie.Need-div-order-at
 div-order-at c = met c .some
 
 add-order-at : tie.Need-add-order-at
-add-order-at c = omega (arith, place c, start c .fits .nq)
+add-order-at c = omega (arith, place c, start c .pre .1 .n-le)
 
 order-at-requires : tie.Need-order-at-requires
 order-at-requires c κs = (start c .pre .1, place c)

@@ -10,10 +10,10 @@ use Rattle.leaf.proofs.run.run_made.Statement.{statement}
 use Rattle.leaf.proofs.run.run_made.Tie as tie
 
 abbrev Inv-loop : tie.InvT-loop
-Inv-loop p np mp q nq mq v words bits₀ first chambers end opened₀ count₀ at₀ bits opened count at = Going p q v words bits count opened at
+Inv-loop p hp q hq v words bits₀ first chambers end opened₀ count₀ at₀ bits opened count at = Going p q v words bits count opened at
 
 abbrev μ-loop : tie.MeasureT-loop
-μ-loop p np mp q nq mq v words bits₀ first chambers end opened₀ count₀ at₀ bits opened count at = end - at
+μ-loop p hp q hq v words bits₀ first chambers end opened₀ count₀ at₀ bits opened count at = end - at
 
 first-at-requires : tie.Need-first-at-requires Inv-loop μ-loop
 first-at-requires c κs = (c .before .pre .1, c .before .pre .2)
@@ -22,7 +22,7 @@ count-at-requires : tie.Need-count-at-requires Inv-loop μ-loop
 count-at-requires c κs = (c .before .before .pre .1, c .before .before .pre .2)
 
 -- what the function is told, and what it read before the loop
-told : (s : tie.Start Inv-loop μ-loop) → Told (s .args .p .now) (s .args .np) (s .args .mp) (s .args .q .now) (s .args .nq) (s .args .mq) (s .args .v) (s .args .words)
+told : (s : tie.Start Inv-loop μ-loop) → Told (s .args .p .now) (s .args .hp .n) (s .args .hp .m) (s .args .q .now) (s .args .hq .n) (s .args .hq .m) (s .args .v) (s .args .words)
 told s = tell (s .pre .0) (s .pre .1) (s .pre .2) (s .pre .3) (s .pre .4)
 
 abbrev read : tie.At-loop Inv-loop μ-loop → tie.After-count-at Inv-loop μ-loop
@@ -44,7 +44,7 @@ next-from-requires : tie.Need-next-from-requires Inv-loop μ-loop
 next-from-requires c κs =
     let k = c .before .before .before in
     let s = k .before .before .before .before .before in
-    omega (arith, k .leaf-kept .kept .1 .1 .1 .1 .1 .1 .1 .1 .0, s .pre .4 .long, s .pre .4 .small)
+    omega (arith, k .leaf-kept .kept .1 .1 .1 .1 .1 .1 .0, s .pre .4 .long, s .pre .4 .small)
 
 loop-holds : tie.Need-loop-holds Inv-loop μ-loop
 loop-holds c =
@@ -55,17 +55,17 @@ mul-order-at : tie.Need-mul-order-at Inv-loop μ-loop
 mul-order-at c = omega (arith, start (c .before) .pre .4 .small)
 
 -- the bit that a turn meets
-met : (c : tie.In-loop Inv-loop μ-loop) → Met (start (c .before) .args .q .now) (start (c .before) .args .np) (start (c .before) .args .nq) (start (c .before) .args .v) (start (c .before) .args .words) (c .before .loop .bits) (c .before .loop .at)
+met : (c : tie.In-loop Inv-loop μ-loop) → Met (start (c .before) .args .q .now) (start (c .before) .args .hp .n) (start (c .before) .args .hq .n) (start (c .before) .args .v) (start (c .before) .args .words) (c .before .loop .bits) (c .before .loop .at)
 met c = going-met (told (start (c .before))) _ _ _ _ (c .before .loop .inv) _ (read (c .before) .count-at .ensures) (c .loop-test .taken)
 
-place : (c : tie.In-loop Inv-loop μ-loop) → read (c .before) .before .first-at .result + c .before .loop .at / (64 * start (c .before) .args .words) < start (c .before) .args .nq
+place : (c : tie.In-loop Inv-loop μ-loop) → read (c .before) .before .first-at .result + c .before .loop .at / (64 * start (c .before) .args .words) < start (c .before) .args .hq .n
 place c = place-in (told (start (c .before))) _ _ (read (c .before) .before .first-at .ensures) (met c .chamber)
 
 div-order-at : tie.Need-div-order-at Inv-loop μ-loop
 div-order-at c = met c .some
 
 add-order-at : tie.Need-add-order-at Inv-loop μ-loop
-add-order-at c = omega (arith, place c, start (c .before) .fits .nq)
+add-order-at c = omega (arith, place c, start (c .before) .pre .1 .n-le)
 
 order-at-requires : tie.Need-order-at-requires Inv-loop μ-loop
 order-at-requires c κs = (start (c .before) .pre .1, place c)
