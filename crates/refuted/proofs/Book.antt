@@ -46,7 +46,7 @@ pub begun-closed-wrong : begunFor (source 7 9 full) ≡ begun.Open (book 0 true)
 unfolding begunFor beginNo first given answer begunBook editionOk thresholdNo
 begun-closed-wrong e = true≢false (sym (ap isShut e))
 
--- Two editions of a self join. "Begin gives 3 for a self join of two editions, 21 with a t." [J12]
+-- Two editions of a self join. "Begin gives 3 for a self join of two editions, 21 with a t." [J12, J13]
 abbrev editionsAlone : Source → ℕ
 editionsAlone s = given (not (editionOk (s .«p_edition») && editionOk (s .«q_edition»))) 3
 

@@ -10,6 +10,7 @@
 --     Runs        one run per leaf
 --     Nearest     nearest first: the order, the filter, the lent numbers
 --     Shortest    the shortest circles
+--     Marker      the map marker
 pub mod Cases
 pub mod Plane
 pub mod List
@@ -20,3 +21,4 @@ pub mod Book
 pub mod Runs
 pub mod Nearest
 pub mod Shortest
+pub mod Marker

@@ -189,7 +189,7 @@ pub other-t-wrong : (editionsAlone (ofT 0) (ofT 2) ≡ 0) × (sourceNo (ofT 0) (
 unfolding sourceNo first given
 other-t-wrong = (refl, refl)
 
--- "so that no self join's page enters a two-sheet book". [J10]
+-- "so that no self join's page enters a two-sheet book". [J10, J11]
 pub other-kind-wrong : (editionsAlone (ofT 0) (own 7) ≡ 0) × (sourceNo (ofT 0) (own 7) ≡ 22)
 unfolding sourceNo first given
 other-kind-wrong = (refl, refl)

@@ -1,10 +1,10 @@
 -- Wrong readings of page requests, of what they count, and of a chamber's partners.
 use mathlib.Core.Path.{_≡_, refl, sym, ap, _∙_}
-use mathlib.Core.Bool.{not, _&&_, true≢false}
+use mathlib.Core.Bool.{Bool, true, false, not, _&&_, true≢false}
 use mathlib.Core.List.{List, [], _∷_}
 use Prim.Native.Nat.{ℕ, suc}
 use native.Mathlib.Omega.{arith}
-use lib.Dec.{eqb, leb}
+use lib.Dec.{eqb, leb, ltb}
 use lib.IntN.{ℤ}
 use lib.ListN.{length, getD}
 use Rattle.words.specs.Word.{num, eqZ, within, before, isBelow, minZ, maxZ}
@@ -42,7 +42,7 @@ use Rattle.join.specs.Threshold.{foundFor, ringOpened, allWalked, walksFor, sma
 use Rattle.ring.specs.declared.Paged.{Paged}
 use Rattle.ring.specs.Numbers.{sheetsNo}
 use Rattle.ring.specs.Page.{keyNo, askedNo, pageNo, pageGiven, pageRefused, pageAnswer}
-use Rattle.ring.specs.Partners.{idNo, leastNo, partnersNo, partnersCount}
+use Rattle.ring.specs.Partners.{idNo, leastNo, partnersNo, partnersCount, partnersGiven}
 use Rattle.refuted.proofs.Cases.{key, chambers, pumpSheet, chamberSheet, words, nothing, noForm}
 
 -- ---- the count of nodes opened
@@ -184,3 +184,11 @@ allPartners P Q id = length (chamberPairs id (ringList (pointsOf P) (pointsOf Q)
 pub all-partners-wrong : (allPartners pumpSheet chamberSheet 5 ≡ 2) × (partnersCount pumpSheet chamberSheet 5 1 ≡ 1)
 unfolding partnersCount smaller chamberPairs ringList listBy rows row ringPair unblocked allB blocks sameSpot pointsOf tab spotOf num
 all-partners-wrong = (refl, refl)
+
+-- A yes only beyond t. "a yes exactly when that is t": chamber 5 has two partners. [T2]
+abbrev beyond : List ℤ → List ℤ → ℕ → ℕ → Bool
+beyond P Q id t = ltb t (allPartners P Q id)
+
+pub beyond-t-wrong : (beyond pumpSheet chamberSheet 5 2 ≡ false) × (partnersGiven pumpSheet chamberSheet 5 2 .enough ≡ true)
+unfolding partnersGiven partnersCount smaller chamberPairs ringList listBy rows row ringPair unblocked allB blocks sameSpot pointsOf tab spotOf num
+beyond-t-wrong = (refl, refl)

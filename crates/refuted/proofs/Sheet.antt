@@ -6,7 +6,7 @@ use Prim.Native.Nat.{ℕ, _+_, _*_}
 use lib.Dec.{leb, ltb}
 use lib.IntN.{ℤ, pos, negℤ}
 use lib.Signed.{leZ}
-use lib.ListN.{length, getD, replicate}
+use lib.ListN.{length, take, getD, replicate}
 use mir.Syntax.{w32}
 use mir.Val.{toZ}
 use Rattle.words.specs.Word.{eqZ, within, before, isBelow, minZ, maxZ, num}
@@ -127,3 +127,13 @@ stops-early-wrong = (refl, refl)
 pub writes-nothing-wrong : packOut form1 1 (words (1 ∷ 4 ∷ 0 ∷ [])) (words (0 ∷ [])) 3 (replicate 18 (pos 0)) ≡ replicate 18 (pos 0) → ⊥
 unfolding packOut packNo answer first given shapeOk rangeOk editionOk pointsOk pointOk fieldsOk risesOk idWord coordWord within orderListOk listOk isBelow placeIn firstB sheetSize nodesFor nodesFrom oneLeft width ground above up16 eqZ allB form1 packed tab packWord bodyWord flatWord
 writes-nothing-wrong e = true≢false (ap (λ (l : List ℤ). eqZ (getD l 0 (pos 0)) (pos 1)) e)
+
+-- As much of the sheet as there is room for. Refused by 17, the call "leaves lent memory [..] as they stood". [N3, N17]
+abbrev written : List ℤ → List ℤ → ℕ → ℕ → List ℤ → List ℤ
+written p o n ed out = take (length out) (packed p o n ed)
+
+pub touches-refused-wrong :
+    (getD (written (words (1 ∷ 4 ∷ 0 ∷ [])) (words (0 ∷ [])) 1 3 (replicate 17 (pos 0))) 0 (pos 0) ≡ pos 1)
+    × (packOut form1 1 (words (1 ∷ 4 ∷ 0 ∷ [])) (words (0 ∷ [])) 3 (replicate 17 (pos 0)) ≡ replicate 17 (pos 0))
+unfolding packOut packNo answer first given shapeOk rangeOk editionOk pointsOk pointOk fieldsOk risesOk idWord coordWord within orderListOk listOk isBelow placeIn firstB sheetSize nodesFor nodesFrom oneLeft width ground above up16 eqZ allB form1 packed tab packWord bodyWord flatWord
+touches-refused-wrong = (refl, refl)
