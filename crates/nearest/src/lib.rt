@@ -18,7 +18,7 @@ pub struct Near {
     pub distance: u64,
 }
 
-// What `nearest` answers: 0, how many pump houses there are and these, the nearest first, the rest zeros; or the number of refusal and zeros.
+// What `nearest` answers: 0, how many pump houses are given and these, the nearest first, the rest zeros; or the number of refusal and zeros.
 #[repr(C)]
 pub struct Found {
     pub number: u32,

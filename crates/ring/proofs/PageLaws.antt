@@ -141,8 +141,8 @@ module _ {P Q : List ℤ} {np mp nq mq : ℕ} (o : Opens P np mp) (o′ : Opens 
       λ i. record { number = 0; opened = opened i; page = page i }
 
 -- a list of two sheets
-pub of-two : (t : ℕ) (P Q : List ℤ) → Alone (withT t) P Q
-of-two t P Q = record { one = λ e. absurd (true≢false (sym e)); no-t = λ e. absurd (true≢false (sym e)) }
+pub of-two : (a : Terms) → a .own ≡ false → (P Q : List ℤ) → Alone a P Q
+of-two a f P Q = record { one = λ e. absurd (true≢false (sym e ∙ f)); no-t = λ e. absurd (true≢false (sym e ∙ f)) }
 
 -- a page, answered by an asker of any terms that serves every key in range: following the answers from (0, 0), whatever their sizes from 1 to 16, gives the terms' list, each pair once
 module _ (a : Terms) (P Q : List ℤ) (p-opens : Opens P (points P) (nodes P)) (q-opens : Opens Q (points Q) (nodes Q)) (ask : Key → ℕ → Paged)

@@ -51,7 +51,7 @@ pub made : {P Q : List ℤ} {np mp nq mq : ℕ} → Opens P np mp → Opens Q nq
 unfolding pageFrom pageOf
 made {P} {Q} o o′ fit key d e =
     let s : Source = record { «p_edition» = 0; «q_edition» = 0; terms = full } in
-    let g : pageFrom s key d ≡ pageOf s (pairsOf P Q) key 16 = ap (pageFrom s key) e ∙ page-pairs o o′ full (of-two 0 P Q) 16 (omega arith) s key 16 (omega arith) ∙ ap (λ (l : List Pair). pageOf s l key 16) (full-list (pointsOf P) (pointsOf Q)) in
+    let g : pageFrom s key d ≡ pageOf s (pairsOf P Q) key 16 = ap (pageFrom s key) e ∙ page-pairs o o′ full (of-two full refl P Q) 16 (omega arith) s key 16 (omega arith) ∙ ap (λ (l : List Pair). pageOf s l key 16) (full-list (pointsOf P) (pointsOf Q)) in
     record { count = ap (λ (x : Page). x .count) g; pairs = ap (λ (x : Page). x .pairs) g; end = ap (λ (x : Page). x .end) g }
 
 -- ---- a search that holds s

@@ -1,5 +1,5 @@
 -- `shortest::with_page` meets its contract. The loop's invariant is `Passed`: the pairs that the first i of the page leave. Assumes nothing.
-use mathlib.Core.Path.{sym, ap, _∙_}
+use mathlib.Core.Path.{refl, sym, ap, _∙_}
 use mathlib.Core.Bool.{not}
 use mathlib.Core.List.{List}
 use mathlib.Core.Logic.{⊎-elim}
@@ -35,7 +35,7 @@ module _ (a : tie.After-page-made Inv-loop μ-loop) where
   few = made-few _ _ _ page
 
 page-made-requires : tie.Need-page-made-requires Inv-loop μ-loop
-page-made-requires c κs = let p = c .before .pre in (p .0, p .1, omega arith, p .2, of-two 0 _ _)
+page-made-requires c κs = let p = c .before .pre in (p .0, p .1, omega arith, p .2, of-two _ refl _ _)
 
 loop-holds : tie.Need-loop-holds Inv-loop μ-loop
 loop-holds c = let p = c .before .before .pre in passed-start _ (p .3) (p .4) _ _ (p .5)

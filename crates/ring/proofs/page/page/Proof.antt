@@ -1,4 +1,5 @@
 -- `ring::page::page` meets its contract, number by number. Assumes nothing.
+use mathlib.Core.Path.{refl}
 use Rattle.ring.proofs.HeadLaws.{headed-both}
 use Rattle.ring.proofs.PageLaws.{size-in, page-sheets, page-asked, page-made, pumps-fit, of-two}
 use borrow.Author.Needs.{needs}
@@ -35,7 +36,7 @@ given-requires c κs =
     let e = a .before .before in
     let h = e .before .before .heads-of in
     let o = headed-both _ _ _ (h .ensures) (e .if1 .left) in
-    (o .p-facts, o .q-facts, pumps-fit _ _ _ o, size-in _ _ _ (a .asked-no .ensures) (c .if2 .left), of-two _ _ _)
+    (o .p-facts, o .q-facts, pumps-fit _ _ _ o, size-in _ _ _ (a .asked-no .ensures) (c .if2 .left), of-two _ refl _ _)
 
 returns-3 : tie.Need-returns-3
 returns-3 c =
