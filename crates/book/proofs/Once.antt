@@ -16,7 +16,7 @@ use Rattle.book.specs.declared.Next.the-variants as next
 use Rattle.book.specs.declared.Asked.{Asked}
 use Rattle.book.specs.declared.Taken.{Taken}
 use Rattle.book.specs.declared.TakenArray.{TakenArray}
-use Rattle.book.specs.Rules.{beginNo, begunNo, begunBook, begunFor, lastKey, nextNo, askedNo, askedAt, asked, taken, takenSlots, takenArray}
+use Rattle.book.specs.Rules.{beginNo, begunNo, begunBook, begunFor, lastKey, nextNo, nextCaseNo, askedAt, asked, taken, takenSlots, takenArray}
 
 pub begin-once : (s : Source) (r r′ : Begun) → r ≡ begunFor s → r′ ≡ begunFor s → r ≡ r′
 begin-once s r r′ x y = x ∙ sym y
@@ -40,9 +40,9 @@ pub begin-no : (s : Source) → begunNo (begunFor s) ≡ beginNo s
 unfolding begunFor begunNo
 begin-no s = answer-number (begun.Open (begunBook s)) begun.Refused begunNo refl (λ k. refl) (beginNo s)
 
-pub next-no : (b : Book) (s : List Pair) → askedNo (asked b s .next) ≡ nextNo b (length s)
-unfolding asked askedAt askedNo
-next-no b s = answer-number (next.After (lastKey (b .held) s)) next.Refused askedNo refl (λ k. refl) (nextNo b (length s))
+pub next-no : (b : Book) (s : List Pair) → nextCaseNo (asked b s .next) ≡ nextNo b (length s)
+unfolding asked askedAt nextCaseNo
+next-no b s = answer-number (next.After (lastKey (b .held) s)) next.Refused nextCaseNo refl (λ k. refl) (nextNo b (length s))
 
 -- asking hands the state back
 pub asked-book : (b : Book) (s : List Pair) → asked b s .book ≡ b

@@ -234,12 +234,12 @@ unfolding begunFor
 begun-is s b e = by-begun (beginNo s) (begunBook s) b e .1
 
 -- what a book can be begun for: a t up to 1,000, and a self join only of one edition and with no t
-pub record Fair (s : Source) : Type 0 where
+pub record Beginnable (s : Source) : Type 0 where
   pub t-most : s .terms .threshold ≤ lastThreshold
   pub one-edition : s .terms .own ≡ true → s .«p_edition» ≡ s .«q_edition»
   pub no-t : s .terms .own ≡ true → s .terms .threshold ≡ 0
 
-begun-in : (s : Source) (b : Book) → begunFor s ≡ begun.Open b → Fair s
+begun-in : (s : Source) (b : Book) → begunFor s ≡ begun.Open b → Beginnable s
 unfolding begunFor beginNo thresholdNo
 begun-in s b e =
     let both = editionOk (s .«p_edition») && editionOk (s .«q_edition») in
@@ -307,8 +307,8 @@ module _ (w : World) where
   story (lent {b} {slots} other r h e) = let k = story r in record { room = h; few = k .few; same = e ∙ k .same; shut = k .shut }
 
   -- what it is of is what a page request may ask for
-  pub begun-fair : {b : Book} {s : List Pair} → Reached w b s → Fair (b .source)
-  begun-fair (began s b slots e) = subst (λ (x : Book). Fair (x .source)) (begun-is s b e) (unfold begunBook in begun-in s b e)
+  pub begun-fair : {b : Book} {s : List Pair} → Reached w b s → Beginnable (b .source)
+  begun-fair (began s b slots e) = subst (λ (x : Book). Beginnable (x .source)) (begun-is s b e) (unfold begunBook in begun-in s b e)
   begun-fair (took {b} {slots} g r h) = rw (same-book-source b slots g) (begun-fair r)
   begun-fair (lent other r h e) = begun-fair r
 

@@ -73,9 +73,9 @@ unfoldable pub nextNo : Book → ℕ → ℕ
 nextNo b len = given (ltb len (b .held)) 11
 
 -- the document's number for each case of the answer [F10]
-unfoldable pub askedNo : Next → ℕ
-askedNo (next.After k) = 0
-askedNo (next.Refused n) = n
+unfoldable pub nextCaseNo : Next → ℕ
+nextCaseNo (next.After k) = 0
+nextCaseNo (next.Refused n) = n
 
 -- the answer of next key, for a slice of `len` slots of which the last held one has the key k
 unfoldable pub askedAt : Book → ℕ → Key → Asked

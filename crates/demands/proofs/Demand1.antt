@@ -58,7 +58,7 @@ use Rattle.book.specs.declared.Asked.{Asked}
 use Rattle.book.specs.declared.Taken.{Taken}
 use Rattle.book.specs.declared.TakenArray.{TakenArray}
 use Rattle.list.specs.Lent.{lentOf}
-use Rattle.book.specs.Rules.{beginNo, begunNo, nextNo, askedNo, takeNo, taken, takenSlots}
+use Rattle.book.specs.Rules.{beginNo, begunNo, nextNo, nextCaseNo, takeNo, taken, takenSlots}
 use Rattle.book.proofs.Once as of-book
 use Rattle.book.proofs.TakeLaws as of-take
 use Rattle.marker.specs.Mark.{markNo, numberOf, Middle, MiddleAt}
@@ -194,16 +194,16 @@ begin-no s r a =
 
 -- ---- the next key, 11: the book comes back as it went in
 
-only-next : (k : ℕ) (r : Next) → askedNo r ≡ k → Refuses k → r ≡ next.Refused k
-unfolding askedNo
+only-next : (k : ℕ) (r : Next) → nextCaseNo r ≡ k → Refuses k → r ≡ next.Refused k
+unfolding nextCaseNo
 only-next k (next.After key) e ne = absurd (ne (sym e))
 only-next k (next.Refused n) e ne = ap next.Refused e
 
 -- [N25, N26, F10]
 pub next-no : (b : Book) (slots : List Pair) (r : Asked) → NextAnswers b slots r
-    → (askedNo (r .next) ≡ nextNo b (length slots)) × (r .book ≡ b) × (Refuses (nextNo b (length slots)) → r .next ≡ next.Refused (nextNo b (length slots)))
+    → (nextCaseNo (r .next) ≡ nextNo b (length slots)) × (r .book ≡ b) × (Refuses (nextNo b (length slots)) → r .next ≡ next.Refused (nextNo b (length slots)))
 next-no b slots r a =
-    let e : askedNo (r .next) ≡ nextNo b (length slots) = ap (λ (x : Asked). askedNo (x .next)) a ∙ of-book.next-no b slots in
+    let e : nextCaseNo (r .next) ≡ nextNo b (length slots) = ap (λ (x : Asked). nextCaseNo (x .next)) a ∙ of-book.next-no b slots in
     (e, ap (λ (x : Asked). x .book) a ∙ of-book.asked-book b slots, λ ne. only-next (nextNo b (length slots)) (r .next) e ne)
 
 -- ---- take, 11, 12, 22, 13, 31, 14, 15, 16: refused, the book comes back as it went in, and every slot is as it stood

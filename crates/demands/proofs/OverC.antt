@@ -39,7 +39,7 @@ use Rattle.book.specs.declared.Next.{Next}
 use Rattle.book.specs.declared.Next.the-variants as next
 use Rattle.book.specs.declared.Asked.{Asked}
 use Rattle.book.specs.declared.Taken.{Taken}
-use Rattle.book.specs.Rules.{beginNo, begunNo, begunFor, nextNo, askedNo, asked}
+use Rattle.book.specs.Rules.{beginNo, begunNo, begunFor, nextNo, nextCaseNo, asked}
 use Rattle.book.proofs.Once as of-book
 use Rattle.shortest.specs.declared.Shortlist.{Shortlist}
 use Rattle.nearest.specs.declared.Found.{Found}
@@ -205,8 +205,8 @@ unfolding begunNo
 book-number (begun.Open b) = refl
 book-number (begun.Refused k) = refl
 
-next-number : (r : Next) (b : Book) → nextOver r b .number ≡ askedNo r
-unfolding askedNo
+next-number : (r : Next) (b : Book) → nextOver r b .number ≡ nextCaseNo r
+unfolding nextCaseNo
 next-number (next.After k) b = refl
 next-number (next.Refused n) b = refl
 

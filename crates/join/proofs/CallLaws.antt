@@ -16,7 +16,7 @@ use Rattle.plane.specs.Rule.{SpotIn}
 use Rattle.plane.specs.Point.{idAt}
 use Rattle.sheet.specs.Places.{spotOf, pointsOf}
 use Rattle.sheet.specs.Open.{Opens}
-use Rattle.sheet.proofs.SheetLaws.{own}
+use Rattle.sheet.proofs.SheetLaws.{by-counts}
 use Rattle.sheet.proofs.RangeLaws.{spot-in}
 use Rattle.bits.specs.Set.{kept}
 use Rattle.walk.specs.FilterWalk.{filterKept}
@@ -126,7 +126,7 @@ pub chamber-same : (c : Terms) (P Q : List ℤ) (key : Key) (size n t j : ℕ) (
 chamber-same c P Q key size n t j d r a b e f = f ∙ ap (λ (x : ℕ). chamber (walksFor (walksBy c x P Q) n t) key size n j d) e
 
 pub filter-few : {P : List ℤ} {np mp : ℕ} → Opens P np mp → (words : ℕ) (z : Spot) (o : ℕ) → o ≡ filterKept words P z .opened → o ≤ mp
-filter-few {P} c words z o e = omega (arith, c .m-is, filter-opened-at-most-m words P z (own c))
+filter-few {P} c words z o e = omega (arith, c .m-is, filter-opened-at-most-m words P z (by-counts c))
 
 pub spot-fits : {Q : List ℤ} {nq mq : ℕ} → Opens Q nq mq → (j : ℕ) (z : Spot) → j < nq → z ≡ spotOf Q j → SpotIn z
 spot-fits o j z h e = rw e (spot-in o j h)
@@ -135,8 +135,8 @@ module _ {P Q : List ℤ} {np mp nq mq : ℕ} (o : Opens P np mp) (o′ : Opens 
   pub capped : (words : ℕ) → Capped (walksOf words P Q) mp (mp + mq)
   capped words =
       record {
-        filter = λ j. omega (arith, o .m-is, filter-opened-at-most-m words P (spotOf Q j) (own o));
-        ring = λ j i. omega (arith, o .m-is, o′ .m-is, pair-opened P Q (own o) (own o′) j i);
+        filter = λ j. omega (arith, o .m-is, filter-opened-at-most-m words P (spotOf Q j) (by-counts o));
+        ring = λ j i. omega (arith, o .m-is, o′ .m-is, pair-opened P Q (by-counts o) (by-counts o′) j i);
       }
 
   -- the count of a chamber's ring walks fits

@@ -17,7 +17,7 @@ use Rattle.bits.proofs.NextLaws.{from-kept, from-skip}
 use Rattle.sheet.specs.Boxes.{sumOver}
 use Rattle.sheet.specs.Places.{spotOf, pointsOf}
 use Rattle.sheet.specs.Open.{Opens}
-use Rattle.sheet.proofs.SheetLaws.{own}
+use Rattle.sheet.proofs.SheetLaws.{by-counts}
 use Rattle.sheet.proofs.SizeLaws.{sum-join}
 use Rattle.sheet.proofs.PointsLaws.{length-points}
 use Rattle.walk.specs.declared.Answer.{Answer}
@@ -55,12 +55,12 @@ module _ {P Q : List ℤ} {np mp nq mq : ℕ} (o : Opens P np mp) (o′ : Opens 
   past-none : (i : ℕ) → np ≤ i → kept (first words P Q j) i ≡ false
   past-none i h =
       ⊎-elim
-      (λ (e : kept (first words P Q j) i ≡ true). absurd (omega (arith, o .n-is, kept-below words P (spotOf Q j) (own o) (omega (arith, o .n-is)) i e)))
+      (λ (e : kept (first words P Q j) i ≡ true). absurd (omega (arith, o .n-is, kept-below words P (spotOf Q j) (by-counts o) (omega (arith, o .n-is)) i e)))
       (λ (e : kept (first words P Q j) i ≡ false). e)
       (decide (kept (first words P Q j) i))
 
   first-long : length (first words P Q j) ≡ words
-  first-long = kept-long words P (spotOf Q j) (own o) (omega (arith, o .n-is))
+  first-long = kept-long words P (spotOf Q j) (by-counts o) (omega (arith, o .n-is))
 
   -- the words stay as many
   pub keep-long : (b : List ℕ) (count opened i : ℕ) → Kept-to words P Q j b count opened i → length b ≡ words
@@ -79,7 +79,7 @@ module _ {P Q : List ℤ} {np mp nq mq : ℕ} (o : Opens P np mp) (o′ : Opens 
 
   pub keep-room : (b : List ℕ) (count opened i : ℕ) → Keeping words P Q j b count opened i → i < np → (a : Answer) → a ≡ walkOf P Q j i → opened + a .opened ≤ np * (mp + mq)
   keep-room b count opened i s l a e =
-      let cap : (y : ℕ) → walkOf P Q j y .opened ≤ mp + mq = λ y. omega (arith, o .m-is, o′ .m-is, pair-opened P Q (own o) (own o′) j y) in
+      let cap : (y : ℕ) → walkOf P Q j y .opened ≤ mp + mq = λ y. omega (arith, o .m-is, o′ .m-is, pair-opened P Q (by-counts o) (by-counts o′) j y) in
       let m : suc i * (mp + mq) ≤ np * (mp + mq) = mul-le-mul {n₁ = suc i} {m₁ = mp + mq} {n₂ = np} {m₂ = mp + mq} (omega arith) (le-refl (mp + mq)) in
       let z : i * (mp + mq) + (mp + mq) ≡ suc i * (mp + mq) = omega arith in
       omega (arith, sift-room (walkOf P Q j) (first words P Q j) 0 b count opened i s (mp + mq) cap, ap (λ (x : Answer). x .opened) e, cap i)
@@ -152,7 +152,7 @@ module _ {P Q : List ℤ} {np mp nq mq : ℕ} (o : Opens P np mp) (o′ : Opens 
   unfolding partnersOf stays
   all-counted =
       let z : np ≡ length (pointsOf P) = sym (length-points P ∙ o .n-is) in
-      sum-same _ (λ y. oneIf (ringPair (pointsOf P) (pointsOf Q) j y)) 0 np (λ y l. ap oneIf (sym (pair-exact P Q (own o) (own o′) j (0 + y) (omega (arith, o′ .n-is)) (omega (arith, o .n-is)) words (omega (arith, o .n-is)))))
+      sum-same _ (λ y. oneIf (ringPair (pointsOf P) (pointsOf Q) j y)) 0 np (λ y l. ap oneIf (sym (pair-exact P Q (by-counts o) (by-counts o′) j (0 + y) (omega (arith, o′ .n-is)) (omega (arith, o .n-is)) words (omega (arith, o .n-is)))))
       ∙ sym (row-many (ringPair (pointsOf P) (pointsOf Q)) (pairAt (pointsOf P) (pointsOf Q)) j np 0)
       ∙ ap (λ (n : ℕ). length (row (ringPair (pointsOf P) (pointsOf Q)) (pairAt (pointsOf P) (pointsOf Q)) j n 0)) z
 

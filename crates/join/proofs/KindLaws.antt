@@ -17,7 +17,7 @@ use Rattle.plane.specs.Point.{idAt}
 use Rattle.sheet.specs.Layout.{points}
 use Rattle.sheet.specs.Places.{spotOf, pointsOf}
 use Rattle.sheet.specs.Open.{Opens}
-use Rattle.sheet.proofs.SheetLaws.{own}
+use Rattle.sheet.proofs.SheetLaws.{by-counts}
 use Rattle.bits.specs.Set.{kept}
 use Rattle.walk.specs.declared.Answer.{Answer}
 use Rattle.walk.specs.FilterWalk.{filterKept, filterKeeps}
@@ -64,8 +64,8 @@ module _ {S : List ℤ} {n m : ℕ} (o : Opens S n m) where
     pub own-capped : Capped (selfWalks words S) m m
     own-capped =
         record {
-          filter = λ j. omega (arith, o .m-is, o .n-is, pass-opened words S (own o) (omega (arith, o .n-is)) j, filter-opened-at-most-m words S (spotOf S j) (own o));
-          ring = λ j i. omega (arith, o .m-is, ring-opened-at-most-m 0 S (own o) (spotOf S j) (spotOf S i));
+          filter = λ j. omega (arith, o .m-is, o .n-is, pass-opened words S (by-counts o) (omega (arith, o .n-is)) j, filter-opened-at-most-m words S (spotOf S j) (by-counts o));
+          ring = λ j i. omega (arith, o .m-is, ring-opened-at-most-m 0 S (by-counts o) (spotOf S j) (spotOf S i));
         }
 
   -- ---- the words: what stands after j on them is what is kept of higher id
@@ -107,19 +107,19 @@ module _ {S : List ℤ} {n m : ℕ} (o : Opens S n m) where
         ⊎-elim
         (λ (x : ltb i n ≡ true).
         yes-and (passKeeps (length ws) S j i) (lt-ltb (idAt (pointsOf S) j) (idAt (pointsOf S) i) (rises-far (idAt (pointsOf S)) n (ids-rise o) j i (omega arith) (ltb-true i n x)))
-        ∙ pass-keeps (length ws) S (own o) few j i
+        ∙ pass-keeps (length ws) S (by-counts o) few j i
         ∙ yes-and (filterKeeps (length ws) S (spotOf S j) i) (ap not (ne-eqb i j (λ y. omega arith)))
         ∙ as-kept i)
         (λ (x : ltb i n ≡ false).
         let gone = nobody (ltb-false i n x) in
-        ap (λ (y : Bool). y && ltb (idAt (pointsOf S) j) (idAt (pointsOf S) i)) (not-and (passKeeps (length ws) S j i) (not (eqb i j)) (filterKeeps (length ws) S (spotOf S j) i) (pass-keeps (length ws) S (own o) few j i) gone)
+        ap (λ (y : Bool). y && ltb (idAt (pointsOf S) j) (idAt (pointsOf S) i)) (not-and (passKeeps (length ws) S j i) (not (eqb i j)) (filterKeeps (length ws) S (spotOf S j) i) (pass-keeps (length ws) S (by-counts o) few j i) gone)
         ∙ sym (sym (as-kept i) ∙ gone))
         (decide (ltb i n))
       where
         nobody : n ≤ i → filterKeeps (length ws) S (spotOf S j) i ≡ false
         nobody past =
             ⊎-elim
-            (λ (y : filterKeeps (length ws) S (spotOf S j) i ≡ true). absurd (omega (arith, o .n-is, kept-below (length ws) S (spotOf S j) (own o) few i y)))
+            (λ (y : filterKeeps (length ws) S (spotOf S j) i ≡ true). absurd (omega (arith, o .n-is, kept-below (length ws) S (spotOf S j) (by-counts o) few i y)))
             (λ (y : filterKeeps (length ws) S (spotOf S j) i ≡ false). y)
             (decide (filterKeeps (length ws) S (spotOf S j) i))
 
@@ -132,7 +132,7 @@ module _ {S : List ℤ} {n m : ℕ} (o : Opens S n m) where
   own-chamber j z ez a b el enough key size c d r ec e =
       e
       ∙ ap (λ (l : ℕ). partners (selfWalks l S) key size j n 0 (spent c d)) el
-      ∙ ap (λ (x : ℕ). partners (selfWalks b S) key size j n 0 (spent x d)) (ec ∙ ap (λ (y : Spot). filterKept b S y .opened) ez ∙ sym (pass-opened b S (own o) (omega (arith, o .n-is)) j))
+      ∙ ap (λ (x : ℕ). partners (selfWalks b S) key size j n 0 (spent x d)) (ec ∙ ap (λ (y : Spot). filterKept b S y .opened) ez ∙ sym (pass-opened b S (by-counts o) (omega (arith, o .n-is)) j))
 
 -- ---- the terms
 

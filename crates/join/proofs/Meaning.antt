@@ -42,7 +42,7 @@ use Rattle.join.specs.Threshold.{walksFor}
 use Rattle.join.proofs.MakerLaws.{Exact, maker-page}
 use Rattle.join.proofs.WorkLaws.{maker-opened}
 use Rattle.join.proofs.ThresholdLaws.{exact-for, for-named, for-rising, for-pair}
-use Rattle.sheet.proofs.SheetLaws.{open-facts, open-lim, form1-fair, own}
+use Rattle.sheet.proofs.SheetLaws.{open-facts, open-lim, form1-fair, by-counts}
 use Rattle.sheet.proofs.RangeLaws.{spot-within}
 
 module _ {w : List ℤ} {n m : ℕ} (o : Opens w n m) where
@@ -81,8 +81,8 @@ module _ {P Q : List ℤ} {np mp nq mq : ℕ} (o : Opens P np mp) (o′ : Opens 
     unfolding pairFor
     exact j i hj hi =
         by-kind (λ t R. j < points R → pairFor t (pointsOf P) (pointsOf R) j i ≡ (walksBy t words P R .kept j i && walksBy t words P R .clear j i)) a P Q al
-        (λ t h. pair-exact P Q (own o) (own o′) j i h (omega (arith, o .n-is)) words (omega (arith, o .n-is)))
-        (λ t h. self-walked words P (own o) (omega (arith, o .n-is)) j i h (omega (arith, o .n-is)))
+        (λ t h. pair-exact P Q (by-counts o) (by-counts o′) j i h (omega (arith, o .n-is)) words (omega (arith, o .n-is)))
+        (λ t h. self-walked words P (by-counts o) (omega (arith, o .n-is)) j i h (omega (arith, o .n-is)))
         (omega (arith, o′ .n-is))
 
     list-is : listBy (atLeast (pairFor a (pointsOf P) (pointsOf Q)) (pairAt (pointsOf P) (pointsOf Q)) (a .threshold) np) (pairAt (pointsOf P) (pointsOf Q)) np nq ≡ listFor a (pointsOf P) (pointsOf Q)

@@ -14,18 +14,18 @@ use Rattle.list.specs.declared.Pair.{Pair}
 use Rattle.list.specs.Pairs.{keyOf, follows}
 use Rattle.join.specs.declared.Draft.{Draft}
 use Rattle.join.specs.Walks.{Walks}
-use Rattle.join.specs.Work.{Step, firstFrom, ringSteps, steps, spentOn, pageOpened}
+use Rattle.join.specs.Work.{DoneWalk, firstFrom, ringSteps, steps, spentOn, pageOpened}
 use Rattle.join.specs.Maker.{spent, found, withTried, tried, partner, partners, chamber, chambers, blank, pageMade}
 
 -- the count in the end, if the walks of `l` are still to be done
-due : ℕ → List Step → Draft → ℕ
+due : ℕ → List DoneWalk → Draft → ℕ
 due size l d = cond (d .more) (d .opened) (d .opened + spentOn (size - d .count) l)
 
-due-more : (size : ℕ) (l : List Step) (d : Draft) → d .more ≡ true → due size l d ≡ d .opened
+due-more : (size : ℕ) (l : List DoneWalk) (d : Draft) → d .more ≡ true → due size l d ≡ d .opened
 unfolding due
 due-more size l d e = rw e
 
-due-on : (size : ℕ) (l : List Step) (d : Draft) → d .more ≡ false → due size l d ≡ d .opened + spentOn (size - d .count) l
+due-on : (size : ℕ) (l : List DoneWalk) (d : Draft) → d .more ≡ false → due size l d ≡ d .opened + spentOn (size - d .count) l
 unfolding due
 due-on size l d e = rw e
 
@@ -34,17 +34,17 @@ unfolding due spentOn
 due-none size d = ⊎-elim (λ (e : d .more ≡ true). rw e) (λ (e : d .more ≡ false). rw e (omega arith)) (decide (d .more))
 
 -- a walk that finds nothing
-quiet : (size o : ℕ) (l : List Step) → spentOn size (record { opened = o; finds = false } ∷ l) ≡ o + spentOn size l
+quiet : (size o : ℕ) (l : List DoneWalk) → spentOn size (record { opened = o; finds = false } ∷ l) ≡ o + spentOn size l
 unfolding spentOn
 quiet zero o l = refl
 quiet (suc size) o l = refl
 
-due-quiet : (size o : ℕ) (l : List Step) (d : Draft) → d .more ≡ false → due size l (spent o d) ≡ due size (record { opened = o; finds = false } ∷ l) d
+due-quiet : (size o : ℕ) (l : List DoneWalk) (d : Draft) → d .more ≡ false → due size l (spent o d) ≡ due size (record { opened = o; finds = false } ∷ l) d
 due-quiet size o l d e =
     due-on size l (spent o d) e ∙ omega (arith, quiet (size - d .count) o l, due-on size (record { opened = o; finds = false } ∷ l) d e)
 
 -- one that finds a pair
-due-finds : (size o : ℕ) (v : Pair) (l : List Step) (d : Draft) → d .more ≡ false → due size l (found size v (spent o d)) ≡ due size (record { opened = o; finds = true } ∷ l) d
+due-finds : (size o : ℕ) (v : Pair) (l : List DoneWalk) (d : Draft) → d .more ≡ false → due size l (found size v (spent o d)) ≡ due size (record { opened = o; finds = true } ∷ l) d
 unfolding due found spentOn
 due-finds size o v l d e =
     ⊎-elim
@@ -57,7 +57,7 @@ due-finds size o v l d e =
     (decide (ltb (d .count) size))
 
 module _ (w : Walks) (key : Key) (size : ℕ) where
-  partner-due : (j k i : ℕ) (l : List Step) (d : Draft) → d .more ≡ false
+  partner-due : (j k i : ℕ) (l : List DoneWalk) (d : Draft) → d .more ≡ false
       → due size (ringSteps w key j k (i + 1) ++ l) (partner w key size j i d) ≡ due size (ringSteps w key j (suc k) i ++ l) d
   unfolding partner withTried tried ringSteps
   partner-due j k i l d m =
@@ -76,7 +76,7 @@ module _ (w : Walks) (key : Key) (size : ℕ) where
       (λ (e : w .kept j i ≡ false). rw e)
       (decide (w .kept j i))
 
-  partners-due : (j k i : ℕ) (l : List Step) (d : Draft) → due size l (partners w key size j k i d) ≡ due size (ringSteps w key j k i ++ l) d
+  partners-due : (j k i : ℕ) (l : List DoneWalk) (d : Draft) → due size l (partners w key size j k i d) ≡ due size (ringSteps w key j k i ++ l) d
   unfolding partners
   partners-due j zero i l d = nothing
     where
@@ -94,7 +94,7 @@ module _ (w : Walks) (key : Key) (size : ℕ) where
       ∙ partner-due j k i l d e)
       (decide (d .more))
 
-  chamber-due : (n j : ℕ) (l : List Step) (d : Draft) → d .more ≡ false
+  chamber-due : (n j : ℕ) (l : List DoneWalk) (d : Draft) → d .more ≡ false
       → due size l (chamber w key size n j d) ≡ due size (record { opened = w .keptOpened j; finds = false } ∷ (ringSteps w key j n 0 ++ l)) d
   unfolding chamber
   chamber-due n j l d e =

@@ -11,7 +11,7 @@ use Rattle.list.specs.Pairs.{keyOf, follows}
 use Rattle.join.specs.Walks.{Walks}
 
 -- a walk that is done: the nodes that it opens, and whether it finds a ring pair
-pub record Step : Type 0 where
+pub record DoneWalk : Type 0 where
   pub opened : ℕ
   pub finds : Bool
 
@@ -21,7 +21,7 @@ firstFrom qid key nq = firstB nq (λ j. not (ltb (qid j) (key .q)))
 
 module _ (w : Walks) (key : Key) where
   -- "its kept partners after the key are ring-walked in id order": for the q at j, of the k positions of P from i on [P10]
-  unfoldable pub ringSteps : ℕ → ℕ → ℕ → List Step
+  unfoldable pub ringSteps : ℕ → ℕ → ℕ → List DoneWalk
   ringSteps j zero i = []
   ringSteps j (suc k) i =
       cond (w .kept j i && follows key (keyOf (w .pair j i)))
@@ -29,12 +29,12 @@ module _ (w : Walks) (key : Key) where
       (ringSteps j k (i + 1))
 
   -- "each q .. is filtered once", and its partners follow: the k positions of Q from j on, with n positions of P [P9]
-  unfoldable pub steps : ℕ → ℕ → ℕ → List Step
+  unfoldable pub steps : ℕ → ℕ → ℕ → List DoneWalk
   steps n zero j = []
   steps n (suc k) j = record { opened = w .keptOpened j; finds = false } ∷ (ringSteps j n 0 ++ steps n k (j + 1))
 
 -- the nodes opened, until a pair beyond the next `size` ones is found [P11]
-unfoldable pub spentOn : ℕ → List Step → ℕ
+unfoldable pub spentOn : ℕ → List DoneWalk → ℕ
 spentOn size [] = 0
 spentOn zero (s ∷ l) = s .opened + cond (s .finds) 0 (spentOn zero l)
 spentOn (suc size) (s ∷ l) = s .opened + cond (s .finds) (spentOn size l) (spentOn (suc size) l)

@@ -24,7 +24,7 @@ use Rattle.sheet.specs.Nodes.{levelOf, firstOf, countOf}
 use Rattle.sheet.specs.Boxes.{sumOver}
 use Rattle.sheet.specs.Places.{spotOf, pointsOf}
 use Rattle.sheet.specs.Open.{Opens}
-use Rattle.sheet.proofs.SheetLaws.{own}
+use Rattle.sheet.proofs.SheetLaws.{by-counts}
 use Rattle.sheet.proofs.OrderLaws.{order-below}
 use Rattle.sheet.proofs.SizeLaws.{sum-join}
 use Rattle.list.specs.declared.Pair.{Pair}
@@ -471,7 +471,7 @@ module _ {P Q : List ℤ} {np mp nq mq v words : ℕ} (told : Told P np mp Q nq 
   count-is = ap (λ (n : ℕ). countOf Q n v) (sym (told .q-opens .n-is))
 
   chambers-few : (c : ℕ) → c ≡ countOf Q nq v → c ≤ 16
-  chambers-few c e = omega (arith, count-is, leaf-few Q (own (told .q-opens)) v in-q leaf-q)
+  chambers-few c e = omega (arith, count-is, leaf-few Q (by-counts (told .q-opens)) v in-q leaf-q)
 
   -- the words that all chambers take
   pub words-few : (c : ℕ) → c ≡ countOf Q nq v → words * c ≤ 16000
@@ -479,14 +479,14 @@ module _ {P Q : List ℤ} {np mp nq mq v words : ℕ} (told : Told P np mp Q nq 
 
   -- where the chamber of a bit stands, and which it is
   pub place-in : (first x : ℕ) → first ≡ firstOf Q nq v → x / (64 * words) < countOf Q nq v → first + x / (64 * words) < nq
-  place-in first x e h = omega (arith, told .q-opens .n-is, ap (λ (n : ℕ). firstOf Q n v) (told .q-opens .n-is), leaf-place Q (own (told .q-opens)) v in-q leaf-q (x / (64 * words)) (omega (arith, count-is)))
+  place-in first x e h = omega (arith, told .q-opens .n-is, ap (λ (n : ℕ). firstOf Q n v) (told .q-opens .n-is), leaf-place Q (by-counts (told .q-opens)) v in-q leaf-q (x / (64 * words)) (omega (arith, count-is)))
 
   chamber-is : (first j x : ℕ) → first ≡ firstOf Q nq v → j ≡ orderOf Q nq (first + x / (64 * words)) → j ≡ chamberAt Q v (x / (64 * words))
   unfolding chamberAt
   chamber-is first j x e f = f ∙ ap (λ (a : ℕ). orderOf Q nq (a + x / (64 * words))) e ∙ ap (λ (n : ℕ). orderOf Q n (firstOf Q n v + x / (64 * words))) (sym (told .q-opens .n-is))
 
   pub position-in : (first j x : ℕ) → first ≡ firstOf Q nq v → j ≡ orderOf Q nq (first + x / (64 * words)) → x / (64 * words) < countOf Q nq v → j < nq
-  position-in first j x e f h = omega (arith, told .q-opens .n-is, chamber-is first j x e f, chamber-in Q (own (told .q-opens)) v in-q leaf-q (x / (64 * words)) (omega (arith, count-is)))
+  position-in first j x e f h = omega (arith, told .q-opens .n-is, chamber-is first j x e f, chamber-in Q (by-counts (told .q-opens)) v in-q leaf-q (x / (64 * words)) (omega (arith, count-is)))
 
   -- ---- the loop
 
@@ -496,7 +496,7 @@ module _ {P Q : List ℤ} {np mp nq mq v words : ℕ} (told : Told P np mp Q nq 
       (sift-start (walkOf P Q v words) _ _ b opened u e f g)
 
   pub passed-long : (b : List ℕ) (count opened x : ℕ) → Passed P Q v words b count opened x → length b ≡ 16 * words
-  passed-long b count opened x s = s .long ∙ leaf-long (chamberSpot Q v) (countOf Q (points Q) v) words P (own (told .p-opens)) (leaf-few Q (own (told .q-opens)) v in-q leaf-q) all-p
+  passed-long b count opened x s = s .long ∙ leaf-long (chamberSpot Q v) (countOf Q (points Q) v) words P (by-counts (told .p-opens)) (leaf-few Q (by-counts (told .q-opens)) v in-q leaf-q) all-p
 
   module _ (b : List ℕ) (count opened x : ℕ) (s : Going P Q v words b count opened x) where
     -- a bit of the leaf's chambers
@@ -513,7 +513,7 @@ module _ {P Q : List ℤ} {np mp nq mq v words : ℕ} (told : Told P np mp Q nq 
             some = some-words words c x l;
             fits = fits-in;
             chamber = omega (arith, slot-before words c x l);
-            position = omega (arith, told .p-opens .n-is, leaf-below (chamberSpot Q v) (countOf Q (points Q) v) words P (own (told .p-opens)) (leaf-few Q (own (told .q-opens)) v in-q leaf-q) all-p (x / (64 * words)) (x % (64 * words)) (mod-lt x (some-words words c x l)) (ap (kept _) (slot-of words x) ∙ s .here at-first));
+            position = omega (arith, told .p-opens .n-is, leaf-below (chamberSpot Q v) (countOf Q (points Q) v) words P (by-counts (told .p-opens)) (leaf-few Q (by-counts (told .q-opens)) v in-q leaf-q) all-p (x / (64 * words)) (x % (64 * words)) (mod-lt x (some-words words c x l)) (ap (kept _) (slot-of words x) ∙ s .here at-first));
           }
 
       pub going-few : count ≤ 1024000
@@ -529,10 +529,10 @@ module _ {P Q : List ℤ} {np mp nq mq v words : ℕ} (told : Told P np mp Q nq 
             told .p-opens .m-le,
             told .q-opens .m-is,
             told .q-opens .m-le,
-            leaf-opened (chamberSpot Q v) (countOf Q (points Q) v) words P (own (told .p-opens)),
-            sift-room (walkOf P Q v words) _ _ b count opened x s (mp + mq) (λ y. omega (arith, told .p-opens .m-is, told .q-opens .m-is, pair-opened P Q (own (told .p-opens)) (own (told .q-opens)) (chamberAt Q v (y / (64 * words))) (y % (64 * words)))),
+            leaf-opened (chamberSpot Q v) (countOf Q (points Q) v) words P (by-counts (told .p-opens)),
+            sift-room (walkOf P Q v words) _ _ b count opened x s (mp + mq) (λ y. omega (arith, told .p-opens .m-is, told .q-opens .m-is, pair-opened P Q (by-counts (told .p-opens)) (by-counts (told .q-opens)) (chamberAt Q v (y / (64 * words))) (y % (64 * words)))),
             ap (λ (y : Answer). y .opened) f,
-            pair-opened P Q (own (told .p-opens)) (own (told .q-opens)) j i,
+            pair-opened P Q (by-counts (told .p-opens)) (by-counts (told .q-opens)) j i,
           )
 
       -- one turn: the bit stays, or is taken out
@@ -551,13 +551,13 @@ module _ {P Q : List ℤ} {np mp nq mq v words : ℕ} (told : Told P np mp Q nq 
       reached = let z : words * c ≡ words * countOf Q (points Q) v = ap (λ (y : ℕ). words * y) (e ∙ count-is) in omega arith
 
       pub made-set : RunSet P Q v words b
-      made-set = end-set words P Q (own (told .p-opens)) (own (told .q-opens)) all-p v in-q leaf-q b count opened x s reached
+      made-set = end-set words P Q (by-counts (told .p-opens)) (by-counts (told .q-opens)) all-p v in-q leaf-q b count opened x s reached
 
       pub made-count : count ≡ length (leafList P Q v)
-      made-count = end-count words P Q (own (told .p-opens)) (own (told .q-opens)) all-p v in-q leaf-q b count opened x s reached
+      made-count = end-count words P Q (by-counts (told .p-opens)) (by-counts (told .q-opens)) all-p v in-q leaf-q b count opened x s reached
 
       pub made-opened : opened ≡ leafOpened words P Q v
-      made-opened = end-opened words P Q (own (told .p-opens)) (own (told .q-opens)) all-p v in-q leaf-q b count opened x s reached
+      made-opened = end-opened words P Q (by-counts (told .p-opens)) (by-counts (told .q-opens)) all-p v in-q leaf-q b count opened x s reached
 
   -- ---- the next pair
 

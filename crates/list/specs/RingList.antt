@@ -37,11 +37,11 @@ unfoldable pub partnersOf : List Point → List Point → ℕ → ℕ
 partnersOf P Q j = length (row (ringPair P Q) (pairAt P Q) j (length P) 0)
 
 -- a place where a point of a sheet may stand: "x and y from -1,000,000 to 1,000,000"
-pub record Near (z : Spot) : Type 0 where
+pub record MayStand (z : Spot) : Type 0 where
   pub x-near : Within 1_000_000 (z .x)
   pub y-near : Within 1_000_000 (z .y)
 
 -- a set of points as a sheet holds them: ids ascending strictly, and each point where one may stand
 pub record Sound (s : List Point) : Type 0 where
   pub rising : Rising (idAt s) (length s)
-  pub near : (i : ℕ) → i < length s → Near (spotAt s i)
+  pub near : (i : ℕ) → i < length s → MayStand (spotAt s i)

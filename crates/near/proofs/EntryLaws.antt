@@ -15,7 +15,7 @@ use Rattle.sheet.specs.Open.{Opens}
 use Rattle.sheet.proofs.TreeLaws.{child, leaf}
 use Rattle.sheet.proofs.CoverLaws.{root-below}
 use Rattle.sheet.proofs.OrderLaws.{order-below, rank-below, order-rank}
-use Rattle.near.specs.Waiting.{boxEntry, pointEntry, isBox, nodeOf, positionOf, covered}
+use Rattle.near.specs.Waiting.{boxEntry, pointEntry, isBox, nodeOf, entryPosition, covered}
 use Rattle.near.specs.Room.{Kind, box, point, InRun}
 use Rattle.near.proofs.MassLaws.{atPlace, mass, root-mass}
 use Rattle.near.proofs.ListLaws.{sum-same}
@@ -31,7 +31,7 @@ is-point m i = le-ltb (m + 1 + i) (m + 1) (omega arith)
 pub node-of : (j : ℕ) → nodeOf (boxEntry j) ≡ j
 node-of j = omega arith
 
-pub position-of : (m i : ℕ) → positionOf m (pointEntry m i) ≡ i
+pub position-of : (m i : ℕ) → entryPosition m (pointEntry m i) ≡ i
 position-of m i = omega arith
 
 -- ---- what a node covers
@@ -71,19 +71,19 @@ covered-above w n m j k o h z r = go (levelOf w n j) refl
 -- ---- weights
 
 unfoldable pub weigh : List ℤ → ℕ → ℕ → (ℕ → ℕ) → (ℕ → ℕ) → ℕ → ℕ
-weigh w n m f b e = cond (isBox m e) (mass w n f b (levelOf w n (nodeOf e)) (nodeOf e)) (f (positionOf m e))
+weigh w n m f b e = cond (isBox m e) (mass w n f b (levelOf w n (nodeOf e)) (nodeOf e)) (f (entryPosition m e))
 
 module _ (w : List ℤ) (n m : ℕ) (f b : ℕ → ℕ) where
   pub weigh-box : (j : ℕ) → j < m → weigh w n m f b (boxEntry j) ≡ mass w n f b (levelOf w n j) j
   unfolding weigh
   weigh-box j h =
-      ap (λ (t : Bool). cond t (mass w n f b (levelOf w n (nodeOf (boxEntry j))) (nodeOf (boxEntry j))) (f (positionOf m (boxEntry j)))) (is-box m j h)
+      ap (λ (t : Bool). cond t (mass w n f b (levelOf w n (nodeOf (boxEntry j))) (nodeOf (boxEntry j))) (f (entryPosition m (boxEntry j)))) (is-box m j h)
       ∙ ap (λ (i : ℕ). mass w n f b (levelOf w n i) i) (node-of j)
 
   pub weigh-point : (i : ℕ) → weigh w n m f b (pointEntry m i) ≡ f i
   unfolding weigh
   weigh-point i =
-      ap (λ (t : Bool). cond t (mass w n f b (levelOf w n (nodeOf (pointEntry m i))) (nodeOf (pointEntry m i))) (f (positionOf m (pointEntry m i)))) (is-point m i)
+      ap (λ (t : Bool). cond t (mass w n f b (levelOf w n (nodeOf (pointEntry m i))) (nodeOf (pointEntry m i))) (f (entryPosition m (pointEntry m i)))) (is-point m i)
       ∙ ap f (position-of m i)
 
   module _ (o : Opens w n m) where

@@ -15,7 +15,7 @@ use Rattle.plane.specs.declared.Spot.{Spot}
 use Rattle.sheet.specs.Nodes.{firstOf, countOf}
 use Rattle.sheet.specs.Boxes.{sumOver}
 use Rattle.sheet.specs.Open.{Opens}
-use Rattle.near.specs.Waiting.{boxEntry, pointEntry, nodeOf, positionOf, covered, withCovered}
+use Rattle.near.specs.Waiting.{boxEntry, pointEntry, nodeOf, entryPosition, covered, withCovered}
 use Rattle.near.specs.NearWalk.{nearSteps, rootWaits, nearAll}
 use Rattle.near.specs.Room.{Each, none, more, Kind, box, point, InRun}
 use Rattle.near.proofs.MassLaws.{atPlace}
@@ -102,7 +102,7 @@ module _ {S : Type 0} (w : List ℤ) (n m : ℕ) (q : Spot) (skip : ℕ → S �
   unfolding nearSteps
   step-box k j l s h =
       ap
-      (λ (t : Bool). cond t (cond (skip (nodeOf (boxEntry j)) s) (steps k l s) (steps k (withCovered w n m q (nodeOf (boxEntry j)) l) (opened s))) (steps k l (meet (positionOf m (boxEntry j)) s)))
+      (λ (t : Bool). cond t (cond (skip (nodeOf (boxEntry j)) s) (steps k l s) (steps k (withCovered w n m q (nodeOf (boxEntry j)) l) (opened s))) (steps k l (meet (entryPosition m (boxEntry j)) s)))
       (is-box m j h)
       ∙ ap (λ (i : ℕ). cond (skip i s) (steps k l s) (steps k (withCovered w n m q i l) (opened s))) (node-of j)
 
@@ -110,7 +110,7 @@ module _ {S : Type 0} (w : List ℤ) (n m : ℕ) (q : Spot) (skip : ℕ → S �
   unfolding nearSteps
   step-point k i l s =
       ap
-      (λ (t : Bool). cond t (cond (skip (nodeOf (pointEntry m i)) s) (steps k l s) (steps k (withCovered w n m q (nodeOf (pointEntry m i)) l) (opened s))) (steps k l (meet (positionOf m (pointEntry m i)) s)))
+      (λ (t : Bool). cond t (cond (skip (nodeOf (pointEntry m i)) s) (steps k l s) (steps k (withCovered w n m q (nodeOf (pointEntry m i)) l) (opened s))) (steps k l (meet (entryPosition m (pointEntry m i)) s)))
       (is-point m i)
       ∙ ap (λ (p : ℕ). steps k l (meet p s)) (position-of m i)
 

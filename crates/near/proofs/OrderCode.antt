@@ -16,7 +16,7 @@ use Rattle.sheet.specs.Layout.{points, nodes}
 use Rattle.sheet.specs.Open.{Opens}
 use Rattle.near.specs.Waiting.{withCovered}
 use Rattle.near.specs.NearWalk.{nearAll, rootWaits, nearOrder}
-use Rattle.near.specs.Room.{padded, listed, Past}
+use Rattle.near.specs.Room.{zeroFilled, listed, Past}
 use Rattle.near.proofs.NearLaws.{steps-keep}
 use Rattle.near.proofs.WaitingLaws.{past-same}
 use Rattle.near.proofs.WalkCode.{load, Going, going-start, going-less, going-meet, going-under, going-open, going-end}
@@ -65,8 +65,8 @@ module _ (w : List ℤ) (n m : ℕ) (q : Spot) where
         got-length : length (take got at) ≡ got
         got-length = length-take-le got at (omega (arith, x .full))
 
-        given-all : take size (nearOrder w q) ≡ take got at → (at ≡ padded (take size (nearOrder w q))) × (got ≡ length (take size (nearOrder w q)))
-        unfolding padded
+        given-all : take size (nearOrder w q) ≡ take got at → (at ≡ zeroFilled (take size (nearOrder w q))) × (got ≡ length (take size (nearOrder w q)))
+        unfolding zeroFilled
         given-all e =
             let z : length (take size (nearOrder w q)) ≡ got = ap length e ∙ got-length in (
               sym (take-append-drop got at) ∙ ap (λ (v : List ℕ). take got at ++ v) (x .blank) ∙ ap (λ (k : ℕ). take got at ++ replicate (16 - k) 0) (sym z) ∙ ap (λ (v : List ℕ). v ++ replicate (16 - length (take size (nearOrder w q))) 0) (sym e),
@@ -74,22 +74,22 @@ module _ (w : List ℤ) (n m : ℕ) (q : Spot) where
             )
 
         -- nothing waits any more
-        giving-end : c ≤ 0 → (at ≡ padded (take size (nearOrder w q))) × (got ≡ length (take size (nearOrder w q)))
+        giving-end : c ≤ 0 → (at ≡ zeroFilled (take size (nearOrder w q))) × (got ≡ length (take size (nearOrder w q)))
         giving-end h =
             let e : take got at ≡ nearOrder w q = going-end w n m q passes same gives o (nearOrder w q) ws₀ ws c (take got at) (x .going) h in
             given-all (ap (take size) (sym e) ∙ take-all size (take got at) (omega (arith, got-length)))
 
         -- so many are given as are wanted
-        giving-full : size ≤ got → (at ≡ padded (take size (nearOrder w q))) × (got ≡ length (take size (nearOrder w q)))
+        giving-full : size ≤ got → (at ≡ zeroFilled (take size (nearOrder w q))) × (got ≡ length (take size (nearOrder w q)))
         giving-full h =
             let a = ahead in
             given-all (ap (take size) (a .1) ∙ take-at (take got at) (a .0) size (omega (arith, got-length)))
 
         -- the loop has ended, by one or the other
-        pub giving-done : (ltb 0 c && ltb got size) ≡ false → (at ≡ padded (take size (nearOrder w q))) × (got ≡ length (take size (nearOrder w q)))
+        pub giving-done : (ltb 0 c && ltb got size) ≡ false → (at ≡ zeroFilled (take size (nearOrder w q))) × (got ≡ length (take size (nearOrder w q)))
         giving-done t = go (ltb 0 c) refl t
           where
-            go : (b : Bool) → ltb 0 c ≡ b → (b && ltb got size) ≡ false → (at ≡ padded (take size (nearOrder w q))) × (got ≡ length (take size (nearOrder w q)))
+            go : (b : Bool) → ltb 0 c ≡ b → (b && ltb got size) ≡ false → (at ≡ zeroFilled (take size (nearOrder w q))) × (got ≡ length (take size (nearOrder w q)))
             go true e u = giving-full (ltb-false got size u)
             go false e u = giving-end (ltb-false 0 c e)
 

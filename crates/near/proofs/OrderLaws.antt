@@ -29,7 +29,7 @@ use Rattle.sheet.specs.Places.{spotOf, boxOf}
 use Rattle.sheet.specs.Open.{Opens}
 use Rattle.sheet.proofs.PlaceLaws.{in-box}
 use Rattle.sheet.proofs.OrderLaws.{order-below, rank-below, order-rank, rank-order}
-use Rattle.near.specs.Waiting.{boxEntry, pointEntry, nodeOf, positionOf, away, distance, covered, withCovered}
+use Rattle.near.specs.Waiting.{boxEntry, pointEntry, nodeOf, entryPosition, away, distance, covered, withCovered}
 use Rattle.near.specs.NearWalk.{rootWaits, nearOrder}
 use Rattle.near.specs.Claims.{distanceTo, NotAfter, times}
 use Rattle.near.specs.Room.{Each, none}
@@ -75,13 +75,13 @@ module _ (w : List ℤ) (n m : ℕ) (q : Spot) where
   pub distance-box : (j : ℕ) → j < m → distance w n m q (boxEntry j) ≡ num (away q (boxOf w n j))
   unfolding distance
   distance-box j h =
-      ap (λ (t : Bool). num (cond t (away q (boxOf w n (nodeOf (boxEntry j)))) (size q (spotOf w (positionOf m (boxEntry j)))))) (is-box m j h)
+      ap (λ (t : Bool). num (cond t (away q (boxOf w n (nodeOf (boxEntry j)))) (size q (spotOf w (entryPosition m (boxEntry j)))))) (is-box m j h)
       ∙ ap (λ (i : ℕ). num (away q (boxOf w n i))) (node-of j)
 
   pub distance-point : (i : ℕ) → distance w n m q (pointEntry m i) ≡ distanceTo w q i
   unfolding distance distanceTo
   distance-point i =
-      ap (λ (t : Bool). num (cond t (away q (boxOf w n (nodeOf (pointEntry m i)))) (size q (spotOf w (positionOf m (pointEntry m i)))))) (is-point m i)
+      ap (λ (t : Bool). num (cond t (away q (boxOf w n (nodeOf (pointEntry m i)))) (size q (spotOf w (entryPosition m (pointEntry m i)))))) (is-point m i)
       ∙ ap (λ (k : ℕ). num (size q (spotOf w k))) (position-of m i)
 
   module _ (o : Opens w n m) where

@@ -9,7 +9,7 @@ use Rattle.plane.specs.declared.Spot.{Spot}
 use Rattle.sheet.specs.Layout.{points, nodes}
 use Rattle.bits.specs.Set.{kept, none}
 use Rattle.walk.specs.FilterWalk.{Kept, soFar, shut, consider}
-use Rattle.near.specs.Waiting.{isBox, nodeOf, positionOf, boxEntry, withCovered}
+use Rattle.near.specs.Waiting.{isBox, nodeOf, entryPosition, boxEntry, withCovered}
 
 -- From the root, which is the last node: it waits at the start, and in a sheet with no node nothing does.
 unfoldable pub rootWaits : ℕ → List ℕ
@@ -24,7 +24,7 @@ module _ {S : Type 0} (w : List ℤ) (n m : ℕ) (q : Spot) (skip : ℕ → S �
   nearSteps (suc k) (e ∷ l) s =
       cond (isBox m e)
       (cond (skip (nodeOf e) s) (nearSteps k l s) (nearSteps k (withCovered w n m q (nodeOf e) l) (opened s)))
-      (nearSteps k l (meet (positionOf m e) s))
+      (nearSteps k l (meet (entryPosition m e) s))
 
   -- Each of the n points and m nodes is taken out once at most, so that nothing waits after so many steps: `all-keep` of proofs/NearLaws.
   unfoldable pub nearAll : S → S

@@ -12,8 +12,8 @@ unfoldable pub wiped : ℕ → List ℕ → List ℕ
 wiped k ws = replicate k 0 ++ drop k ws
 
 -- sixteen numbers: those of the list, and then 0
-unfoldable pub padded : List ℕ → List ℕ
-padded l = l ++ replicate (16 - length l) 0
+unfoldable pub zeroFilled : List ℕ → List ℕ
+zeroFilled l = l ++ replicate (16 - length l) 0
 
 -- the first c of the lent numbers, the last of them first: what waits [G6]
 unfoldable pub listed : List ℕ → ℕ → List ℕ

@@ -29,8 +29,8 @@ isBox m e = ltb e (m + 1)
 abbrev pub nodeOf : ℕ → ℕ
 nodeOf e = e - 1
 
-abbrev pub positionOf : ℕ → ℕ → ℕ
-positionOf m e = e - (m + 1)
+abbrev pub entryPosition : ℕ → ℕ → ℕ
+entryPosition m e = e - (m + 1)
 
 -- the squared distance of q to a box, which is 0 where q stands in it
 abbrev pub away : Spot → Boxed → ℤ
@@ -43,7 +43,7 @@ covered w n m j k = cond (eqb (levelOf w n j) 0) (pointEntry m (orderOf w n k)) 
 module _ (w : List ℤ) (n m : ℕ) (q : Spot) where
   -- the squared distance to q, of a box or a point [G1]
   unfoldable pub distance : ℕ → ℕ
-  distance e = num (cond (isBox m e) (away q (boxOf w n (nodeOf e))) (size q (spotOf w (positionOf m e))))
+  distance e = num (cond (isBox m e) (away q (boxOf w n (nodeOf e))) (size q (spotOf w (entryPosition m e))))
 
   -- e comes before f: the least distance first, on a tie the lower number [G2]
   unfoldable pub before : ℕ → ℕ → Bool

@@ -6,7 +6,7 @@ ghost use lib.ListN.{length, take};
 ghost use Rattle.plane.specs.Rule.{SpotIn};
 ghost use Rattle.sheet.specs.Open.{Opens};
 ghost use Rattle.near.specs.NearWalk.{nearOrder};
-ghost use Rattle.near.specs.Room.{wiped, padded};
+ghost use Rattle.near.specs.Room.{wiped, zeroFilled};
 
 // So many positions; the rest are 0.
 pub struct Firsts {
@@ -24,7 +24,7 @@ pub fn first_points(
     waiting: &mut [u64],
 ) -> Firsts
     requires { ⌜ Opens (now w) n m × SpotIn q × (size ≤ 16) × (n + m ≤ length (now waiting)) ⌝ }
-    ensures { λ r. ⌜ (r .at ≡ padded (take size (nearOrder (now (w .entry)) q))) × (r .count ≡ length (take size (nearOrder (now (w .entry)) q))) × (now (waiting .exit) ≡ wiped (n + m) (now (waiting .entry))) ⌝ }
+    ensures { λ r. ⌜ (r .at ≡ zeroFilled (take size (nearOrder (now (w .entry)) q))) × (r .count ≡ length (take size (nearOrder (now (w .entry)) q))) × (now (waiting .exit) ≡ wiped (n + m) (now (waiting .entry))) ⌝ }
 {
     let mut at = [0usize; 16];
     let mut got: usize = 0;

@@ -18,11 +18,11 @@ use Rattle.plane.specs.Point.{idAt}
 use Rattle.sheet.specs.Layout.{points, nodes}
 use Rattle.sheet.specs.Places.{spotOf, pointsOf}
 use Rattle.sheet.specs.Open.{Opens}
-use Rattle.sheet.proofs.SheetLaws.{own}
+use Rattle.sheet.proofs.SheetLaws.{by-counts}
 use Rattle.bits.specs.Set.{card}
 use Rattle.walk.specs.FilterWalk.{Kept}
 use Rattle.near.specs.NearWalk.{nearOrder, nearKept}
-use Rattle.near.specs.Room.{wiped, padded}
+use Rattle.near.specs.Room.{wiped, zeroFilled}
 use Rattle.near.specs.Claims.{distanceTo}
 use Rattle.near.proofs.OrderLaws.{order-small}
 use Rattle.ring.specs.declared.Filtered.{Filtered}
@@ -76,8 +76,8 @@ module _ (f : ℕ → Near) (s : List ℕ) (few : length s ≤ 16) where
       x .is ∙ ap (λ (i : ℕ). map f (take i s) ++ replicate (16 - i) noPoint) z ∙ ap (λ (l : List ℕ). map f l ++ replicate (16 - length s) noPoint) (take-all (length s) s (omega arith))
 
 -- what is read of the positions found
-pub padded-at : (s at : List ℕ) (k : ℕ) → at ≡ padded s → k < length s → getD at k 0 ≡ getD s k 0
-unfolding padded
+pub padded-at : (s at : List ℕ) (k : ℕ) → at ≡ zeroFilled s → k < length s → getD at k 0 ≡ getD s k 0
+unfolding zeroFilled
 padded-at s at k e h = ap (λ (l : List ℕ). getD l k 0) e ∙ List·getD-append s (replicate (16 - length s) 0) 0 k h
 
 pub first-small : (w : List ℤ) (n m : ℕ) (q : Spot) → Opens w n m → (k i : ℕ) → i < length (take k (nearOrder w q)) → getD (take k (nearOrder w q)) i 0 < n
@@ -85,7 +85,7 @@ first-small w n m q o k i h =
     let l = nearOrder w q in
     let a : i < k = omega (arith, length-take k l) in
     let b : i < length l = omega (arith, length-take k l) in
-    rw (getD-take k l i 0 a) (omega (arith, order-small w q (own o) i b, o .n-is))
+    rw (getD-take k l i 0 a) (omega (arith, order-small w q (by-counts o) i b, o .n-is))
 
 pub first-few : (w : List ℤ) (q : Spot) (k : ℕ) → k ≤ 16 → length (take k (nearOrder w q)) ≤ 16
 first-few w q k h = omega (arith, length-take k (nearOrder w q))

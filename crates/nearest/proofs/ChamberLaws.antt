@@ -18,7 +18,7 @@ use Rattle.sheet.specs.Layout.{points, nodes}
 use Rattle.sheet.specs.Places.{spotOf, pointsOf}
 use Rattle.sheet.specs.Open.{sheetNo, Opens}
 use Rattle.sheet.proofs.PointsLaws.{length-points}
-use Rattle.sheet.proofs.SheetLaws.{own}
+use Rattle.sheet.proofs.SheetLaws.{by-counts}
 use Rattle.sheet.proofs.RangeLaws.{spot-in}
 use Rattle.ring.specs.Numbers.{sheetsNo}
 use Rattle.ring.specs.Answers.{headOf, headsOf}
@@ -81,7 +81,7 @@ module _ (P Q : List ℤ) (id : ℕ) where
         m-is = ap (λ (g : Chamber). g .m) f;
         at-is = ap (λ (g : Chamber). g .at) f;
         n-le = omega (arith, ap (λ (g : Chamber). g .n) f, o .np-is, o .np-le);
-        opens = subst (λ (g : Chamber). Opens P (g .n) (g .m)) (sym f) (own (o .p-facts));
+        opens = subst (λ (g : Chamber). Opens P (g .n) (g .m)) (sym f) (by-counts (o .p-facts));
         within = subst (λ (g : Chamber). SpotIn (g .at)) (sym f) (spot-in (o .q-facts) (positionOf (pointsOf Q) id) j);
       }
 

@@ -63,6 +63,6 @@ pub form1-fair : Fair form1
 unfolding form1
 form1-fair = record { points-le = omega arith; nodes-le = omega arith; coordinate-from = record { le = tt }; coordinate-to = record { le = tt } }
 
--- a sheet that opens, by its own counts
-pub own : {w : List ℤ} {n m : ℕ} → Opens w n m → Opens w (points w) (nodes w)
-own {w} {n} o = subst (λ (a : ℕ). Opens w a (nodes w)) (sym (o .n-is)) (subst (Opens w n) (sym (o .m-is)) o)
+-- a sheet that opens, by its by-counts counts
+pub by-counts : {w : List ℤ} {n m : ℕ} → Opens w n m → Opens w (points w) (nodes w)
+by-counts {w} {n} o = subst (λ (a : ℕ). Opens w a (nodes w)) (sym (o .n-is)) (subst (Opens w n) (sym (o .m-is)) o)

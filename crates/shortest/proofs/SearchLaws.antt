@@ -35,7 +35,7 @@ use Rattle.join.proofs.Meaning.{points-rise, page-pairs}
 use Rattle.shortest.specs.declared.Search.{Search}
 use Rattle.shortest.specs.Order.{shorter, insert, shortestOf}
 use Rattle.shortest.specs.Answer.{pairsOf}
-use Rattle.shortest.specs.Search.{Ordered, held, searchOf, Fair, putAt, gathered, nextOf}
+use Rattle.shortest.specs.Search.{Ordered, held, searchOf, HeldOrdered, putAt, gathered, nextOf}
 use Rattle.shortest.proofs.OrderLaws.{length-insert, take-ordered}
 use Rattle.shortest.proofs.GatherLaws.{gathered-is, gathered-append, gathered-more, gathered-few, gathered-ordered, keeps-all, keeps-shorter, keeps-none}
 use Rattle.shortest.proofs.PutLaws.{put-padded}
@@ -68,7 +68,7 @@ holds : (s : List Pair) (key : Key) (end : Bool) → held (searchOf s key end) �
 unfolding padded
 holds s key end = take-append-seam s (replicate (16 - length s) none)
 
-pub fair-of : (k : ℕ) (s : List Pair) (key : Key) (end : Bool) → length s ≤ k → Ordered s → Fair k (searchOf s key end)
+pub fair-of : (k : ℕ) (s : List Pair) (key : Key) (end : Bool) → length s ≤ k → Ordered s → HeldOrdered k (searchOf s key end)
 fair-of k s key end h o =
     let e = holds s key end in
     record {
@@ -89,7 +89,7 @@ pub record Passed (k : ℕ) (l : List Pair) (g r : Search) (i : ℕ) : Type 0 wh
   pub upto : i ≤ length l
   pub is : r ≡ searchOf (gathered k (take i l) (held g)) (g .key) (g .end)
 
-module _ (k : ℕ) (some : 1 ≤ k) (most : k ≤ 16) (l : List Pair) (g : Search) (fair : Fair k g) where
+module _ (k : ℕ) (some : 1 ≤ k) (most : k ≤ 16) (l : List Pair) (g : Search) (fair : HeldOrdered k g) where
   pub passed-start : Passed k l g g 0
   unfolding gathered
   passed-start = record { upto = omega arith; is = fair .whole }
@@ -184,7 +184,7 @@ module _ (l : List Pair) (k : ℕ) (g : Search) (d : Draft) (m : Made l (g .key)
 -- ---- the loop over the pages
 
 pub record Going (l : List Pair) (k : ℕ) (g : Search) : Type 0 where
-  pub fair : Fair k g
+  pub fair : HeldOrdered k g
   pub left : shortestOf k l ≡ gathered k (after (g .key) l) (held g)
   pub last : g .end ≡ true → after (g .key) l ≡ []
 

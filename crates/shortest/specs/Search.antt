@@ -25,7 +25,7 @@ abbrev pub searchOf : List Pair → Key → Bool → Search
 searchOf s key end = record { pairs = padded s; count = length s; key = key; end = end }
 
 -- at most k pairs are held, in order, and the unused ones are three zeros
-pub record Fair (k : ℕ) (g : Search) : Type 0 where
+pub record HeldOrdered (k : ℕ) (g : Search) : Type 0 where
   pub few : length (held g) ≤ k
   pub whole : g ≡ searchOf (held g) (g .key) (g .end)
   pub ordered : Ordered (held g)

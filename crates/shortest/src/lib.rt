@@ -10,7 +10,7 @@ ghost use lib.ListN.{take};
 ghost use Rattle.sheet.specs.Open.{Opens};
 ghost use Rattle.shortest.specs.Order.{shorter};
 ghost use Rattle.shortest.specs.Answer.{pairsOf, shortGiven, shortRefused, shortAnswer};
-ghost use Rattle.shortest.specs.Search.{Ordered, Fair, putAt, nextOf};
+ghost use Rattle.shortest.specs.Search.{Ordered, HeldOrdered, putAt, nextOf};
 
 // What the call answers: 0, how many pairs and the pairs, the unused three zeros; or the number of refusal and zeros.
 #[repr(C)]
@@ -59,7 +59,7 @@ fn with_pair(g: Search, n: usize, v: Pair) -> Search
 
 // The next page of the list: a pair that is not shorter than the last of k is dropped at once.
 fn with_page(p: &[i32], hp: Size, q: &[i32], hq: Size, k: usize, g: Search) -> Search
-    requires { ⌜ Opens (now p) (hp .n) (hp .m) × Opens (now q) (hq .n) (hq .m) × (hp .n ≤ 1024) × (1 ≤ k) × (k ≤ 16) × Fair k g ⌝ }
+    requires { ⌜ Opens (now p) (hp .n) (hp .m) × Opens (now q) (hq .n) (hq .m) × (hp .n ≤ 1024) × (1 ≤ k) × (k ≤ 16) × HeldOrdered k g ⌝ }
     ensures { λ r. ⌜ r ≡ nextOf (pairsOf (now (p .entry)) (now (q .entry))) k g ⌝ }
 {
     let key = g.key;
