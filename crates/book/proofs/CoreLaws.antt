@@ -27,7 +27,7 @@ use Rattle.book.specs.declared.Taken.{Taken}
 use Rattle.book.specs.declared.TakenArray.{TakenArray}
 use Rattle.book.specs.declared.Begun.the-variants as begun
 use Rattle.book.specs.Rules.{oneSheet, ownWithT, beginNo, begunBook, begunFor, lastKey, lastSlot, pairOk, pairsOk, sameKey, pageMost, pageBad, takeNoAt, takeNo, accepted, refused, decidedAt, decided, taken, takenSlots, askedAt, asked, withSlots, takenArray}
-use Rattle.book.proofs.TakeLaws.{no-refusal-at, decided-yes, decided-no, same-key, passed, or-zero}
+use Rattle.book.proofs.TakeLaws.{no-refusal-at, decided-yes, decided-no, same-key, book-passed, or-zero}
 
 -- ---- begin
 
@@ -218,7 +218,7 @@ unfolding accepted refused
 fits-each b s g k h =
     ⊎-elim
     (λ (e : takeNo b s g ≡ 0).
-    let p = passed b s g e in
+    let p = book-passed b s g e in
     let l : k < g .count = rw (decided-yes b s g e) at h in
     (omega (arith, p .few), omega (arith, p .fits)))
     (λ (e : takeNo b s g ≡ 0 → ⊥). let l : k < 0 = rw (decided-no b s g e) at h in absurd (omega arith))

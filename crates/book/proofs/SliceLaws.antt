@@ -38,8 +38,8 @@ pub next-after : (b : Book) (s : List Pair) → b .held ≤ length s → asked b
 unfolding asked askedAt nextNo
 next-after b s h = answer-given _ next.Refused _ (given-no 11 (le-ltb (length s) (b .held) h))
 
-pub next-is-last : (b : Book) (s : List Pair) → b .held ≤ length s → asked b s .next ≡ next.After (lastOr start (take (b .held) s))
-next-is-last b s h = next-after b s h ∙ ap next.After (last-held (b .held) s h)
+pub book-next-is-last : (b : Book) (s : List Pair) → b .held ≤ length s → asked b s .next ≡ next.After (lastOr start (take (b .held) s))
+book-next-is-last b s h = next-after b s h ∙ ap next.After (last-held (b .held) s h)
 
 -- ---- a slice that is too short: 11, and nothing changes
 

@@ -32,7 +32,7 @@ use Rattle.book.specs.declared.Book.{Book}
 use Rattle.book.specs.declared.Begun.the-variants as begun
 use Rattle.book.specs.Rules.{oneSheet, beginNo, begunBook, begunFor, lastKey, pairOk, pairsOk, pageMost, pageBad, takeNo, advanced, taken, takenSlots}
 use Rattle.book.specs.World.{World, pumpsOf, chambersOf, listOf, Honest, Reached, began, took, lent, ownPage, served}
-use Rattle.book.proofs.TakeLaws.{Passed, passed, taken-book, taken-slots, refused-book, refused-slots, or-zero, no-refusal, same-length, closed-no, same-book-source}
+use Rattle.book.proofs.TakeLaws.{Passed, book-passed, taken-book, taken-slots, refused-book, refused-slots, or-zero, no-refusal, same-length, closed-no, same-book-source}
 use Rattle.book.proofs.SliceLaws.{last-held}
 
 -- ---- the ids and sizes of a list
@@ -92,7 +92,7 @@ module _ (l : List Pair) (asc : ascends start l ≡ true) where
   -- a page of the list that is taken
   module _ (b : Book) (s : List Pair) (g : Page) (k : Keeps l b s) (of : Source) (key : Key) (size : ℕ) (most : size ≤ 16) (is : g ≡ pageOf of l key size) (ok : takeNo b s g ≡ 0) where
     ps : Passed b (length s) (lastKey (b .held) s) g
-    ps = passed b s g ok
+    ps = book-passed b s g ok
 
     key-is : key ≡ lastOr start (take (b .held) l)
     key-is = sym (ap (λ (x : Page). x .key) is ∙ (unfold pageOf in refl)) ∙ ps .asked-next ∙ keeps-last l b s k
@@ -289,7 +289,7 @@ module _ (w : World) where
   -- an honest page that is taken is one of the book's own list
   honest-on : (b : Book) (s : List Pair) (g : Page) → Keeps (bookList b) b s → Honest w g → takeNo b s g ≡ 0 → Keeps (bookList b) (advanced b g) (paste s (b .held) (g .pairs) (g .count))
   honest-on b s g k h ok =
-      let same : h .of ≡ b .source = sym (ap (λ (x : Page). x .source) (h .is) ∙ (unfold pageOf in refl)) ∙ sym (passed b s g ok .one-source) in
+      let same : h .of ≡ b .source = sym (ap (λ (x : Page). x .source) (h .is) ∙ (unfold pageOf in refl)) ∙ sym (book-passed b s g ok .one-source) in
       keeps-on (bookList b) (list-asc (b .source)) b s g k (h .of) (h .after) (h .size) (h .most) (h .is ∙ ap (λ (x : Source). pageOf (h .of) (listOf w x) (h .after) (h .size)) same) ok
 
   story-first : (s : Source) (slots : List Pair) → Keeps (bookList (begunBook s)) (begunBook s) slots
@@ -313,20 +313,20 @@ module _ (w : World) where
   begun-fair (lent other r h e) = begun-fair r
 
   -- "a book begun empty always holds exactly the first so many pairs of its list"
-  pub held-prefix : {b : Book} {s : List Pair} → Reached w b s → (b .held ≤ length s) × (b .held ≤ length (bookList b)) × (take (b .held) s ≡ take (b .held) (bookList b))
-  held-prefix r = let k = story r in (k .room, k .few, k .same)
+  pub book-held-prefix : {b : Book} {s : List Pair} → Reached w b s → (b .held ≤ length s) × (b .held ≤ length (bookList b)) × (take (b .held) s ≡ take (b .held) (bookList b))
+  book-held-prefix r = let k = story r in (k .room, k .few, k .same)
 
   -- "and calls itself closed only when it holds all"
-  pub closed-all : {b : Book} {s : List Pair} → Reached w b s → b .closed ≡ true → (b .held ≡ length (bookList b)) × (take (b .held) s ≡ bookList b)
-  closed-all {b} r e =
+  pub book-closed-all : {b : Book} {s : List Pair} → Reached w b s → b .closed ≡ true → (b .held ≡ length (bookList b)) × (take (b .held) s ≡ bookList b)
+  book-closed-all {b} r e =
       let k = story r in
       (k .shut e, k .same ∙ ap (λ (n : ℕ). take n (bookList b)) (k .shut e) ∙ take-length (bookList b))
 
   -- "While it is open and has room for the whole list, each page that answers its own next request adds a pair or closes it."
-  pub progress : {b : Book} {s : List Pair} → Reached w b s → b .closed ≡ false → length (bookList b) ≤ length s → (size : ℕ) → 0 < size → size ≤ 16
+  pub book-progress : {b : Book} {s : List Pair} → Reached w b s → b .closed ≡ false → length (bookList b) ≤ length s → (size : ℕ) → 0 < size → size ≤ 16
       → (takeNo b s (ownPage w b s size) ≡ 0) × ((b .held < taken b s (ownPage w b s size) .book .held) ⊎ (taken b s (ownPage w b s size) .book .closed ≡ true))
   unfolding own
-  progress {b} {s} r still room size some most =
+  book-progress {b} {s} r still room size some most =
       let k = story r in
       let asc = list-asc (b .source) in
       let ok = list-ok (b .source) in
@@ -350,10 +350,10 @@ module _ (w : World) where
       stays-closed k (λ i. sizes (suc i)) (taken b s g .book) (takenSlots b s g) (ap (λ (x : Book). x .closed) (refused-book b s g (closed-no b s g e)) ∙ e)
 
   -- so a book with room for its list that goes on asking is closed after at most one request more than pairs are missing
-  pub closes : (k : ℕ) (sizes : ℕ → ℕ) {b : Book} {s : List Pair} → ((i : ℕ) → (0 < sizes i) × (sizes i ≤ 16)) → Reached w b s → length (bookList b) ≤ length s → length (bookList b) < b .held + k → served w k sizes b s .closed ≡ true
+  pub book-closes : (k : ℕ) (sizes : ℕ → ℕ) {b : Book} {s : List Pair} → ((i : ℕ) → (0 < sizes i) × (sizes i ≤ 16)) → Reached w b s → length (bookList b) ≤ length s → length (bookList b) < b .held + k → served w k sizes b s .closed ≡ true
   unfolding served
-  closes zero sizes n r room h = absurd (omega (arith, story r .few))
-  closes (suc k) sizes {b} {s} n r room h =
+  book-closes zero sizes n r room h = absurd (omega (arith, story r .few))
+  book-closes (suc k) sizes {b} {s} n r room h =
       let g = ownPage w b s (sizes 0) in
       let b′ = taken b s g .book in
       let s′ = takenSlots b s g in
@@ -363,7 +363,7 @@ module _ (w : World) where
       ⊎-elim
       (λ (x : b .held < b′ .held).
       let l : bookList b′ ≡ bookList b = ap (listOf w) (same-book-source b s g) in
-      closes k (λ i. sizes (suc i)) (λ i. n (suc i)) (took g r (own-honest b s (sizes 0) (n 0 .0) (n 0 .1))) (omega (arith, ap length l, same-length b s g (own-long b s (sizes 0) (n 0 .1)))) (omega (arith, ap length l)))
+      book-closes k (λ i. sizes (suc i)) (λ i. n (suc i)) (took g r (own-honest b s (sizes 0) (n 0 .0) (n 0 .1))) (omega (arith, ap length l, same-length b s g (own-long b s (sizes 0) (n 0 .1)))) (omega (arith, ap length l)))
       (λ (x : b′ .closed ≡ true). stays-closed k (λ i. sizes (suc i)) b′ s′ x)
-      (progress r e room (sizes 0) (n 0 .0) (n 0 .1) .1))
+      (book-progress r e room (sizes 0) (n 0 .0) (n 0 .1) .1))
       (decide (b .closed))

@@ -81,9 +81,9 @@ or-zero (suc n) = inr (λ e. omega arith)
 -- ---- of a slice
 
 module _ (b : Book) (s : List Pair) (g : Page) where
-  pub take-no : taken b s g .number ≡ takeNo b s g
+  pub book-take-no : taken b s g .number ≡ takeNo b s g
   unfolding taken decided accepted refused
-  take-no = answer-number (accepted b g) (refused b) (λ d. d .taken .number) refl (λ k. refl) (takeNo b s g)
+  book-take-no = answer-number (accepted b g) (refused b) (λ d. d .taken .number) refl (λ k. refl) (takeNo b s g)
 
   pub decided-yes : takeNo b s g ≡ 0 → decided b s g ≡ accepted b g
   unfolding decided
@@ -93,9 +93,9 @@ module _ (b : Book) (s : List Pair) (g : Page) where
   unfolding decided
   decided-no ne = answer-refused (accepted b g) (refused b) (takeNo b s g) (takeNo b s g) refl ne
 
-  pub passed : takeNo b s g ≡ 0 → Passed b (length s) (lastKey (b .held) s) g
+  pub book-passed : takeNo b s g ≡ 0 → Passed b (length s) (lastKey (b .held) s) g
   unfolding takeNo
-  passed e = passed-at b (length s) (lastKey (b .held) s) g e
+  book-passed e = passed-at b (length s) (lastKey (b .held) s) g e
 
   pub no-refusal : b .held ≤ length s → b .closed ≡ false → sourceNo (b .source) (g .source) ≡ 0 → g .key ≡ lastKey (b .held) s → pageBad g ≡ false → g .count ≤ length s - b .held → takeNo b s g ≡ 0
   unfolding takeNo
@@ -122,7 +122,7 @@ module _ (b : Book) (s : List Pair) (g : Page) where
 
   -- a closed book takes nothing
   pub closed-no : b .closed ≡ true → takeNo b s g ≡ 0 → ⊥
-  closed-no e z = true≢false (sym e ∙ passed z .still-open)
+  closed-no e z = true≢false (sym e ∙ book-passed z .still-open)
 
   -- an open book whose slots can hold it refuses a page of another kind by 22
   pub kind-no : b .held ≤ length s → b .closed ≡ false → sameKind (b .source) (g .source) ≡ false → takeNo b s g ≡ 22
@@ -135,7 +135,7 @@ module _ (b : Book) (s : List Pair) (g : Page) where
     past-untouched =
         ⊎-elim
         (λ (e : takeNo b s g ≡ 0).
-        let k = passed e in
+        let k = book-passed e in
         let z : taken b s g .book .held ≡ b .held + g .count = ap (λ (x : Book). x .held) (taken-book e) ∙ (unfold advanced in refl) in
         rw (z, taken-slots e) (drop-paste s (b .held) (g .pairs) (g .count) (k .room) (omega (arith, k .few))))
         (λ (e : takeNo b s g ≡ 0 → ⊥). rw (refused-slots e))
@@ -145,7 +145,7 @@ module _ (b : Book) (s : List Pair) (g : Page) where
     same-length =
         ⊎-elim
         (λ (e : takeNo b s g ≡ 0).
-        let k = passed e in
+        let k = book-passed e in
         rw (taken-slots e) (length-paste s (b .held) (g .pairs) (g .count) (k .fits) (omega (arith, k .few))))
         (λ (e : takeNo b s g ≡ 0 → ⊥). rw (refused-slots e))
         (or-zero (takeNo b s g))

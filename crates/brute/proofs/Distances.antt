@@ -68,8 +68,8 @@ pub square-le : {d m : ℕ} → d ≤ m → d * d ≤ m * m
 square-le h = mul-le-mul h h
 
 -- a coordinate, read back from its bits
-pub back : {z : ℤ} → Within 1000000000 z → toZ w64 (ofZ w64 z) ≡ z
-back w = toZ-ofZ (sfits-in {w = w64} w tt)
+pub brute-back : {z : ℤ} → Within 1000000000 z → toZ w64 (ofZ w64 z) ≡ z
+brute-back w = toZ-ofZ (sfits-in {w = w64} w tt)
 
 -- a word of a slice, clipped by a call
 pub clipped-is : (z : ℤ) {r : ℤ} → mag z < 2 ^ 31 → mag r < 2 ^ 63 → r ≡ clip (toZ w32 (ofZ w32 z)) → toZ w64 (ofZ w64 r) ≡ clip z

@@ -1,5 +1,5 @@
 -- A list by rows, where the names of the rows may stand in any order, as the q ids of a leaf's places do: of two of its pairs the first is of an earlier row, or of the same row
--- and has the lower p id. (Where the rows' names rise too, this is `list-ascends` of `list`, which is used here: on the list that has the rows' numbers for names.)
+-- and has the lower p id. (Where the rows' names rise too, this is `ring-list-ascends` of `list`, which is used here: on the list that has the rows' numbers for names.)
 -- Assumes nothing.
 use mathlib.Core.Path.{_≡_, refl, sym, ap, ap₂, _∙_}
 use mathlib.Core.Bool.{Bool, true, false, cond}
@@ -12,7 +12,7 @@ use Rattle.list.specs.declared.Pair.{Pair}
 use Rattle.list.specs.Pairs.{none, start, keyOf}
 use Rattle.list.specs.Rows.{row, rows, listBy, Rising}
 use Rattle.list.proofs.Order.{later, at-member, asc-places}
-use Rattle.list.proofs.RowLaws.{Placed, list-ascends, listed-holds}
+use Rattle.list.proofs.RowLaws.{Placed, ring-list-ascends, listed-holds}
 
 -- x is of a row of so many, y of another or of the same, and they stand in turn
 pub record InTurn (name : ℕ → ℕ) (rows : ℕ) (x y : Pair) : Type 0 where
@@ -90,7 +90,7 @@ module _ (rule : ℕ → ℕ → Bool) (name pid : ℕ → ℕ) (wide : ℕ → 
               (λ (e : (getD l a none .q ≡ getD l b none .q) × (getD l a none .p < getD l b none .p)).
               inr (omega (arith, e .0, ap (λ (v : Pair). v .q) (x .is), ap (λ (v : Pair). v .q) (y .is)), omega (arith, e .1, p-of a x-below, p-of b below)))
               (later (keyOf (getD l a none)) (keyOf (getD l b none))
-              (asc-places start l (list-ascends rule numbered (λ j. j + 1) pid (record { q-is = λ j i. refl; p-is = λ j i. refl }) nq np numbers rises) a b h below));
+              (asc-places start l (ring-list-ascends rule numbered (λ j. j + 1) pid (record { q-is = λ j i. refl; p-is = λ j i. refl }) nq np numbers rises) a b h below));
         }
       where
         below : b < length l

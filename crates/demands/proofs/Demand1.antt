@@ -98,7 +98,7 @@ pub view-no : (w : RefT (List ℤ)) (r : Opened) → ViewOpens w r
     → (r .number ≡ openNo form1 (now w))
     × (Refuses (openNo form1 (now w)) → shown r ≡ record { number = openNo form1 (now w); start = w .ptr; covers = []; n = 0; m = 0 })
     × (openNo form1 (now w) ≡ 0 → shown r ≡ record { number = 0; start = w .ptr; covers = now w; n = points (now w); m = nodes (now w) })
-view-no w r a = (of-view.open-no w r a, λ ne. of-view.open-refused w r a ne, λ z. of-view.open-shows w r a z)
+view-no w r a = (of-view.view-open-no w r a, λ ne. of-view.open-refused w r a ne, λ z. of-view.open-shows w r a z)
 
 -- ---- pack, "18, 3, 5, 6, 17": refused, the lent words are as they stood
 
@@ -112,7 +112,7 @@ pack-no n points order ed out r out′ a = (a .promised .0, λ ne. refused-same 
 -- [F10]
 pub point-no : (w : List ℤ) (i : ℕ) (r : Pointed) → PointAnswers w i r
     → (pointedNo r ≡ pointNo w i) × (Refuses (pointNo w i) → r ≡ pointing.Refused (pointNo w i))
-point-no w i r a = (ap pointedNo (a .promised) ∙ of-ring.point-no w i, λ ne. a .promised ∙ sym (point-refused w i (pointNo w i) refl ne))
+point-no w i r a = (ap pointedNo (a .promised) ∙ of-ring.ring-point-no w i, λ ne. a .promised ∙ sym (point-refused w i (pointNo w i) refl ne))
 
 -- ---- the filter walk, 1 to 8 for P, then for Q, then 9: refused, all bits and both counts are 0
 
@@ -120,14 +120,14 @@ point-no w i r a = (ap pointedNo (a .promised) ∙ of-ring.point-no w i, λ ne. 
 pub filter-no : (P Q : List ℤ) (j : ℕ) (r : Filtered) → FilterAnswers P Q j r
     → (r .number ≡ filterNo P Q j) × (Refuses (filterNo P Q j) → r ≡ unfiltered (filterNo P Q j))
 filter-no P Q j r a =
-    (ap (λ (x : Filtered). x .number) (a .promised) ∙ of-ring.filter-no P Q j, λ ne. a .promised ∙ sym (filter-refused P Q j (filterNo P Q j) refl ne))
+    (ap (λ (x : Filtered). x .number) (a .promised) ∙ of-ring.ring-filter-no P Q j, λ ne. a .promised ∙ sym (filter-refused P Q j (filterNo P Q j) refl ne))
 
 -- ---- the ring walk, 1 to 8 for P, then for Q, then 9
 
 -- [F10]
 pub ring-no : (P Q : List ℤ) (j i : ℕ) (r : Walked) → RingAnswers P Q j i r
     → (walkedNo r ≡ ringNo P Q j i) × (Refuses (ringNo P Q j i) → r ≡ walking.Refused (ringNo P Q j i))
-ring-no P Q j i r a = (ap walkedNo (a .promised) ∙ of-ring.ring-no P Q j i, λ ne. a .promised ∙ sym (ring-refused P Q j i (ringNo P Q j i) refl ne))
+ring-no P Q j i r a = (ap walkedNo (a .promised) ∙ of-ring.ring-walk-no P Q j i, λ ne. a .promised ∙ sym (ring-refused P Q j i (ringNo P Q j i) refl ne))
 
 -- ---- the page request, 1 to 8 for P, then for Q, then 9, then 10, then 21: refused, the page is all zero, and so is its count
 
@@ -135,7 +135,7 @@ ring-no P Q j i r a = (ap walkedNo (a .promised) ∙ of-ring.ring-no P Q j i, λ
 pub page-no : (P Q : List ℤ) (ask : Request) (r : Paged) → PageAnswers P Q ask r
     → (r .number ≡ pageNo P Q ask) × (Refuses (pageNo P Q ask) → r ≡ pageRefused (pageNo P Q ask))
 page-no P Q ask r a =
-    (ap (λ (x : Paged). x .number) (a .promised) ∙ of-page.page-no P Q ask, λ ne. a .promised ∙ page-refused P Q ask (pageNo P Q ask) refl ne)
+    (ap (λ (x : Paged). x .number) (a .promised) ∙ of-page.ring-page-no P Q ask, λ ne. a .promised ∙ page-refused P Q ask (pageNo P Q ask) refl ne)
 
 -- ---- the page request of a self join, 1 to 8 for its sheet, then 9, then 10: refused, the page is all zero, and so is its count
 
@@ -143,7 +143,7 @@ page-no P Q ask r a =
 pub own-no : (S : List ℤ) (key : Key) (size : ℕ) (r : Paged) → OwnAnswers S key size r
     → (r .number ≡ ownNo S key size) × (Refuses (ownNo S key size) → r ≡ pageRefused (ownNo S key size))
 own-no S key size r a =
-    (ap (λ (x : Paged). x .number) (a .promised) ∙ of-own.own-no S key size, λ ne. a .promised ∙ of-own.own-refused S key size (ownNo S key size) refl ne)
+    (ap (λ (x : Paged). x .number) (a .promised) ∙ of-own.ring-own-no S key size, λ ne. a .promised ∙ of-own.own-refused S key size (ownNo S key size) refl ne)
 
 -- ---- the shortest circles, 1 to 8 for P, then for Q, then 10: refused, the number of pairs is 0, and each pair is three zeros
 
@@ -151,7 +151,7 @@ own-no S key size r a =
 pub short-no : (P Q : List ℤ) (k : ℕ) (r : Shortlist) → ShortAnswers P Q k r
     → (r .number ≡ shortNo P Q k) × (Refuses (shortNo P Q k) → r ≡ shortRefused (shortNo P Q k))
 short-no P Q k r a =
-    (ap (λ (x : Shortlist). x .number) (a .promised) ∙ of-shortest.short-no P Q k, λ ne. a .promised ∙ of-shortest.short-refused P Q k (shortNo P Q k) refl ne)
+    (ap (λ (x : Shortlist). x .number) (a .promised) ∙ of-shortest.short-call-no P Q k, λ ne. a .promised ∙ of-shortest.short-refused P Q k (shortNo P Q k) refl ne)
 
 -- ---- the question for a chamber's partners, 1 to 8 for P, then for Q, then 20, then 21: refused, the count is 0, and there is no yes
 
@@ -159,7 +159,7 @@ short-no P Q k r a =
 pub partners-no : (P Q : List ℤ) (id t : ℕ) (r : Partnered) → PartnersAnswers P Q id t r
     → (r .number ≡ partnersNo P Q id t) × (Refuses (partnersNo P Q id t) → r ≡ partnersRefused (partnersNo P Q id t))
 partners-no P Q id t r a =
-    (ap (λ (x : Partnered). x .number) (a .promised) ∙ of-partners.partners-no P Q id t, λ ne. a .promised ∙ of-partners.partners-refused P Q id t (partnersNo P Q id t) refl ne)
+    (ap (λ (x : Partnered). x .number) (a .promised) ∙ of-partners.ring-partners-no P Q id t, λ ne. a .promised ∙ of-partners.partners-refused P Q id t (partnersNo P Q id t) refl ne)
 
 -- ---- nearest first, 1 to 8 for P, then for Q, then 20, then 10 (not of the filter), then 25: refused, all is zero, and the lent numbers are as they were
 
@@ -167,7 +167,7 @@ partners-no P Q id t r a =
 pub nearest-no : (P Q : List ℤ) (id size : ℕ) (ws : List ℕ) (r : Found) (t : List ℕ) → NearestAnswers P Q id size ws r t
     → (r .number ≡ nearestNo P Q id size (length ws)) × (Refuses (nearestNo P Q id size (length ws)) → (r ≡ nearestRefused (nearestNo P Q id size (length ws))) × (t ≡ ws))
 nearest-no P Q id size ws r t a = (
-  ap (λ (x : Found). x .number) (a .promised .0) ∙ of-nearest.nearest-no P Q id size (length ws),
+  ap (λ (x : Found). x .number) (a .promised .0) ∙ of-nearest.nearest-call-no P Q id size (length ws),
   λ ne. (a .promised .0 ∙ of-nearest.nearest-refused P Q id size (length ws) _ refl ne, a .promised .1 ∙ of-nearest.waited-refused _ P ws ne),
 )
 
@@ -175,7 +175,7 @@ nearest-no P Q id size ws r t a = (
 pub near-filter-no : (P Q : List ℤ) (id : ℕ) (ws : List ℕ) (r : Filtered) (t : List ℕ) → NearFilterAnswers P Q id ws r t
     → (r .number ≡ nearFilterNo P Q id (length ws)) × (Refuses (nearFilterNo P Q id (length ws)) → (r ≡ unfiltered (nearFilterNo P Q id (length ws))) × (t ≡ ws))
 near-filter-no P Q id ws r t a = (
-  ap (λ (x : Filtered). x .number) (a .promised .0) ∙ of-nearest.near-filter-no P Q id (length ws),
+  ap (λ (x : Filtered). x .number) (a .promised .0) ∙ of-nearest.near-filter-call-no P Q id (length ws),
   λ ne. (a .promised .0 ∙ of-nearest.near-filter-refused P Q id (length ws) _ refl ne, a .promised .1 ∙ of-nearest.waited-refused _ P ws ne),
 )
 
@@ -189,7 +189,7 @@ only-begun k (begun.Refused n) e ne = ap begun.Refused e
 -- [N24, T9, T10, J12, J13, F10]
 pub begin-no : (s : Source) (r : Begun) → BeginAnswers s r → (begunNo r ≡ beginNo s) × (Refuses (beginNo s) → r ≡ begun.Refused (beginNo s))
 begin-no s r a =
-    let e : begunNo r ≡ beginNo s = ap begunNo (a .promised) ∙ of-book.begin-no s in
+    let e : begunNo r ≡ beginNo s = ap begunNo (a .promised) ∙ of-book.book-begin-no s in
     (e, λ ne. only-begun (beginNo s) r e ne)
 
 -- ---- the next key, 11: the book comes back as it went in
@@ -203,7 +203,7 @@ only-next k (next.Refused n) e ne = ap next.Refused e
 pub next-no : (b : Book) (slots : List Pair) (r : Asked) → NextAnswers b slots r
     → (nextCaseNo (r .next) ≡ nextNo b (length slots)) × (r .book ≡ b) × (Refuses (nextNo b (length slots)) → r .next ≡ next.Refused (nextNo b (length slots)))
 next-no b slots r a =
-    let e : nextCaseNo (r .next) ≡ nextNo b (length slots) = ap (λ (x : Asked). nextCaseNo (x .next)) a ∙ of-book.next-no b slots in
+    let e : nextCaseNo (r .next) ≡ nextNo b (length slots) = ap (λ (x : Asked). nextCaseNo (x .next)) a ∙ of-book.book-next-no b slots in
     (e, ap (λ (x : Asked). x .book) a ∙ of-book.asked-book b slots, λ ne. only-next (nextNo b (length slots)) (r .next) e ne)
 
 -- ---- take, 11, 12, 22, 13, 31, 14, 15, 16: refused, the book comes back as it went in, and every slot is as it stood
@@ -212,7 +212,7 @@ next-no b slots r a =
 pub take-no : (b : Book) (slots : List Pair) (g : Page) (r : Taken) (slots′ : List Pair) → TakeAnswers b slots g r slots′
     → (r .number ≡ takeNo b slots g) × (Refuses (takeNo b slots g) → (r .book ≡ b) × (slots′ ≡ slots))
 take-no b slots g r slots′ a =
-    (ap (λ (x : Taken). x .number) (a .0) ∙ of-take.take-no b slots g, λ ne. (ap (λ (x : Taken). x .book) (a .0) ∙ of-take.refused-book b slots g ne, a .1 ∙ of-take.refused-slots b slots g ne))
+    (ap (λ (x : Taken). x .number) (a .0) ∙ of-take.book-take-no b slots g, λ ne. (ap (λ (x : Taken). x .book) (a .0) ∙ of-take.refused-book b slots g ne, a .1 ∙ of-take.refused-slots b slots g ne))
 
 -- and so where the slots are kept in an array
 pub take-array-no : (slots : List Pair) (len : ℕ) (b : Book) (g : Page) (r : TakenArray) → TakeArrayAnswers slots len b g r
@@ -235,7 +235,7 @@ only-run P Q v len ne = answer-refused _ runRefused _ _ refl ne
 pub run-no : (P Q : List ℤ) (v : ℕ) (slots : List Pair) (r : Run) (slots′ : List Pair) → RunAnswers P Q v slots r slots′
     → (r .number ≡ runNo P Q v (length slots)) × (Refuses (runNo P Q v (length slots)) → (r ≡ runRefused (runNo P Q v (length slots))) × (slots′ ≡ slots))
 run-no P Q v slots r slots′ a = (
-  ap (λ (x : Run). x .number) (a .0) ∙ of-runs.run-no P Q v (length slots),
+  ap (λ (x : Run). x .number) (a .0) ∙ of-runs.run-call-no P Q v (length slots),
   λ ne. (a .0 ∙ only-run P Q v (length slots) ne, a .1 ∙ of-run.run-refused P Q v slots ne),
 )
 

@@ -87,7 +87,7 @@ use Rattle.ring.specs.declared.Paged.{Paged}
 use Rattle.ring.specs.declared.Partnered.{Partnered}
 use Rattle.words.proofs.FirstLaws.{none-applies, first-passes, first-last, answer-given}
 use Rattle.ring.proofs.HeadLaws.{sheets-both, sheets-open}
-use Rattle.ring.proofs.NumberLaws.{position-in}
+use Rattle.ring.proofs.NumberLaws.{ring-position-in}
 use Rattle.ring.proofs.FilterLaws.{filter-given}
 use Rattle.ring.proofs.RingLaws.{ring-given}
 use Rattle.ring.proofs.PointLaws.{point-given}
@@ -125,9 +125,9 @@ facts : (w : List ℤ) → WellFormed w → Opens w (points w) (nodes w)
 facts w e = open-facts form1 form1-fair w e
 
 -- the sixteen words of the filter walk have a position for each point
-pub fits : (w : List ℤ) → WellFormed w → points w ≤ 64 * 16
+pub slots-fit : (w : List ℤ) → WellFormed w → points w ≤ 64 * 16
 unfolding form1
-fits w e = omega (arith, open-trailer form1 w e .n-le)
+slots-fit w e = omega (arith, open-trailer form1 w e .n-le)
 
 module _ (P Q : List ℤ) (p-opens : WellFormed P) (q-opens : WellFormed Q) where
   -- no number applies to either
@@ -139,7 +139,7 @@ module _ (P Q : List ℤ) (p-opens : WellFormed P) (q-opens : WellFormed Q) wher
   module _ (j : ℕ) (j-in : j < points Q) where
     filter-is : (r : Filtered) → FilterAnswers P Q j r → r ≡ filteredTo (filterKept 16 P (spotOf Q j))
     unfolding filterNo
-    filter-is r a = a .promised ∙ sym (filter-given P Q j (sheets-open P Q _ sheets ∙ first-last _ ∙ position-in Q j j-in))
+    filter-is r a = a .promised ∙ sym (filter-given P Q j (sheets-open P Q _ sheets ∙ first-last _ ∙ ring-position-in Q j j-in))
 
     bits-are : (r : Filtered) → FilterAnswers P Q j r → r .bits ≡ filterKept 16 P (spotOf Q j) .bits
     unfolding filteredTo
@@ -148,17 +148,17 @@ module _ (P Q : List ℤ) (p-opens : WellFormed P) (q-opens : WellFormed Q) wher
     -- "For every position, a ring partner of q is kept." [W8]
     pub kept-partner : (r : Filtered) → FilterAnswers P Q j r → (i : ℕ) → i < points P → ringPair (pointsOf P) (pointsOf Q) j i ≡ true → kept (r .bits) i ≡ true
     kept-partner r a i i-in e =
-        ap (λ (x : List ℕ). kept x i) (bits-are r a) ∙ of-walk.kept-partner 16 P Q (facts P p-opens) (fits P p-opens) j i j-in i-in e
+        ap (λ (x : List ℕ). kept x i) (bits-are r a) ∙ of-walk.walk-kept-partner 16 P Q (facts P p-opens) (slots-fit P p-opens) j i j-in i-in e
 
     -- "with the number of bits set": the number of positions of P that are kept; "unused bits are 0". [W6]
     pub kept-count : (r : Filtered) → FilterAnswers P Q j r → r .count ≡ cardIn (r .bits) (points P) 0
     unfolding filteredTo
     kept-count r a =
-        subst (λ (x : Filtered). x .count ≡ cardIn (x .bits) (points P) 0) (sym (filter-is r a)) (of-walk.count-kept 16 P (spotOf Q j) (facts P p-opens) (fits P p-opens))
+        subst (λ (x : Filtered). x .count ≡ cardIn (x .bits) (points P) 0) (sym (filter-is r a)) (of-walk.count-kept 16 P (spotOf Q j) (facts P p-opens) (slots-fit P p-opens))
 
     -- [W7]
     pub kept-unused : (r : Filtered) → FilterAnswers P Q j r → (i : ℕ) → points P ≤ i → at (r .bits) i ≡ 0
-    kept-unused r a i h = ap (λ (x : List ℕ). at x i) (bits-are r a) ∙ of-walk.unused-zero 16 P (spotOf Q j) (facts P p-opens) (fits P p-opens) i h
+    kept-unused r a i h = ap (λ (x : List ℕ). at x i) (bits-are r a) ∙ of-walk.unused-zero 16 P (spotOf Q j) (facts P p-opens) (slots-fit P p-opens) i h
 
     -- "nodes opened never exceed m in one walk of one sheet": the filter walk's. [W22]
     pub opened-at-most-m : (r : Filtered) → FilterAnswers P Q j r → r .opened ≤ nodes P
@@ -172,7 +172,7 @@ module _ (P Q : List ℤ) (p-opens : WellFormed P) (q-opens : WellFormed Q) wher
       unfolding ringNo
       ring-is r a =
           a .promised
-          ∙ sym (ring-given P Q j i (pairWalk P Q j i) (sheets-open P Q _ sheets ∙ first-passes (positionNo Q j) _ (position-in Q j j-in) ∙ first-last _ ∙ position-in P i i-in) refl)
+          ∙ sym (ring-given P Q j i (pairWalk P Q j i) (sheets-open P Q _ sheets ∙ first-passes (positionNo Q j) _ (ring-position-in Q j j-in) ∙ first-last _ ∙ ring-position-in P i i-in) refl)
 
       answer : (s : Answer) → RingAnswers P Q j i (Done s) → s ≡ pairWalk P Q j i
       answer s a = let z = ring-is (Done s) a in cc
@@ -194,14 +194,14 @@ module _ (P Q : List ℤ) (p-opens : WellFormed P) (q-opens : WellFormed Q) wher
       -- A ring pair is a kept position whose ring walk is clear, and no other is.
       pub pair-exact : (f : Filtered) (r : Walked) → FilterAnswers P Q j f → RingAnswers P Q j i r → ringPair (pointsOf P) (pointsOf Q) j i ≡ (kept (f .bits) i && walkedClear r)
       pair-exact f r a b =
-          of-walk.pair-exact P Q (facts P p-opens) (facts Q q-opens) j i j-in i-in 16 (fits P p-opens)
+          of-walk.walk-pair-exact P Q (facts P p-opens) (facts Q q-opens) j i j-in i-in 16 (slots-fit P p-opens)
           ∙ ap₂ _&&_ (sym (ap (λ (x : List ℕ). kept x i) (bits-are f a))) (sym (ap walkedClear (ring-is r b)))
 
       -- "Q is walked first, then P if Q is clear; the counts add up": each of the two opens at most the nodes of its sheet, and the answer's count is at most the nodes of both.
       -- [W22]
       pub ring-opened-at-most-m : (s : Answer) → RingAnswers P Q j i (Done s) → (overQ P Q j i .opened ≤ nodes Q) × (overP P Q j i .opened ≤ nodes P) × (s .opened ≤ nodes P + nodes Q)
       ring-opened-at-most-m s a =
-          (of-walk.ring-opened-at-most-m 1 Q (facts Q q-opens) (spotOf Q j) (spotOf P i), of-walk.ring-opened-at-most-m 0 P (facts P p-opens) (spotOf Q j) (spotOf P i), subst (λ (x : Answer). x .opened ≤ nodes P + nodes Q) (sym (answer s a)) (of-walk.pair-opened P Q (facts P p-opens) (facts Q q-opens) j i))
+          (of-walk.walk-ring-opened-at-most-m 1 Q (facts Q q-opens) (spotOf Q j) (spotOf P i), of-walk.walk-ring-opened-at-most-m 0 P (facts P p-opens) (spotOf Q j) (spotOf P i), subst (λ (x : Answer). x .opened ≤ nodes P + nodes Q) (sym (answer s a)) (of-walk.pair-opened P Q (facts P p-opens) (facts Q q-opens) j i))
 
   -- ---- pages
 
@@ -239,11 +239,11 @@ module _ (P Q : List ℤ) (p-opens : WellFormed P) (q-opens : WellFormed Q) wher
           go : (k : Bool) → a .own ≡ k → OfKind k a P Q key size r → (1 ≤ size) × (size ≤ 16) × (r ≡ pageGiven a P Q key size)
           go false e x =
               let ask = requestOf a key size in
-              let no : pageNo P Q ask ≡ 0 = sym (of-page.page-no P Q ask) ∙ sym (ap (λ (y : Paged). y .number) (x .promised)) ∙ fine in
+              let no : pageNo P Q ask ≡ 0 = sym (of-page.ring-page-no P Q ask) ∙ sym (ap (λ (y : Paged). y .number) (x .promised)) ∙ fine in
               let s = size-fits size (none-applies _ .0 no 3) in
               (s .0, s .1, x .promised ∙ of-page.page-answered P Q ask no ∙ ap (λ (y : Terms). pageGiven y P Q key size) (kind-of a false e))
           go true e x =
-              let no : ownNo P key size ≡ 0 = sym (of-own.own-no P key size) ∙ sym (ap (λ (y : Paged). y .number) (x .2 .promised)) ∙ fine in
+              let no : ownNo P key size ≡ 0 = sym (of-own.ring-own-no P key size) ∙ sym (ap (λ (y : Paged). y .number) (x .2 .promised)) ∙ fine in
               let s = size-fits size (none-applies _ .0 no 2) in
               (s .0, s .1, x .2 .promised ∙ of-own.own-answered P key size no ∙ ap (λ (y : List ℤ). pageGiven alone P y key size) (x .0) ∙ ap (λ (y : Terms). pageGiven y P Q key size) (λ i. record { threshold = sym (x .1) i; own = sym e i }))
 
@@ -253,7 +253,7 @@ module _ (P Q : List ℤ) (p-opens : WellFormed P) (q-opens : WellFormed Q) wher
         page-served = go (a .own) answers
           where
             go : (k : Bool) → OfKind k a P Q key size r → r .number ≡ 0
-            go false x = unfold pageGiven in ap (λ (y : Paged). y .number) (x .promised ∙ of-page.page-served P Q (requestOf a key size) sheets (h .q-in) (h .p-in) (h .some) (h .most) (h .fair))
+            go false x = unfold pageGiven in ap (λ (y : Paged). y .number) (x .promised ∙ of-page.ring-page-served P Q (requestOf a key size) sheets (h .q-in) (h .p-in) (h .some) (h .most) (h .fair))
             go true x = unfold pageGiven in ap (λ (y : Paged). y .number) (x .2 .promised ∙ of-own.own-served P key size p-opens (h .q-in) (h .p-in) (h .some) (h .most))
 
         page-is : r ≡ pageGiven a P Q key size
@@ -304,7 +304,7 @@ module _ (P Q : List ℤ) (p-opens : WellFormed P) (q-opens : WellFormed Q) wher
 
   -- "0 for the full list" [T5]
   pub full-list : listFor full (pointsOf P) (pointsOf Q) ≡ ringList (pointsOf P) (pointsOf Q)
-  full-list = of-terms.full-list (pointsOf P) (pointsOf Q)
+  full-list = of-terms.full-ring-list (pointsOf P) (pointsOf Q)
 
   -- ---- which chambers have at least t partners
 
@@ -380,7 +380,7 @@ module _ (P Q : List ℤ) (p-opens : WellFormed P) (q-opens : WellFormed Q) wher
   module _ (some-p : 0 < points P) (some-q : 0 < points Q) where
     -- [R7]
     pub never-empty : 0 < length (ringList (pointsOf P) (pointsOf Q))
-    never-empty = of-nearest.never-empty (pointsOf P) (pointsOf Q) (omega (arith, length-points P)) (omega (arith, length-points Q))
+    never-empty = of-nearest.list-never-empty (pointsOf P) (pointsOf Q) (omega (arith, length-points P)) (omega (arith, length-points Q))
 
     -- and its first page shows a pair. [R7]
     pub first-visit : (size : ℕ) (r : Paged) → InRange start size 0 → PageAnswers P Q (requestOf full start size) r → 0 < r .page .count
@@ -402,7 +402,7 @@ module _ (P Q : List ℤ) (p-opens : WellFormed P) (q-opens : WellFormed Q) wher
   -- other chamber of the leaf.
   pub run-ruled : (v : ℕ) → LeafOf v → (k i : ℕ) → k < countOf Q (points Q) v → i < points P → leafKeeps (chamberSpot Q v) (countOf Q (points Q) v) 16 P k i ≡ true
       → (h : ℕ) → h < countOf Q (points Q) v → (h ≡ k → ⊥) → drops (chamberSpot Q v k) (chamberSpot Q v h) (spotOf P i) ≡ false
-  run-ruled v o k i k-in i-in = leaf-free (chamberSpot Q v) (countOf Q (points Q) v) 16 P (facts P p-opens) (leaf-few Q (facts Q q-opens) v (o .here) (o .level)) (fits P p-opens) k i k-in (omega (arith, fits P p-opens))
+  run-ruled v o k i k-in i-in = leaf-free (chamberSpot Q v) (countOf Q (points Q) v) 16 P (facts P p-opens) (leaf-few Q (facts Q q-opens) v (o .here) (o .level)) (slots-fit P p-opens) k i k-in (omega (arith, slots-fit P p-opens))
 
   -- "A box is skipped exactly when each chamber of the leaf skips it": then no node is opened and nothing is kept; as soon as one does not, it is opened and counted.
   pub run-skipped : (v j : ℕ) (go : Kept → Kept) (s : Kept) → ((k : ℕ) → k < countOf Q (points Q) v → skips (chamberSpot Q v) (countOf Q (points Q) v) 16 P (points P) j (s .bits) k ≡ true)
@@ -418,11 +418,11 @@ module _ (P Q : List ℤ) (p-opens : WellFormed P) (q-opens : WellFormed Q) wher
     leaf-there = sym (leaf-here Q v (facts Q q-opens) refl (o .here) (o .level))
 
     number-is : r .number ≡ runNo P Q v (length slots)
-    number-is = ap (λ (x : Run). x .number) (a .0) ∙ of-runs.run-no P Q v (length slots)
+    number-is = ap (λ (x : Run). x .number) (a .0) ∙ of-runs.run-call-no P Q v (length slots)
 
     -- "then 16 exactly when the pairs outnumber the slots" [L9]
     pub run-sixteen : (r .number ≡ 16) ↔ (length slots < length (leafList P Q v))
-    run-sixteen = let t = of-run.run-sixteen P Q v (length slots) sheets leaf-there in (λ x. t .0 (sym number-is ∙ x), λ x. number-is ∙ t .1 x)
+    run-sixteen = let t = of-run.run-call-sixteen P Q v (length slots) sheets leaf-there in (λ x. t .0 (sym number-is ∙ x), λ x. number-is ∙ t .1 x)
 
     -- with a slot for each pair
     module _ (room : length (leafList P Q v) ≤ length slots) where
@@ -469,7 +469,7 @@ module _ (P Q : List ℤ) (p-opens : WellFormed P) (q-opens : WellFormed Q) wher
       -- .. and nothing twice [L6]
       pub stored-once : (b c : ℕ) → b < c → c < r .count → getD (take (r .count) slots′) b none ≡ getD (take (r .count) slots′) c none → ⊥
       stored-once b c h k e =
-          of-leaf.run-once P Q (facts P p-opens) (facts Q q-opens) v (o .here) (o .level) b c h (omega (arith, k, count-is))
+          of-leaf.leaf-run-once P Q (facts P p-opens) (facts Q q-opens) v (o .here) (o .level) b c h (omega (arith, k, count-is))
           (subst (λ (l : List Pair). getD l b none ≡ getD l c none) stored e)
 
       -- "Each pair in [..] leaf runs now has its squared diameter beside the ids": that of the places of the two records with these ids [Z1]
@@ -528,7 +528,7 @@ module _ (P Q : List ℤ) (p-opens : WellFormed P) (q-opens : WellFormed Q) wher
 module _ (P P′ Q Q′ : List ℤ) (p-opens : WellFormed P) (p-opens′ : WellFormed P′) (q-opens : WellFormed Q) (q-opens′ : WellFormed Q′) (same-p : pointsOf P ≡ pointsOf P′) (same-q : pointsOf Q ≡ pointsOf Q′) (a : Terms) where
   -- [D3]
   pub same-list : listFor a (pointsOf P) (pointsOf Q) ≡ listFor a (pointsOf P′) (pointsOf Q′)
-  same-list = of-join.same-list P P′ Q Q′ same-p same-q a
+  same-list = of-join.join-same-list P P′ Q Q′ same-p same-q a
 
   -- [P12, J6, D3]
   pub list-by-points : (key : Key) (size : ℕ) (r r′ : Paged) → InRange key size (a .threshold) → TermsAnswers a P Q key size r → TermsAnswers a P′ Q′ key size r′
@@ -559,7 +559,7 @@ module _ (S : List ℤ) (opens : WellFormed S) where
 
 module _ (n : ℕ) (p order : List ℤ) (ed : ℕ) (out : List ℤ) (out′ : List ℤ) (packs : PackAnswers n p order ed out 0 out′) where
   returned : Returned n p ed out′
-  returned = of-pack.return-trip n p order ed out 0 out′ (packs .promised .0) (packs .promised .1) refl
+  returned = of-pack.pack-return-trip n p order ed out 0 out′ (packs .promised .0) (packs .promised .1) refl
 
   -- "packing one from a point list", then "opening": what pack leaves where it answers 0 opens, its points are the given ones, in order, and its edition is the given one. [S25]
   pub return-trip : (k : ℕ) → OpenAnswers out′ k → (k ≡ 0) × (pointsOf out′ ≡ pointsIn n p) × (points out′ ≡ n) × (edition out′ ≡ pos ed)
@@ -572,5 +572,5 @@ module _ (n : ℕ) (p order : List ℤ) (ed : ℕ) (out : List ℤ) (out′ : Li
       let inside : i < points out′ = omega (arith, returned .same-number) in
       let same : pointOf out′ i ≡ pointOf p i = sym (point-at out′ i inside) ∙ ap (λ (l : List Point). pointAt l i) (returned .same-points) ∙ at-tab n (pointOf p) _ i h in
       a .promised
-      ∙ sym (point-given out′ i (assetOf out′ i) (first-passes (openNo form1 out′) _ (returned .opens) ∙ first-last _ ∙ position-in out′ i inside) refl)
+      ∙ sym (point-given out′ i (assetOf out′ i) (first-passes (openNo form1 out′) _ (returned .opens) ∙ first-last _ ∙ ring-position-in out′ i inside) refl)
       ∙ ap (λ (x : Point). At record { id = x .id; x = x .spot .x; y = x .spot .y }) same

@@ -134,7 +134,7 @@ module _ (w : Editions) where
   -- "Then a book begun empty always holds exactly the first so many pairs of its list" [K9, Z2, T6, J6, D4, D9]
   pub held-prefix : {b : Book} {s : List Pair} → History w b s
       → (b .held ≤ length s) × (b .held ≤ length (bookList w b)) × (take (b .held) s ≡ take (b .held) (bookList w b))
-  held-prefix h = of-story.held-prefix worldOf (reached h)
+  held-prefix h = of-story.book-held-prefix worldOf (reached h)
 
   -- the ids in either place of a book's list ascend
   pumps-rise : (s : Source) → Rising (idAt (pumpsOf w s)) (length (pumpsOf w s))
@@ -168,11 +168,11 @@ module _ (w : Editions) where
   -- "calls itself closed only when it holds all" [K9, T6, J6, D5]
   pub closed-all : {b : Book} {s : List Pair} → History w b s → b .closed ≡ true
       → (b .held ≡ length (bookList w b)) × (take (b .held) s ≡ bookList w b)
-  closed-all h e = of-story.closed-all worldOf (reached h) e
+  closed-all h e = of-story.book-closed-all worldOf (reached h) e
 
   -- "Its next key is its last pair." [K4]
   pub next-is-last : {b : Book} {s : List Pair} → History w b s → (r : Asked) → NextAnswers b s r → r .next ≡ next.After (lastOr start (take (b .held) s))
-  next-is-last {b} {s} h r a = ap (λ (x : Asked). x .next) a ∙ of-slice.next-is-last b s (held-prefix h .0)
+  next-is-last {b} {s} h r a = ap (λ (x : Asked). x .next) a ∙ of-slice.book-next-is-last b s (held-prefix h .0)
 
   -- ---- a book's own page
 
@@ -226,9 +226,9 @@ module _ (w : Editions) where
     pub progress : b .closed ≡ false → length (bookList w b) ≤ length s → (r : Taken) (s′ : List Pair) → TakeAnswers b s g r s′
         → (o .r .number ≡ 0) × (r .number ≡ 0) × ((b .held < r .book .held) ⊎ (r .book .closed ≡ true))
     progress still room r s′ t =
-        let z = of-story.progress worldOf (reached h) still room (o .size) (o .some) (o .most) in
+        let z = of-story.book-progress worldOf (reached h) still room (o .size) (o .some) (o .most) in
         let e : r ≡ taken b s (ownPage worldOf b s (o .size)) = t .0 ∙ ap (taken b s) own-is in
-        (given .0, ap (λ (x : Taken). x .number) e ∙ of-take.take-no b s (ownPage worldOf b s (o .size)) ∙ z .0, subst (λ (x : Taken). (b .held < x .book .held) ⊎ (x .book .closed ≡ true)) (sym e) (z .1))
+        (given .0, ap (λ (x : Taken). x .number) e ∙ of-take.book-take-no b s (ownPage worldOf b s (o .size)) ∙ z .0, subst (λ (x : Taken). (b .held < x .book .held) ⊎ (x .book .closed ≡ true)) (sym e) (z .1))
 
   -- a closed book stays closed
   stays-closed : {k : ℕ} {b b′ : Book} {s s′ : List Pair} → Asking w k b s b′ s′ → b .closed ≡ true → b′ .closed ≡ true
@@ -317,4 +317,4 @@ pub own-kind : (b : Book) (s : List Pair) (g : Page) → b .held ≤ length s �
 own-kind b s g room still other r s′ t =
     let no : takeNo b s g ≡ 22 = of-take.kind-no b s g room still other in
     let some : takeNo b s g ≡ 0 → ⊥ = λ z. omega arith in
-    (ap (λ (x : Taken). x .number) (t .0) ∙ of-take.take-no b s g ∙ no, ap (λ (x : Taken). x .book) (t .0) ∙ of-take.refused-book b s g some, t .1 ∙ of-take.refused-slots b s g some)
+    (ap (λ (x : Taken). x .number) (t .0) ∙ of-take.book-take-no b s g ∙ no, ap (λ (x : Taken). x .book) (t .0) ∙ of-take.refused-book b s g some, t .1 ∙ of-take.refused-slots b s g some)

@@ -39,7 +39,7 @@ use Rattle.nearest.specs.declared.Found.{Found}
 use Rattle.nearest.specs.Nearest.{standsAt, noPoint, nearAt, nearestAt}
 use Rattle.nearest.proofs.Meaning as of-nearest
 use Rattle.demands.specs.Promises.{RingAnswers, NearestAnswers, NearFilterAnswers}
-use Rattle.demands.proofs.Demand2.{WellFormed, sheets, fits, clear-iff, made-list}
+use Rattle.demands.proofs.Demand2.{WellFormed, sheets, slots-fit, clear-iff, made-list}
 
 -- the order in which the pump houses stand for a place: by squared distance to it, on a tie by position
 module _ (P : List ℤ) (opens : WellFormed P) (q : Spot) where
@@ -67,7 +67,7 @@ module _ (P Q : List ℤ) (p-opens : WellFormed P) (q-opens : WellFormed Q) (id 
     is : r ≡ nearestAt P (spotOf Q j) size
     is =
         a .promised .0
-        ∙ of-nearest.nearest-given P Q id size (length ws) (of-nearest.nearest-served P Q id (length ws) (sheets P Q p-opens q-opens) j j-in named enough size some most)
+        ∙ of-nearest.nearest-call-given P Q id size (length ws) (of-nearest.nearest-served P Q id (length ws) (sheets P Q p-opens q-opens) j j-in named enough size some most)
         ∙ ap (λ (q : Spot). nearestAt P q size) at
 
     -- [G3, G7, G8]
@@ -88,7 +88,7 @@ module _ (P Q : List ℤ) (p-opens : WellFormed P) (q-opens : WellFormed Q) (id 
     kept-is : r ≡ filteredTo (nearKept 16 P (spotOf Q j))
     kept-is =
         a .promised .0
-        ∙ of-nearest.near-filter-given P Q id (length ws) (of-nearest.near-filter-served P Q id (length ws) (sheets P Q p-opens q-opens) j j-in named enough)
+        ∙ of-nearest.near-filter-call-given P Q id (length ws) (of-nearest.near-filter-served P Q id (length ws) (sheets P Q p-opens q-opens) j j-in named enough)
         ∙ ap (λ (q : Spot). filteredTo (nearKept 16 P q)) at
 
     -- [G7, G8]
@@ -102,12 +102,12 @@ module _ (P Q : List ℤ) (p-opens : WellFormed P) (q-opens : WellFormed Q) (id 
     -- [G5]
     pub near-filter-pairs : (i : ℕ) → i < points P → ringPair (pointsOf P) (pointsOf Q) j i ≡ (kept (r .bits) i && clear (pairWalk P Q j i .hit))
     near-filter-pairs i i-in =
-        of-nearest.near-pairs P Q p-facts q-facts (fits P p-opens) j i j-in i-in ∙ ap (λ (x : Filtered). kept (x .bits) i && clear (pairWalk P Q j i .hit)) (sym kept-is)
+        of-nearest.near-pairs P Q p-facts q-facts (slots-fit P p-opens) j i j-in i-in ∙ ap (λ (x : Filtered). kept (x .bits) i && clear (pairWalk P Q j i .hit)) (sym kept-is)
 
     -- [G4]
     pub near-opened : r .opened ≤ nodes P
     unfolding filteredTo
-    near-opened = subst (λ (x : Filtered). x .opened ≤ nodes P) (sym kept-is) (of-near.near-opened-at-most-m 16 P (spotOf Q j) p-facts (fits P p-opens))
+    near-opened = subst (λ (x : Filtered). x .opened ≤ nodes P) (sym kept-is) (of-near.near-opened-at-most-m 16 P (spotOf Q j) p-facts (slots-fit P p-opens))
 
 -- "Pairs made with its kept set equal the list": of the filter that goes nearest first and the ring walk, asked for each chamber, as lists.
 pub near-filter-list : (P Q : List ℤ) (p-opens : WellFormed P) (q-opens : WellFormed Q) (ws : List ℕ) → points P + nodes P ≤ length ws

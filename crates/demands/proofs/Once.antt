@@ -48,28 +48,28 @@ use Rattle.demands.specs.Promises.{OpenAnswers, HeadAnswers, PointAnswer
 -- ---- ring
 
 pub open-once : (w : List ℤ) (r r′ : ℕ) → OpenAnswers w r → OpenAnswers w r′ → r ≡ r′
-open-once w r r′ a b = of-ring.open-once w r r′ (a .promised) (b .promised)
+open-once w r r′ a b = of-ring.ring-open-once w r r′ (a .promised) (b .promised)
 
 pub head-once : (w : List ℤ) (r r′ : Head) → HeadAnswers w r → HeadAnswers w r′ → r ≡ r′
-head-once w r r′ a b = of-ring.head-once w r r′ (a .promised) (b .promised)
+head-once w r r′ a b = of-ring.ring-head-once w r r′ (a .promised) (b .promised)
 
 pub point-once : (w : List ℤ) (i : ℕ) (r r′ : Pointed) → PointAnswers w i r → PointAnswers w i r′ → r ≡ r′
-point-once w i r r′ a b = of-ring.point-once w i r r′ (a .promised) (b .promised)
+point-once w i r r′ a b = of-ring.ring-point-once w i r r′ (a .promised) (b .promised)
 
 pub filter-once : (P Q : List ℤ) (j : ℕ) (r r′ : Filtered) → FilterAnswers P Q j r → FilterAnswers P Q j r′ → r ≡ r′
-filter-once P Q j r r′ a b = of-ring.filter-once P Q j r r′ (a .promised) (b .promised)
+filter-once P Q j r r′ a b = of-ring.ring-filter-once P Q j r r′ (a .promised) (b .promised)
 
 pub ring-once : (P Q : List ℤ) (j i : ℕ) (r r′ : Walked) → RingAnswers P Q j i r → RingAnswers P Q j i r′ → r ≡ r′
-ring-once P Q j i r r′ a b = of-ring.ring-once P Q j i r r′ (a .promised) (b .promised)
+ring-once P Q j i r r′ a b = of-ring.ring-walk-once P Q j i r r′ (a .promised) (b .promised)
 
 pub page-once : (P Q : List ℤ) (ask : Request) (r r′ : Paged) → PageAnswers P Q ask r → PageAnswers P Q ask r′ → r ≡ r′
-page-once P Q ask r r′ a b = of-page.page-once P Q ask r r′ (a .promised) (b .promised)
+page-once P Q ask r r′ a b = of-page.ring-page-once P Q ask r r′ (a .promised) (b .promised)
 
 pub own-once : (S : List ℤ) (key : Key) (size : ℕ) (r r′ : Paged) → OwnAnswers S key size r → OwnAnswers S key size r′ → r ≡ r′
-own-once S key size r r′ a b = of-own.own-once S key size r r′ (a .promised) (b .promised)
+own-once S key size r r′ a b = of-own.ring-own-once S key size r r′ (a .promised) (b .promised)
 
 pub partners-once : (P Q : List ℤ) (id t : ℕ) (r r′ : Partnered) → PartnersAnswers P Q id t r → PartnersAnswers P Q id t r′ → r ≡ r′
-partners-once P Q id t r r′ a b = of-partners.partners-once P Q id t r r′ (a .promised) (b .promised)
+partners-once P Q id t r r′ a b = of-partners.ring-partners-once P Q id t r r′ (a .promised) (b .promised)
 
 pub shortest-once : (P Q : List ℤ) (k : ℕ) (r r′ : Shortlist) → ShortAnswers P Q k r → ShortAnswers P Q k r′ → r ≡ r′
 shortest-once P Q k r r′ a b = of-shortest.short-once P Q k r r′ (a .promised) (b .promised)
@@ -77,78 +77,78 @@ shortest-once P Q k r r′ a b = of-shortest.short-once P Q k r r′ (a .promise
 -- ---- nearest first: one answer, and one final state of the lent numbers
 
 pub nearest-once : (P Q : List ℤ) (id size : ℕ) (ws : List ℕ) (r r′ : Found) (t t′ : List ℕ) → NearestAnswers P Q id size ws r t → NearestAnswers P Q id size ws r′ t′ → (r ≡ r′) × (t ≡ t′)
-nearest-once P Q id size ws r r′ t t′ a b = of-nearest.nearest-once P Q id size ws r r′ t t′ (a .promised) (b .promised)
+nearest-once P Q id size ws r r′ t t′ a b = of-nearest.nearest-call-once P Q id size ws r r′ t t′ (a .promised) (b .promised)
 
 pub near-filter-once : (P Q : List ℤ) (id : ℕ) (ws : List ℕ) (r r′ : Filtered) (t t′ : List ℕ) → NearFilterAnswers P Q id ws r t → NearFilterAnswers P Q id ws r′ t′ → (r ≡ r′) × (t ≡ t′)
-near-filter-once P Q id ws r r′ t t′ a b = of-nearest.near-filter-once P Q id ws r r′ t t′ (a .promised) (b .promised)
+near-filter-once P Q id ws r r′ t t′ a b = of-nearest.near-filter-call-once P Q id ws r r′ t t′ (a .promised) (b .promised)
 
 -- ---- pack: one answer, and one final state of the lent words
 
 pub pack-once : (n : ℕ) (points order : List ℤ) (ed : ℕ) (out : List ℤ) (r r′ : ℕ) (w w′ : List ℤ)
     → PackAnswers n points order ed out r w → PackAnswers n points order ed out r′ w′ → (r ≡ r′) × (w ≡ w′)
 pack-once n points order ed out r r′ w w′ a b =
-    (of-pack.pack-once n points order ed out r r′ (a .promised .0) (b .promised .0), of-pack.pack-words-once n points order ed out w w′ (a .promised .1) (b .promised .1))
+    (of-pack.pack-call-once n points order ed out r r′ (a .promised .0) (b .promised .0), of-pack.pack-words-once n points order ed out w w′ (a .promised .1) (b .promised .1))
 
 -- ---- marker
 
 -- [M2]
 pub mark-once : (ax ay bx by : ℤ) (r r′ : Marked) → MarkAnswers ax ay bx by r → MarkAnswers ax ay bx by r′ → r ≡ r′
-mark-once ax ay bx by r r′ a b = of-marker.mark-once ax ay bx by r r′ (a .promised) (b .promised)
+mark-once ax ay bx by r r′ a b = of-marker.marker-call-once ax ay bx by r r′ (a .promised) (b .promised)
 
 -- ---- book: one answer with the book handed back in it, and one final state of the slots
 
 -- [K8]
 pub begin-once : (s : Source) (r r′ : Begun) → BeginAnswers s r → BeginAnswers s r′ → r ≡ r′
-begin-once s r r′ a b = of-book.begin-once s r r′ (a .promised) (b .promised)
+begin-once s r r′ a b = of-book.book-begin-once s r r′ (a .promised) (b .promised)
 
 pub next-once : (b : Book) (slots : List Pair) (r r′ : Asked) → NextAnswers b slots r → NextAnswers b slots r′ → r ≡ r′
-next-once b slots r r′ x y = of-book.next-once b slots r r′ x y
+next-once b slots r r′ x y = of-book.book-next-once b slots r r′ x y
 
 pub take-once : (b : Book) (slots : List Pair) (g : Page) (r r′ : Taken) (t t′ : List Pair) → TakeAnswers b slots g r t → TakeAnswers b slots g r′ t′ → (r ≡ r′) × (t ≡ t′)
-take-once b slots g r r′ t t′ x y = of-book.take-once b slots g r r′ t t′ x y
+take-once b slots g r r′ t t′ x y = of-book.book-take-once b slots g r r′ t t′ x y
 
 pub next-array-once : (slots : List Pair) (len : ℕ) (b : Book) (r r′ : Asked) → NextArrayAnswers slots len b r → NextArrayAnswers slots len b r′ → r ≡ r′
-next-array-once slots len b r r′ x y = of-book.next-array-once slots len b r r′ (x .promised) (y .promised)
+next-array-once slots len b r r′ x y = of-book.book-next-array-once slots len b r r′ (x .promised) (y .promised)
 
 pub take-array-once : (slots : List Pair) (len : ℕ) (b : Book) (g : Page) (r r′ : TakenArray) → TakeArrayAnswers slots len b g r → TakeArrayAnswers slots len b g r′ → r ≡ r′
-take-array-once slots len b g r r′ x y = of-book.take-array-once slots len b g r r′ (x .promised) (y .promised)
+take-array-once slots len b g r r′ x y = of-book.book-take-array-once slots len b g r r′ (x .promised) (y .promised)
 
 -- ---- one run per leaf: one answer, and one final state of the slots
 
 pub run-once : (P Q : List ℤ) (v : ℕ) (slots : List Pair) (r r′ : Run) (t t′ : List Pair) → RunAnswers P Q v slots r t → RunAnswers P Q v slots r′ t′ → (r ≡ r′) × (t ≡ t′)
-run-once P Q v slots r r′ t t′ x y = of-runs.run-once P Q v slots r r′ t t′ x y
+run-once P Q v slots r r′ t t′ x y = of-runs.run-call-once P Q v slots r r′ t t′ x y
 
 pub run-array-once : (P Q : List ℤ) (v : ℕ) (slots : List Pair) (len : ℕ) (r r′ : RunArray) → RunArrayAnswers P Q v slots len r → RunArrayAnswers P Q v slots len r′ → r ≡ r′
-run-array-once P Q v slots len r r′ x y = of-runs.run-array-once P Q v slots len r r′ (x .promised) (y .promised)
+run-array-once P Q v slots len r r′ x y = of-runs.run-array-call-once P Q v slots len r r′ (x .promised) (y .promised)
 
 -- ---- view
 
 pub view-open-once : (w : RefT (List ℤ)) (r r′ : Opened) → ViewOpens w r → ViewOpens w r′ → shown r ≡ shown r′
-view-open-once w r r′ x y = of-view.open-once w r r′ x y
+view-open-once w r r′ x y = of-view.open-through-once w r r′ x y
 
 pub view-point-once : (d : Sheet) (i : ℕ) (r r′ : Pointed) → ViewPoints d i r → ViewPoints d i r′ → r ≡ r′
-view-point-once d i r r′ x y = of-view.point-once d d i r r′ refl x y
+view-point-once d i r r′ x y = of-view.point-through-once d d i r r′ refl x y
 
 pub view-filter-once : (p q : Sheet) (j : ℕ) (r r′ : Filtered) → ViewFilters p q j r → ViewFilters p q j r′ → r ≡ r′
-view-filter-once p q j r r′ x y = of-view.filter-once p p q q j r r′ refl refl x y
+view-filter-once p q j r r′ x y = of-view.filter-through-once p p q q j r r′ refl refl x y
 
 pub view-ring-once : (p q : Sheet) (j i : ℕ) (r r′ : Walked) → ViewRings p q j i r → ViewRings p q j i r′ → r ≡ r′
-view-ring-once p q j i r r′ x y = of-view.ring-once p p q q j i r r′ refl refl x y
+view-ring-once p q j i r r′ x y = of-view.ring-through-once p p q q j i r r′ refl refl x y
 
 pub view-page-once : (p q : Sheet) (ask : Request) (r r′ : Paged) → ViewPages p q ask r → ViewPages p q ask r′ → r ≡ r′
-view-page-once p q ask r r′ x y = of-view.page-once p p q q ask r r′ refl refl x y
+view-page-once p q ask r r′ x y = of-view.page-through-once p p q q ask r r′ refl refl x y
 
 pub view-own-once : (d : Sheet) (key : Key) (size : ℕ) (r r′ : Paged) → ViewOwnPages d key size r → ViewOwnPages d key size r′ → r ≡ r′
-view-own-once d key size r r′ x y = of-view.own-once d d key size r r′ refl x y
+view-own-once d key size r r′ x y = of-view.own-through-once d d key size r r′ refl x y
 
 pub view-partners-once : (p q : Sheet) (id t : ℕ) (r r′ : Partnered) → ViewPartners p q id t r → ViewPartners p q id t r′ → r ≡ r′
-view-partners-once p q id t r r′ x y = of-view.partners-once p p q q id t r r′ refl refl x y
+view-partners-once p q id t r r′ x y = of-view.partners-through-once p p q q id t r r′ refl refl x y
 
 pub view-nearest-once : (p q : Sheet) (id size : ℕ) (w : List ℕ) (r r′ : Found) (t t′ : List ℕ) → ViewNearest p q id size w r t → ViewNearest p q id size w r′ t′ → (r ≡ r′) × (t ≡ t′)
-view-nearest-once p q id size w r r′ t t′ x y = of-view.nearest-once p p q q id size w r r′ t t′ refl refl x y
+view-nearest-once p q id size w r r′ t t′ x y = of-view.nearest-through-once p p q q id size w r r′ t t′ refl refl x y
 
 pub open-head-once : (w : List ℤ) (r r′ : Head) → OpenHead w r → OpenHead w r′ → r ≡ r′
-open-head-once w r r′ a b = of-ring.head-once w r r′ (a .promised) (b .promised)
+open-head-once w r r′ a b = of-ring.ring-head-once w r r′ (a .promised) (b .promised)
 
 pub point-opened-once : (w : RefT (List ℤ)) (i : ℕ) (r r′ : Pointed) → PointOpened w i r → PointOpened w i r′ → r ≡ r′
-point-opened-once w i r r′ a b = of-view.point-opened-once w i r r′ (a .promised) (b .promised)
+point-opened-once w i r r′ a b = of-view.point-opened-through-once w i r r′ (a .promised) (b .promised)

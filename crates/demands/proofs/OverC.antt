@@ -216,19 +216,19 @@ mark-number (marking.Refused k) = refl
 
 -- [C2]
 pub point-c-no : (w : List ℤ) (i : ℕ) (c : PointAnswer) → PointC w i c → c .number ≡ pointNo w i
-point-c-no w i c a = ap (λ (x : PointAnswer). x .number) (a .promised) ∙ point-number (pointed w i) ∙ of-ring.point-no w i
+point-c-no w i c a = ap (λ (x : PointAnswer). x .number) (a .promised) ∙ point-number (pointed w i) ∙ of-ring.ring-point-no w i
 
 -- [C2]
 pub walk-c-no : (P Q : List ℤ) (j i : ℕ) (c : WalkAnswer) → WalkC P Q j i c → c .number ≡ ringNo P Q j i
-walk-c-no P Q j i c a = ap (λ (x : WalkAnswer). x .number) (a .promised) ∙ walk-number (walked P Q j i) ∙ of-ring.ring-no P Q j i
+walk-c-no P Q j i c a = ap (λ (x : WalkAnswer). x .number) (a .promised) ∙ walk-number (walked P Q j i) ∙ of-ring.ring-walk-no P Q j i
 
 -- [C2]
 pub begin-c-no : (s : Source) (c : BookAnswer) → BeginC s c → c .number ≡ beginNo s
-begin-c-no s c a = ap (λ (x : BookAnswer). x .number) (a .promised) ∙ book-number (begunFor s) ∙ of-book.begin-no s
+begin-c-no s c a = ap (λ (x : BookAnswer). x .number) (a .promised) ∙ book-number (begunFor s) ∙ of-book.book-begin-no s
 
 -- [C2]
 pub next-c-no : (b : Book) (slots : List Pair) (c : KeyAnswer) → NextC b slots c → c .number ≡ nextNo b (length slots)
-next-c-no b slots c a = ap (λ (x : KeyAnswer). x .number) a ∙ next-number (asked b slots .next) (asked b slots .book) ∙ of-book.next-no b slots
+next-c-no b slots c a = ap (λ (x : KeyAnswer). x .number) a ∙ next-number (asked b slots .next) (asked b slots .book) ∙ of-book.book-next-no b slots
 
 -- [C2]
 pub mark-c-no : (ax ay bx by : ℤ) (c : MarkAnswer) → MarkC ax ay bx by c → c .number ≡ markNo ax ay bx by

@@ -28,7 +28,7 @@ use Rattle.list.specs.Pages.{thresholdNo}
 use Rattle.list.specs.RingList.{unblocked, ringPair, ringList}
 use Rattle.list.specs.Rows.{row, rows, listBy}
 use Rattle.list.specs.Terms.{full, listFor}
-use Rattle.list.proofs.TermsLaws.{full-list}
+use Rattle.list.proofs.TermsLaws.{full-ring-list}
 use Rattle.book.specs.declared.Book.{Book}
 use Rattle.ring.specs.Page.{sourceOf}
 use Rattle.book.specs.declared.Begun.the-variants as begun
@@ -79,7 +79,7 @@ unfolding begunFor beginNo first given answer begunBook editionOk thresholdNo
 begun-for = record { promised = refl }
 
 list-is : listFor full (pointsOf documentP) (pointsOf documentQ) ≡ threePairs
-list-is = full-list (pointsOf documentP) (pointsOf documentQ) ∙ computed
+list-is = full-ring-list (pointsOf documentP) (pointsOf documentQ) ∙ computed
   where
     computed : ringList (pointsOf documentP) (pointsOf documentQ) ≡ threePairs
     computed = unfold ringList listBy rows row ringPair unblocked allB sameSpot blocks pointsOf spotOf tab num documentP documentQ in refl

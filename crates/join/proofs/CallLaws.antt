@@ -128,8 +128,8 @@ chamber-same c P Q key size n t j d r a b e f = f ∙ ap (λ (x : ℕ). chamber 
 pub filter-few : {P : List ℤ} {np mp : ℕ} → Opens P np mp → (words : ℕ) (z : Spot) (o : ℕ) → o ≡ filterKept words P z .opened → o ≤ mp
 filter-few {P} c words z o e = omega (arith, c .m-is, filter-opened-at-most-m words P z (by-counts c))
 
-pub spot-fits : {Q : List ℤ} {nq mq : ℕ} → Opens Q nq mq → (j : ℕ) (z : Spot) → j < nq → z ≡ spotOf Q j → SpotIn z
-spot-fits o j z h e = rw e (spot-in o j h)
+pub join-spot-fits : {Q : List ℤ} {nq mq : ℕ} → Opens Q nq mq → (j : ℕ) (z : Spot) → j < nq → z ≡ spotOf Q j → SpotIn z
+join-spot-fits o j z h e = rw e (spot-in o j h)
 
 module _ {P Q : List ℤ} {np mp nq mq : ℕ} (o : Opens P np mp) (o′ : Opens Q nq mq) where
   pub capped : (words : ℕ) → Capped (walksOf words P Q) mp (mp + mq)

@@ -24,8 +24,8 @@ use Rattle.walk.specs.declared.Answer.{Answer}
 use Rattle.walk.specs.FilterWalk.{filterKept}
 use Rattle.walk.specs.RingWalk.{clear, pairWalk}
 use Rattle.walk.proofs.FilterLaws.{kept-long, kept-below}
-use Rattle.walk.proofs.Meaning.{pair-opened, pair-exact}
-use Rattle.walk.proofs.SiftLaws.{oneIf, sum-next, sum-same, sum-past, stays, spends, stays-not, spends-not, Sifted, Sifts, sift-start, sift-clear, sift-gone, sift-few, sift-room}
+use Rattle.walk.proofs.Meaning.{pair-opened, walk-pair-exact}
+use Rattle.walk.proofs.SiftLaws.{oneIf, sum-next, sum-same, sum-past, stays, spends, stays-not, spends-not, Sifted, Sifts, walk-sift-start, sift-clear, sift-gone, sift-few, sift-room}
 use Rattle.list.specs.Rows.{row}
 use Rattle.list.specs.RingList.{ringPair, pairAt, partnersOf}
 use Rattle.join.specs.Sheets.{walksOf}
@@ -48,7 +48,7 @@ abbrev pub Kept-to : ℕ → List ℤ → List ℤ → ℕ → List ℕ → ℕ 
 Kept-to words P Q j b count opened i = Sifted (walkOf P Q j) (first words P Q j) 0 b count opened i
 
 pub keep-start : (words : ℕ) (P Q : List ℤ) (j : ℕ) (b : List ℕ) (u : ℕ) → b ≡ first words P Q j → u ≡ nextFrom b 0 → Keeping words P Q j b 0 0 u
-keep-start words P Q j b u e g = sift-start (walkOf P Q j) (first words P Q j) 0 b 0 u e refl g
+keep-start words P Q j b u e g = walk-sift-start (walkOf P Q j) (first words P Q j) 0 b 0 u e refl g
 
 module _ {P Q : List ℤ} {np mp nq mq : ℕ} (o : Opens P np mp) (o′ : Opens Q nq mq) (words : ℕ) (enough : np ≤ 64 * words) (j : ℕ) where
   -- no position past the points is kept
@@ -96,9 +96,9 @@ module _ {P Q : List ℤ} {np mp nq mq : ℕ} (o : Opens P np mp) (o′ : Opens 
         s .sifted .above y (ltb-false y i t) ∙ n ∙ sym (stays-not (walkOf P Q j) (first words P Q j) y n))
         (decide (ltb y i))
 
-    pub kept-count : count ≡ foundFor (walksOf words P Q) np j
+    pub join-kept-count : count ≡ foundFor (walksOf words P Q) np j
     unfolding foundFor stays
-    kept-count =
+    join-kept-count =
         s .sifted .counted
         ∙ sum-past _ np i past (λ y h l. ap oneIf (stays-not (walkOf P Q j) (first words P Q j) y (past-none y h)))
         ∙ sym (row-many (λ j i. walksOf words P Q .kept j i && walksOf words P Q .clear j i) (walksOf words P Q .pair) j np 0)
@@ -152,7 +152,7 @@ module _ {P Q : List ℤ} {np mp nq mq : ℕ} (o : Opens P np mp) (o′ : Opens 
   unfolding partnersOf stays
   all-counted =
       let z : np ≡ length (pointsOf P) = sym (length-points P ∙ o .n-is) in
-      sum-same _ (λ y. oneIf (ringPair (pointsOf P) (pointsOf Q) j y)) 0 np (λ y l. ap oneIf (sym (pair-exact P Q (by-counts o) (by-counts o′) j (0 + y) (omega (arith, o′ .n-is)) (omega (arith, o .n-is)) words (omega (arith, o .n-is)))))
+      sum-same _ (λ y. oneIf (ringPair (pointsOf P) (pointsOf Q) j y)) 0 np (λ y l. ap oneIf (sym (walk-pair-exact P Q (by-counts o) (by-counts o′) j (0 + y) (omega (arith, o′ .n-is)) (omega (arith, o .n-is)) words (omega (arith, o .n-is)))))
       ∙ sym (row-many (ringPair (pointsOf P) (pointsOf Q)) (pairAt (pointsOf P) (pointsOf Q)) j np 0)
       ∙ ap (λ (n : ℕ). length (row (ringPair (pointsOf P) (pointsOf Q)) (pairAt (pointsOf P) (pointsOf Q)) j n 0)) z
 

@@ -24,7 +24,7 @@ use Rattle.walk.specs.FilterWalk.{filterKept, filterKeeps}
 use Rattle.walk.specs.RingWalk.{clear, clearAt, ringOn, ringWalk, pairWalk}
 use Rattle.walk.specs.SelfWalk.{passKeeps}
 use Rattle.walk.proofs.FilterLaws.{kept-below}
-use Rattle.walk.proofs.Meaning.{filter-opened-at-most-m, ring-opened-at-most-m}
+use Rattle.walk.proofs.Meaning.{filter-opened-at-most-m, walk-ring-opened-at-most-m}
 use Rattle.walk.proofs.SelfLaws.{pass-opened, pass-keeps}
 use Rattle.list.specs.declared.Key.{Key}
 use Rattle.list.specs.declared.Terms.{Terms}
@@ -65,7 +65,7 @@ module _ {S : List ℤ} {n m : ℕ} (o : Opens S n m) where
     own-capped =
         record {
           filter = λ j. omega (arith, o .m-is, o .n-is, pass-opened words S (by-counts o) (omega (arith, o .n-is)) j, filter-opened-at-most-m words S (spotOf S j) (by-counts o));
-          ring = λ j i. omega (arith, o .m-is, ring-opened-at-most-m 0 S (by-counts o) (spotOf S j) (spotOf S i));
+          ring = λ j i. omega (arith, o .m-is, walk-ring-opened-at-most-m 0 S (by-counts o) (spotOf S j) (spotOf S i));
         }
 
   -- ---- the words: what stands after j on them is what is kept of higher id

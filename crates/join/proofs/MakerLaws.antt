@@ -22,7 +22,7 @@ use Rattle.list.specs.Pages.{padded, shown, pageOf}
 use Rattle.list.specs.Rows.{row, rows, listBy, Rising, Named}
 use Rattle.list.proofs.Order.{later, after-append}
 use Rattle.list.proofs.PageLaws.{end-mark}
-use Rattle.list.proofs.RowLaws.{list-ascends}
+use Rattle.list.proofs.RowLaws.{ring-list-ascends}
 use Rattle.join.specs.declared.Draft.{Draft}
 use Rattle.join.specs.Walks.{Walks}
 use Rattle.join.specs.Work.{firstFrom}
@@ -253,7 +253,7 @@ module _ (w : Walks) (key : Key) (size : ℕ) (rule : ℕ → ℕ → Bool) (np 
       let from = firstFrom (w .qid) key nq in
       let few : from + (nq - from) ≤ nq = omega (arith, from-most) in
       let z : bare (chambers w key size np (nq - from) from blank) ≡ result size (after key l) = chambers-feed (nq - from) from blank few ∙ feed-page size (after key (rows rule (w .pair) np (nq - from) from)) g ∙ ap (result size) (sym from-after) in
-      let m = end-mark start key s l size (list-ascends rule (w .pair) (w .qid) pid nm nq np rq rp) in
+      let m = end-mark start key s l size (ring-list-ascends rule (w .pair) (w .qid) pid nm nq np rq rp) in
       let u : take size (after key l) ≡ shown l key size = unfold shown in refl in
       let e : not (ltb size (length (after key l))) ≡ pageOf s l key size .end = sym m in
       (λ t. record { source = s; key = key; count = z t .count; end = not (z t .more); pairs = z t .pairs })

@@ -2,10 +2,10 @@
 --
 --     points-rise       the ids of a sheet's points ascend, from 1 to 2,000,000,000: what the laws of the list ask for
 --     points-sound      of a sheet of form 1 they also stand within 1,000,000: what demand 3 asks for
---     page-pairs        the pairs, their number and the end mark are those of the page of the terms' list, `listFor a (pointsOf P) (pointsOf Q)`
---     page-opened       the count is that of the walks, `pageOpened` of `walksFor` of `walksBy`
+--     join-page-pairs        the pairs, their number and the end mark are those of the page of the terms' list, `listFor a (pointsOf P) (pointsOf Q)`
+--     join-page-opened       the count is that of the walks, `pageOpened` of `walksFor` of `walksBy`
 --     sheet-pages       following the pages from (0, 0), whatever their sizes, gives the list
---     list-by-points    sheets with the same points give the same list, and the same pairs, number and end mark of every page
+--     join-list-by-points    sheets with the same points give the same list, and the same pairs, number and end mark of every page
 -- Assumes nothing.
 use mathlib.Core.Path.{_≡_, refl, sym, ap, subst, _∙_}
 use mathlib.Core.Bool.{Bool, true, false, _&&_}
@@ -22,7 +22,7 @@ use Rattle.sheet.specs.Layout.{points}
 use Rattle.sheet.specs.Places.{pointsOf}
 use Rattle.sheet.specs.Open.{openNo, Opens}
 use Rattle.sheet.proofs.PointsLaws.{length-points, spot-of, id-low, id-high, id-rises}
-use Rattle.walk.proofs.Meaning.{pair-exact}
+use Rattle.walk.proofs.Meaning.{walk-pair-exact}
 use Rattle.walk.proofs.SelfLaws.{self-walked}
 use Rattle.list.specs.declared.Key.{Key}
 use Rattle.list.specs.declared.Pair.{Pair}
@@ -81,7 +81,7 @@ module _ {P Q : List ℤ} {np mp nq mq : ℕ} (o : Opens P np mp) (o′ : Opens 
     unfolding pairFor
     exact j i hj hi =
         by-kind (λ t R. j < points R → pairFor t (pointsOf P) (pointsOf R) j i ≡ (walksBy t words P R .kept j i && walksBy t words P R .clear j i)) a P Q al
-        (λ t h. pair-exact P Q (by-counts o) (by-counts o′) j i h (omega (arith, o .n-is)) words (omega (arith, o .n-is)))
+        (λ t h. walk-pair-exact P Q (by-counts o) (by-counts o′) j i h (omega (arith, o .n-is)) words (omega (arith, o .n-is)))
         (λ t h. self-walked words P (by-counts o) (omega (arith, o .n-is)) j i h (omega (arith, o .n-is)))
         (omega (arith, o′ .n-is))
 
@@ -92,9 +92,9 @@ module _ {P Q : List ℤ} {np mp nq mq : ℕ} (o : Opens P np mp) (o′ : Opens 
         let l : ℕ → ℕ → List Pair = λ n m. listBy (atLeast (pairFor a (pointsOf P) (pointsOf Q)) pair (a .threshold) n) pair n m in
         ap (λ (k : ℕ). l k nq) (sym (length-points P ∙ o .n-is)) ∙ ap (λ (k : ℕ). l (length (pointsOf P)) k) (sym (length-points Q ∙ o′ .n-is))
 
-    pub page-pairs : (s : Source) (key : Key) (size : ℕ) → size ≤ 16
+    pub join-page-pairs : (s : Source) (key : Key) (size : ℕ) → size ≤ 16
         → pageFrom s key (pageMade (walksFor (walksBy a words P Q) np (a .threshold)) key size np nq) ≡ pageOf s (listFor a (pointsOf P) (pointsOf Q)) key size
-    page-pairs s key size h =
+    join-page-pairs s key size h =
         let w = walksFor (walksBy a words P Q) np (a .threshold) in
         let rule = atLeast (pairFor a (pointsOf P) (pointsOf Q)) (pairAt (pointsOf P) (pointsOf Q)) (a .threshold) np in
         maker-page w key size rule np nq (exact-for (walksBy a words P Q) (pairFor a (pointsOf P) (pointsOf Q)) np nq exact (a .threshold)) (idAt (pointsOf P)) (for-named (walksBy a words P Q) np (a .threshold) (idAt (pointsOf P)) (named (pointsOf P) (pointsOf Q))) s
@@ -102,22 +102,22 @@ module _ {P Q : List ℤ} {np mp nq mq : ℕ} (o : Opens P np mp) (o′ : Opens 
         ∙ ap (λ (pair : ℕ → ℕ → Pair). pageOf s (listBy rule pair np nq) key size) (for-pair (walksBy a words P Q) np (a .threshold))
         ∙ ap (λ (l : List Pair). pageOf s l key size) list-is
 
-    pub page-opened : (key : Key) (size : ℕ) → pageMade (walksFor (walksBy a words P Q) np (a .threshold)) key size np nq .opened ≡ pageOpened (walksFor (walksBy a words P Q) np (a .threshold)) key size np nq
-    page-opened key size = maker-opened (walksFor (walksBy a words P Q) np (a .threshold)) key size np nq
+    pub join-page-opened : (key : Key) (size : ℕ) → pageMade (walksFor (walksBy a words P Q) np (a .threshold)) key size np nq .opened ≡ pageOpened (walksFor (walksBy a words P Q) np (a .threshold)) key size np nq
+    join-page-opened key size = maker-opened (walksFor (walksBy a words P Q) np (a .threshold)) key size np nq
 
   pub sheet-pages : (a : Terms) (sizes : ℕ → ℕ) (s : Source) → ((k : ℕ) → 0 < sizes k)
       → followed (length (listFor a (pointsOf P) (pointsOf Q))) sizes (pageOf s (listFor a (pointsOf P) (pointsOf Q))) start ≡ listFor a (pointsOf P) (pointsOf Q)
   sheet-pages a sizes s some = for-pages a (pointsOf P) (pointsOf Q) (points-rise o) (points-rise o′) sizes s some
 
 module _ (P P′ Q Q′ : List ℤ) (ep : pointsOf P ≡ pointsOf P′) (eq : pointsOf Q ≡ pointsOf Q′) (a : Terms) where
-  pub same-list : listFor a (pointsOf P) (pointsOf Q) ≡ listFor a (pointsOf P′) (pointsOf Q′)
-  same-list = ap (λ (x : List Point). listFor a x (pointsOf Q)) ep ∙ ap (listFor a (pointsOf P′)) eq
+  pub join-same-list : listFor a (pointsOf P) (pointsOf Q) ≡ listFor a (pointsOf P′) (pointsOf Q′)
+  join-same-list = ap (λ (x : List Point). listFor a x (pointsOf Q)) ep ∙ ap (listFor a (pointsOf P′)) eq
 
   -- whatever the editions and the trees
-  pub list-by-points : (s s′ : Source) (key : Key) (size : ℕ)
+  pub join-list-by-points : (s s′ : Source) (key : Key) (size : ℕ)
       → (pageOf s (listFor a (pointsOf P) (pointsOf Q)) key size .pairs ≡ pageOf s′ (listFor a (pointsOf P′) (pointsOf Q′)) key size .pairs)
       × (pageOf s (listFor a (pointsOf P) (pointsOf Q)) key size .count ≡ pageOf s′ (listFor a (pointsOf P′) (pointsOf Q′)) key size .count)
       × (pageOf s (listFor a (pointsOf P) (pointsOf Q)) key size .end ≡ pageOf s′ (listFor a (pointsOf P′) (pointsOf Q′)) key size .end)
   unfolding pageOf
-  list-by-points s s′ key size =
-      (ap (λ (l : List Pair). pageOf s l key size .pairs) same-list, ap (λ (l : List Pair). pageOf s l key size .count) same-list, ap (λ (l : List Pair). pageOf s l key size .end) same-list)
+  join-list-by-points s s′ key size =
+      (ap (λ (l : List Pair). pageOf s l key size .pairs) join-same-list, ap (λ (l : List Pair). pageOf s l key size .count) join-same-list, ap (λ (l : List Pair). pageOf s l key size .end) join-same-list)

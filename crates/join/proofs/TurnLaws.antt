@@ -179,13 +179,13 @@ module _ (w : Walks) (key : Key) (size : ℕ) where
     pub left : chambers w key size np (nq - j) j r ≡ pageMade w key size np nq
     pub room : r .opened ≤ j * c
 
-  pub rounds-start : (c np nq j : ℕ) → j ≡ firstFrom (w .qid) key nq → Rounds c np nq blank j
+  pub join-rounds-start : (c np nq j : ℕ) → j ≡ firstFrom (w .qid) key nq → Rounds c np nq blank j
   unfolding pageMade
-  rounds-start c np nq j e = record { left = ap (λ (t : ℕ). chambers w key size np (nq - t) t blank) e; room = omega arith }
+  join-rounds-start c np nq j e = record { left = ap (λ (t : ℕ). chambers w key size np (nq - t) t blank) e; room = omega arith }
 
   -- room for one chamber more
-  pub rounds-room : (c np nq : ℕ) (r : Draft) (j : ℕ) → j < nq → Rounds c np nq r j → r .opened + c ≤ nq * c
-  rounds-room c np nq r j l t = omega (arith, t .room, step-mul j nq c l)
+  pub join-rounds-room : (c np nq : ℕ) (r : Draft) (j : ℕ) → j < nq → Rounds c np nq r j → r .opened + c ≤ nq * c
+  join-rounds-room c np nq r j l t = omega (arith, t .room, step-mul j nq c l)
 
   pub rounds-on : (c np nq : ℕ) (r : Draft) (j : ℕ) → chamber w key size np j r .opened ≤ r .opened + c → j < nq → r .more ≡ false → Rounds c np nq r j → (r′ : Draft) → r′ ≡ chamber w key size np j r → Rounds c np nq r′ (j + 1)
   unfolding chambers
@@ -208,6 +208,6 @@ module _ (w : Walks) (key : Key) (size : ℕ) where
   pub rounds-stop : (c np nq : ℕ) (r : Draft) (j : ℕ) → r .more ≡ true → Rounds c np nq r j → r ≡ pageMade w key size np nq
   rounds-stop c np nq r j e t = sym (chambers-stop np (nq - j) j r e) ∙ t .left
 
-  pub rounds-end : (c np nq : ℕ) (r : Draft) (j : ℕ) → nq ≤ j → Rounds c np nq r j → r ≡ pageMade w key size np nq
+  pub join-rounds-end : (c np nq : ℕ) (r : Draft) (j : ℕ) → nq ≤ j → Rounds c np nq r j → r ≡ pageMade w key size np nq
   unfolding chambers
-  rounds-end c np nq r j h t = let z : nq - j ≡ 0 = omega arith in sym (ap (λ (k : ℕ). chambers w key size np k j r) z) ∙ t .left
+  join-rounds-end c np nq r j h t = let z : nq - j ≡ 0 = omega arith in sym (ap (λ (k : ℕ). chambers w key size np k j r) z) ∙ t .left

@@ -163,8 +163,8 @@ module _ (q : ℕ → Spot) (c words : ℕ) (w : List ℤ) (n : ℕ) where
   abbrev pub place : ℕ → List ℕ → List ℕ
   place r = inTurn (weigh q c words w n (orderOf w n r)) c 0
 
-  pub place-is : (r i : ℕ) (b b′ : List ℕ) → i ≡ orderOf w n r → b′ ≡ inTurn (weigh q c words w n i) c 0 b → b′ ≡ place r b
-  place-is r i b b′ e f = f ∙ ap (λ (x : ℕ). inTurn (weigh q c words w n x) c 0 b) e
+  pub leaf-place-is : (r i : ℕ) (b b′ : List ℕ) → i ≡ orderOf w n r → b′ ≡ inTurn (weigh q c words w n i) c 0 b → b′ ≡ place r b
+  leaf-place-is r i b b′ e f = f ∙ ap (λ (x : ℕ). inTurn (weigh q c words w n x) c 0 b) e
 
   -- the places of a leaf open no node
   take-turn : (d a : ℕ) (k : Kept) → soFar (inTurn place d a (k .bits)) (k .opened) ≡ inTurn (leafTake q c words w n) d a k
@@ -177,17 +177,17 @@ module _ (q : ℕ → Spot) (c words : ℕ) (w : List ℤ) (n : ℕ) where
   node-skip zero j k e = rw e
   node-skip (suc l) j k e = rw e
 
-  pub node-leaf : (l j first count : ℕ) (b b′ : List ℕ) (o : ℕ) → l ≡ 0 → first ≡ firstOf w n j → count ≡ countOf w n j → allB c (skips q c words w n j b) ≡ false → b′ ≡ inTurn place count first b → soFar b′ (o + 1) ≡ leafNode q c words w n l j (soFar b o)
+  pub leaf-node-leaf : (l j first count : ℕ) (b b′ : List ℕ) (o : ℕ) → l ≡ 0 → first ≡ firstOf w n j → count ≡ countOf w n j → allB c (skips q c words w n j b) ≡ false → b′ ≡ inTurn place count first b → soFar b′ (o + 1) ≡ leafNode q c words w n l j (soFar b o)
   unfolding leafNode walk leafVisit
-  node-leaf l j first count b b′ o z p d e f =
+  leaf-node-leaf l j first count b b′ o z p d e f =
       ap (λ (x : List ℕ). soFar x (o + 1)) f ∙ take-turn count first (soFar b (o + 1)) ∙ (rw (z, p, d, e))
 
   node-down : (l j first count : ℕ) (b : List ℕ) (o : ℕ) → first ≡ firstOf w n j → count ≡ countOf w n j → allB c (skips q c words w n j b) ≡ false → inTurn (leafNode q c words w n l) count first (soFar b (o + 1)) ≡ leafNode q c words w n (suc l) j (soFar b o)
   unfolding leafNode walk leafVisit
   node-down l j first count b o p d e = rw (p, d, e)
 
-  pub node-above : (l j first count : ℕ) (b : List ℕ) (o : ℕ) → (l ≡ 0 → ⊥) → first ≡ firstOf w n j → count ≡ countOf w n j → allB c (skips q c words w n j b) ≡ false → inTurn (leafNode q c words w n (l - 1)) count first (soFar b (o + 1)) ≡ leafNode q c words w n l j (soFar b o)
-  node-above l j first count b o z p d e =
+  pub leaf-node-above : (l j first count : ℕ) (b : List ℕ) (o : ℕ) → (l ≡ 0 → ⊥) → first ≡ firstOf w n j → count ≡ countOf w n j → allB c (skips q c words w n j b) ≡ false → inTurn (leafNode q c words w n (l - 1)) count first (soFar b (o + 1)) ≡ leafNode q c words w n l j (soFar b o)
+  leaf-node-above l j first count b o z p d e =
       let s : suc (l - 1) ≡ l = omega (arith, pos-of-ne-zero z) in
       node-down (l - 1) j first count b o p d e ∙ ap (λ (i : ℕ). leafNode q c words w n i j (soFar b o)) s
 
@@ -198,22 +198,22 @@ module _ (q : ℕ → Spot) (c words : ℕ) (w : List ℤ) (n : ℕ) where
     pub long : length b ≡ length b₀
     pub room : o + sumOver (treeSize w n l) (first + i) (count - i) < 9223372036854775808
 
-  pub rounds-start : (l j first count : ℕ) (b : List ℕ) (o : ℕ) → (l ≡ 0 → ⊥) → first ≡ firstOf w n j → count ≡ countOf w n j → o + treeSize w n l j < 9223372036854775808 → Rounds (l - 1) first count b (o + 1) b (o + 1) 0
-  rounds-start l j first count b o z p d r = record { turn = turn-start _ first count _; long = refl; room = room-start w n l j first count o z p d r }
+  pub leaf-rounds-start : (l j first count : ℕ) (b : List ℕ) (o : ℕ) → (l ≡ 0 → ⊥) → first ≡ firstOf w n j → count ≡ countOf w n j → o + treeSize w n l j < 9223372036854775808 → Rounds (l - 1) first count b (o + 1) b (o + 1) 0
+  leaf-rounds-start l j first count b o z p d r = record { turn = turn-start _ first count _; long = refl; room = room-start w n l j first count o z p d r }
 
-  pub rounds-room : (l first count : ℕ) (b₀ : List ℕ) (o₀ : ℕ) (b : List ℕ) (o i : ℕ) → i < count → Rounds l first count b₀ o₀ b o i → o + treeSize w n l (first + i) < 9223372036854775808
-  rounds-room l first count b₀ o₀ b o i h u = room-here w n l first count o i h (u .room)
+  pub leaf-rounds-room : (l first count : ℕ) (b₀ : List ℕ) (o₀ : ℕ) (b : List ℕ) (o i : ℕ) → i < count → Rounds l first count b₀ o₀ b o i → o + treeSize w n l (first + i) < 9223372036854775808
+  leaf-rounds-room l first count b₀ o₀ b o i h u = room-here w n l first count o i h (u .room)
 
-  pub rounds-step : (l first count : ℕ) (b₀ : List ℕ) (o₀ : ℕ) (b : List ℕ) (o : ℕ) (b′ : List ℕ) (o′ i : ℕ) → i < count → Rounds l first count b₀ o₀ b o i → length b′ ≡ length b → soFar b′ o′ ≡ leafNode q c words w n l (first + i) (soFar b o) → Rounds l first count b₀ o₀ b′ o′ (i + 1)
-  rounds-step l first count b₀ o₀ b o b′ o′ i h u s e =
+  pub leaf-rounds-step : (l first count : ℕ) (b₀ : List ℕ) (o₀ : ℕ) (b : List ℕ) (o : ℕ) (b′ : List ℕ) (o′ i : ℕ) → i < count → Rounds l first count b₀ o₀ b o i → length b′ ≡ length b → soFar b′ o′ ≡ leafNode q c words w n l (first + i) (soFar b o) → Rounds l first count b₀ o₀ b′ o′ (i + 1)
+  leaf-rounds-step l first count b₀ o₀ b o b′ o′ i h u s e =
       record {
         turn = turn-step _ first count _ _ _ i h (u .turn) e;
         long = s ∙ u .long;
         room = room-after w n l first count o o′ i h (u .room) (subst (λ (k : Kept). k .opened ≤ o + treeSize w n l (first + i)) (sym e) (leaf-node-opened q c words w n l (first + i) (soFar b o)));
       }
 
-  pub rounds-end : (l first count : ℕ) (b₀ : List ℕ) (o₀ : ℕ) (b : List ℕ) (o i : ℕ) → count ≤ i → Rounds l first count b₀ o₀ b o i → soFar b o ≡ inTurn (leafNode q c words w n l) count first (soFar b₀ o₀)
-  rounds-end l first count b₀ o₀ b o i h u = turn-end _ first count _ _ i h (u .turn)
+  pub leaf-rounds-end : (l first count : ℕ) (b₀ : List ℕ) (o₀ : ℕ) (b : List ℕ) (o i : ℕ) → count ≤ i → Rounds l first count b₀ o₀ b o i → soFar b o ≡ inTurn (leafNode q c words w n l) count first (soFar b₀ o₀)
+  leaf-rounds-end l first count b₀ o₀ b o i h u = turn-end _ first count _ _ i h (u .turn)
 
 -- ---- a loop that changes the sets, and leaves them as long: b after i turns, b₀ before
 
@@ -255,12 +255,12 @@ module _ (q : ℕ → Spot) (c words : ℕ) (w : List ℤ) where
   apart b o e = (ap (λ (k : Kept). k .bits) e, ap (λ (k : Kept). k .opened) e)
 
   -- a sheet of no node leaves the sets of none
-  pub walked-none : (n m : ℕ) (b b′ : List ℕ) → points w ≡ n → nodes w ≡ m → m ≡ 0 → Sets b words n → b′ ≡ none (length b) → Answered b′ 0
-  walked-none n m b b′ e f z s d = apart b′ 0 (ap (λ (x : List ℕ). soFar x 0) (d ∙ ap none (s .long)) ∙ top-none n m e f z)
+  pub leaf-walked-none : (n m : ℕ) (b b′ : List ℕ) → points w ≡ n → nodes w ≡ m → m ≡ 0 → Sets b words n → b′ ≡ none (length b) → Answered b′ 0
+  leaf-walked-none n m b b′ e f z s d = apart b′ 0 (ap (λ (x : List ℕ). soFar x 0) (d ∙ ap none (s .long)) ∙ top-none n m e f z)
 
   -- any other is walked from its root; d is the number of chambers as it was read
-  pub walked : (d n m : ℕ) (b b′ b″ : List ℕ) (o : ℕ) → d ≡ c → points w ≡ n → nodes w ≡ m → (m ≡ 0 → ⊥) → Sets b words n → b′ ≡ none (length b) → soFar b″ o ≡ leafNode q d words w n (levelOf w n (m - 1)) (m - 1) (soFar b′ 0) → Answered b″ o
-  walked d n m b b′ b″ o h e f z s g r =
+  pub leaf-walked : (d n m : ℕ) (b b′ b″ : List ℕ) (o : ℕ) → d ≡ c → points w ≡ n → nodes w ≡ m → (m ≡ 0 → ⊥) → Sets b words n → b′ ≡ none (length b) → soFar b″ o ≡ leafNode q d words w n (levelOf w n (m - 1)) (m - 1) (soFar b′ 0) → Answered b″ o
+  leaf-walked d n m b b′ b″ o h e f z s g r =
       apart b″ o
       (r ∙ ap (λ (x : ℕ). leafNode q x words w n (levelOf w n (m - 1)) (m - 1) (soFar b′ 0)) h
       ∙ ap (λ (x : List ℕ). leafNode q c words w n (levelOf w n (m - 1)) (m - 1) (soFar x 0)) (g ∙ ap none (s .long))

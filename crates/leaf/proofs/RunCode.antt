@@ -35,7 +35,7 @@ use Rattle.walk.specs.FilterWalk.{Kept, soFar}
 use Rattle.walk.specs.RingWalk.{clear, pairWalk}
 use Rattle.walk.proofs.Meaning.{pair-opened}
 use Rattle.walk.proofs.WalkLaws.{Steps, Does, turn-does, all-does, sum-one}
-use Rattle.walk.proofs.SiftLaws.{oneIf, sum-same, sum-past, stays, spends, stays-not, spends-not, Sifted, Sifts, sift-start, sift-clear, sift-gone, sift-few, sift-room}
+use Rattle.walk.proofs.SiftLaws.{oneIf, sum-same, sum-past, stays, spends, stays-not, spends-not, Sifted, Sifts, walk-sift-start, sift-clear, sift-gone, sift-few, sift-room}
 use Rattle.leaf.specs.LeafWalk.{slot, chamberAt, chamberSpot, ruledOut, weigh, leafTake, skips, leafVisit, leafKept, leafKeeps}
 use Rattle.leaf.specs.LeafRun.{leafList, leafOpened, RunSet, pairsFrom, leftFrom}
 use Rattle.leaf.specs.Room.{Sets}
@@ -490,10 +490,10 @@ module _ {P Q : List ℤ} {np mp nq mq v words : ℕ} (told : Told P np mp Q nq 
 
   -- ---- the loop
 
-  pub going-start : (b : List ℕ) (opened u : ℕ) → b ≡ leafKept (chamberSpot Q v) (countOf Q nq v) words P .bits → opened ≡ leafKept (chamberSpot Q v) (countOf Q nq v) words P .opened → u ≡ nextFrom b 0 → Going P Q v words b 0 opened u
-  going-start b opened u e f g =
+  pub leaf-going-start : (b : List ℕ) (opened u : ℕ) → b ≡ leafKept (chamberSpot Q v) (countOf Q nq v) words P .bits → opened ≡ leafKept (chamberSpot Q v) (countOf Q nq v) words P .opened → u ≡ nextFrom b 0 → Going P Q v words b 0 opened u
+  leaf-going-start b opened u e f g =
       subst (λ (c : ℕ). Sifts (walkOf P Q v words) (leafKept (chamberSpot Q v) c words P .bits) (leafKept (chamberSpot Q v) c words P .opened) b 0 opened u) count-is
-      (sift-start (walkOf P Q v words) _ _ b opened u e f g)
+      (walk-sift-start (walkOf P Q v words) _ _ b opened u e f g)
 
   pub passed-long : (b : List ℕ) (count opened x : ℕ) → Passed P Q v words b count opened x → length b ≡ 16 * words
   passed-long b count opened x s = s .long ∙ leaf-long (chamberSpot Q v) (countOf Q (points Q) v) words P (by-counts (told .p-opens)) (leaf-few Q (by-counts (told .q-opens)) v in-q leaf-q) all-p
@@ -520,8 +520,8 @@ module _ {P Q : List ℤ} {np mp nq mq v words : ℕ} (told : Told P np mp Q nq 
       going-few = omega (arith, words-few c e, sift-few (walkOf P Q v words) _ _ b count opened x s)
 
       -- the counts have room for one ring walk more
-      pub going-room : (a : Answer) (j i : ℕ) → a ≡ pairWalk P Q j i → opened + a .opened < 9223372036854775808
-      going-room a j i f =
+      pub leaf-going-room : (a : Answer) (j i : ℕ) → a ≡ pairWalk P Q j i → opened + a .opened < 9223372036854775808
+      leaf-going-room a j i f =
           let m : x * (mp + mq) ≤ 1024000 * 48000 = mul-le-mul {n₁ = x} {m₁ = mp + mq} {n₂ = 1024000} {m₂ = 48000} (omega (arith, words-few c e)) (omega (arith, told .p-opens .m-le, told .q-opens .m-le)) in
           omega (
             arith,

@@ -129,9 +129,9 @@ module _ (P Q : List ℤ) (p-opens : Opens P (points P) (nodes P)) (q-opens : Op
     run-holds k i a b e = placed-rows (λ k i. ringPair (pointsOf P) (pointsOf Q) (chamberAt Q v k) i) (λ k i. pairAt (pointsOf P) (pointsOf Q) (chamberAt Q v k) i) (countOf Q (points Q) v) (points P) (countOf Q (points Q) v) 0 k i (omega arith) (omega arith) b e
 
     -- .. and each once
-    pub run-once : (a b : ℕ) → a < b → b < length (leafList P Q v) → getD (leafList P Q v) a none ≡ getD (leafList P Q v) b none → ⊥
+    pub leaf-run-once : (a b : ℕ) → a < b → b < length (leafList P Q v) → getD (leafList P Q v) a none ≡ getD (leafList P Q v) b none → ⊥
     unfolding leafList listBy
-    run-once =
+    leaf-run-once =
         distinct-once _
         (rows-distinct (λ k i. ringPair (pointsOf P) (pointsOf Q) (chamberAt Q v k) i) (λ k i. pairAt (pointsOf P) (pointsOf Q) (chamberAt Q v k) i) (countOf Q (points Q) v) (points P)
         (λ j i j′ i′ a b c d e.

@@ -77,7 +77,7 @@ pub record Starred : Type 0 where
   third-q : ringPair (at 1 7 7 ∷ []) (at 1 7 7 ∷ at 2 7 7 ∷ []) 0 0 ≡ true
   third-p : ringPair (at 1 7 7 ∷ at 2 7 7 ∷ []) (at 1 7 7 ∷ []) 0 0 ≡ true
 
-pub starred : Starred
+pub list-starred : Starred
 unfolding ringPair unblocked allB sameSpot blocks
-starred =
+list-starred =
     record { alone = refl; beside = refl; on-end-q = refl; on-end-p = refl; one-spot = refl; one-off = refl; third-q = refl; third-p = refl }

@@ -109,9 +109,9 @@ module _ (P Q : List Point) (some-p : 0 < length P) (some-q : 0 < length Q) wher
       through x y z h k = omega zl
 
   -- "so the list is not empty"
-  pub never-empty : 0 < length (ringList P Q)
+  pub list-never-empty : 0 < length (ringList P Q)
   unfolding ringList listBy
-  never-empty =
+  list-never-empty =
       let c = couple in
       let n = c .nearest in
       holds-some (pairAt P Q (c .at-q) (c .at-p)) (listBy (ringPair P Q) (pairAt P Q) (length P) (length Q))

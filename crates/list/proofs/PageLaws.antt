@@ -99,8 +99,8 @@ pages-after (suc f) sizes s k key l some e h =
     (decide (ltb n (length t))))
 
 -- following the pages from (0, 0), whatever their sizes, gives the list: at most as many requests as it has pairs
-pub pages-list : (sizes : ℕ → ℕ) (s : Source) (l : List Pair) → ((i : ℕ) → 0 < sizes i) → ascends start l ≡ true → followed (length l) sizes (pageOf s l) start ≡ l
-pages-list sizes s l some e =
+pub list-pages-list : (sizes : ℕ → ℕ) (s : Source) (l : List Pair) → ((i : ℕ) → 0 < sizes i) → ascends start l ≡ true → followed (length l) sizes (pageOf s l) start ≡ l
+list-pages-list sizes s l some e =
     let z = after-all start l e in
     pages-after (length l) sizes s start start l some e (rw z (omega arith)) ∙ z
 

@@ -157,9 +157,9 @@ module _ (rule : ℕ → ℕ → Bool) (pair : ℕ → ℕ → Pair) (qid pid : 
       (λ u a b. omega (arith, row-last j np 0 key (omega arith), rises-far qid nq rq j u (omega arith) b)))
 
   -- the list ascends strictly in (q id, p id)
-  pub list-ascends : ascends start (listBy rule pair np nq) ≡ true
+  pub ring-list-ascends : ascends start (listBy rule pair np nq) ≡ true
   unfolding listBy
-  list-ascends = rows-asc nq 0 start (omega arith) (λ u a b. rq .low u b)
+  ring-list-ascends = rows-asc nq 0 start (omega arith) (λ u a b. rq .low u b)
 
   -- every pair of the list is one that the rule makes
   pub listed-holds : (v : Pair) → List·Memᴰ v (listBy rule pair np nq) → Placed rule pair np nq v
@@ -206,7 +206,7 @@ module _ (rule : ℕ → ℕ → Bool) (P Q : List Point) (rp : Rising (idAt P) 
 
   -- it runs by q id, then p id
   pub made-ascends : ascends start Made ≡ true
-  made-ascends = list-ascends _ _ (idAt Q) (idAt P) (named P Q) _ _ rq rp
+  made-ascends = ring-list-ascends _ _ (idAt Q) (idAt P) (named P Q) _ _ rq rp
 
   -- it holds a chamber and a pump house, by ids, exactly if the rule makes them a pair ..
   pub made-iff : (j i : ℕ) → j < length Q → i < length P → List·Memᴰ (pairAt P Q j i) Made ↔ (rule j i ≡ true)
@@ -263,5 +263,5 @@ module _ (P Q : List Point) (rp : Rising (idAt P) (length P)) (rq : Rising (idAt
   ring-size = made-size (ringPair P Q) P Q rp rq
 
   -- each pair stands there once
-  pub ring-once : (a b : ℕ) → a < b → b < length (ringList P Q) → getD (ringList P Q) a none ≡ getD (ringList P Q) b none → ⊥
-  ring-once a b h g e = once start (ringList P Q) ring-ascends a b h g e
+  pub list-ring-once : (a b : ℕ) → a < b → b < length (ringList P Q) → getD (ringList P Q) a none ≡ getD (ringList P Q) b none → ⊥
+  list-ring-once a b h g e = once start (ringList P Q) ring-ascends a b h g e

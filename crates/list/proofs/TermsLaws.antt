@@ -5,7 +5,7 @@
 --     for-ids, for-keys, for-size, for-sizes      what a listed pair says is in range, and its size is that of its two places
 --     for-pages                 its pages, followed from (0, 0), give it
 --     kind-of                   terms are those of their own kind
---     full-list                 the list of the full terms is the ring pairs' list
+--     full-ring-list                 the list of the full terms is the ring pairs' list
 --     threshold-iff             a pair stands in the list of t exactly if it stands in the ring pairs' list, and its chamber has at least t pairs there; threshold-pairs: with all its pairs
 --     partners-listed           `partnersOf` is the number of the chamber's pairs in the ring pairs' list
 --     self-iff, self-exact      two records of one set, the lower id first, are listed exactly if no record of it, no other record of it, blocks the pair; self-low: never the higher id first
@@ -34,7 +34,7 @@ use Rattle.list.specs.Rows.{atLeast, listBy, Rising}
 use Rattle.list.specs.RingList.{unblocked, ringPair, sizeOf, pairAt, ringList, partnersOf, Sound}
 use Rattle.list.specs.Terms.{full, withT, alone, ofKind, pairFor, listedFor, listFor}
 use Rattle.list.proofs.Order.{once-key}
-use Rattle.list.proofs.PageLaws.{pages-list}
+use Rattle.list.proofs.PageLaws.{list-pages-list}
 use Rattle.list.proofs.RowLaws.{Placed, made-ascends, made-iff, made-only, made-ids, made-keys, made-size, made-sizes}
 use Rattle.list.proofs.ThresholdLaws as of-least
 
@@ -71,7 +71,7 @@ module _ (a : Terms) (P Q : List Point) (rp : Rising (idAt P) (length P)) (rq : 
   for-once k h l g e = once-key start (listFor a P Q) for-ascends k h l g e
 
   pub for-pages : (sizes : ℕ → ℕ) (s : Source) → ((k : ℕ) → 0 < sizes k) → followed (length (listFor a P Q)) sizes (pageOf s (listFor a P Q)) start ≡ listFor a P Q
-  for-pages sizes s some = pages-list sizes s (listFor a P Q) some for-ascends
+  for-pages sizes s some = list-pages-list sizes s (listFor a P Q) some for-ascends
 
 pub for-sizes : (a : Terms) (P Q : List Point) → Sound P → Sound Q → (v : Pair) → List·Memᴰ v (listFor a P Q) → sizeOk (v .size) ≡ true
 unfolding listFor
@@ -93,9 +93,9 @@ list-t : (t : ℕ) (P Q : List Point) → listFor (withT t) P Q ≡ listBy (atLe
 unfolding listFor
 list-t t P Q = ap (λ (rule : ℕ → ℕ → Bool). listBy rule (pairAt P Q) (length P) (length Q)) (listed-t t P Q)
 
-pub full-list : (P Q : List Point) → listFor full P Q ≡ ringList P Q
+pub full-ring-list : (P Q : List Point) → listFor full P Q ≡ ringList P Q
 unfolding ringList
-full-list P Q = list-t 0 P Q ∙ ap (λ (rule : ℕ → ℕ → Bool). listBy rule (pairAt P Q) (length P) (length Q)) (of-least.least-none (ringPair P Q) (pairAt P Q) (length P))
+full-ring-list P Q = list-t 0 P Q ∙ ap (λ (rule : ℕ → ℕ → Bool). listBy rule (pairAt P Q) (length P) (length Q)) (of-least.least-none (ringPair P Q) (pairAt P Q) (length P))
 
 module _ (P Q : List Point) (rp : Rising (idAt P) (length P)) (rq : Rising (idAt Q) (length Q)) where
   pub partners-listed : (j : ℕ) → j < length Q → partnersOf P Q j ≡ length (chamberPairs (idAt Q j) (ringList P Q))

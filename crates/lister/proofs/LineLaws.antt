@@ -25,14 +25,14 @@ module _ {w : List ℤ} {n m : ℕ} (o : Opens w n m) (id : ℕ) where
   count = length-points w ∙ o .n-is
 
   -- a record that is there stands at its place
-  pub position-in : Has (pointsOf w) id → positionOf (pointsOf w) id < n
-  position-in h = subst (λ (k : ℕ). positionOf (pointsOf w) id < k) count h
+  pub lister-position-in : Has (pointsOf w) id → positionOf (pointsOf w) id < n
+  lister-position-in h = subst (λ (k : ℕ). positionOf (pointsOf w) id < k) count h
 
-  pub stands : Has (pointsOf w) id → spotOf w (positionOf (pointsOf w) id) ≡ standsAt (pointsOf w) id
-  stands h = sym (spot-of w (positionOf (pointsOf w) id) (subst (λ (k : ℕ). positionOf (pointsOf w) id < k) (length-points w) h))
+  pub lister-stands : Has (pointsOf w) id → spotOf w (positionOf (pointsOf w) id) ≡ standsAt (pointsOf w) id
+  lister-stands h = sym (spot-of w (positionOf (pointsOf w) id) (subst (λ (k : ℕ). positionOf (pointsOf w) id < k) (length-points w) h))
 
   pub stands-in : Has (pointsOf w) id → SpotIn (spotOf w (positionOf (pointsOf w) id))
-  stands-in h = spot-in o (positionOf (pointsOf w) id) (position-in h)
+  stands-in h = spot-in o (positionOf (pointsOf w) id) (lister-position-in h)
 
 -- the lines of two lists of pairs, one after the other
 pub lines-append : (P Q : List Point) (k l : List Pair) → linesOf P Q (k ++ l) ≡ linesOf P Q k ++ linesOf P Q l

@@ -28,9 +28,9 @@ pub p-refused : (P Q : List ℤ) (k : ℕ) → sheetNo Q ≡ 0 → k ≡ sheetNo
 unfolding sheetsOutcome
 p-refused P Q k z e f = sym (answer-given _ BadQ _ z ∙ answer-refused _ BadP _ k (sym e) f)
 
-pub listed : (P Q : List ℤ) (n : ℕ) → sheetNo Q ≡ 0 → sheetNo P ≡ 0 → n ≡ length (pairsOf P Q) → Listed n ≡ sheetsOutcome P Q
+pub lister-listed : (P Q : List ℤ) (n : ℕ) → sheetNo Q ≡ 0 → sheetNo P ≡ 0 → n ≡ length (pairsOf P Q) → Listed n ≡ sheetsOutcome P Q
 unfolding sheetsOutcome
-listed P Q n y z e = ap Listed e ∙ sym (answer-given _ BadQ _ y ∙ answer-given _ BadP _ z)
+lister-listed P Q n y z e = ap Listed e ∙ sym (answer-given _ BadQ _ y ∙ answer-given _ BadP _ z)
 
 -- ---- bytes
 

@@ -23,13 +23,13 @@ use Rattle.list.proofs.Order.{at-member, last-holds, last-at}
 use Rattle.list.proofs.PageLaws.{page-shows, shown-count, shown-member}
 use Rattle.list.proofs.RowLaws.{ring-ascends, ring-only, ring-size, ring-keys}
 use Rattle.list.specs.Terms.{full, requestOf}
-use Rattle.list.proofs.TermsLaws.{full-list}
+use Rattle.list.proofs.TermsLaws.{full-ring-list}
 use Rattle.join.proofs.Meaning.{points-rise}
 use Rattle.ring.specs.declared.Head.{Head}
 use Rattle.ring.specs.declared.Paged.{Paged}
 use Rattle.ring.specs.Page.{sourceOf, pageGiven, pageAnswer}
 use Rattle.ring.proofs.HeadLaws.{sheets-both}
-use Rattle.ring.proofs.PageLaws.{page-served}
+use Rattle.ring.proofs.PageLaws.{ring-page-served}
 use Rattle.lister.specs.Listing.{Has, standsAt, HasBoth}
 use Rattle.lister.specs.Outcome.{Both, InRange, pairsOf}
 use Rattle.sheet.specs.Find.{positionOf}
@@ -74,8 +74,8 @@ module _ {P Q : List ℤ} {hp hq : Head} (b : Both P hp Q hq) where
   pub page-is : (key : Key) → InRange key → (a : Paged) → a ≡ pageAnswer P Q (requestOf full key 16) → a .page ≡ pageOf (sourceOf P Q full) (pairsOf P Q) key 16
   unfolding pageGiven
   page-is key h a e =
-      ap (λ (x : Paged). x .page) (e ∙ page-served P Q (requestOf full key 16) (sheets-both P Q (b .p-no) (b .q-no)) (h .0) (h .1) (omega arith) (omega arith) (omega arith))
-      ∙ ap (λ (l : List Pair). pageOf (sourceOf P Q full) l key 16) (full-list (pointsOf P) (pointsOf Q))
+      ap (λ (x : Paged). x .page) (e ∙ ring-page-served P Q (requestOf full key 16) (sheets-both P Q (b .p-no) (b .q-no)) (h .0) (h .1) (omega arith) (omega arith) (omega arith))
+      ∙ ap (λ (l : List Pair). pageOf (sourceOf P Q full) l key 16) (full-ring-list (pointsOf P) (pointsOf Q))
 
   module _ (key : Key) (s : Source) (g : Page) (e : g ≡ pageOf s (pairsOf P Q) key 16) where
     pub page-count : g .count ≡ length (shown (pairsOf P Q) key 16)
@@ -85,12 +85,12 @@ module _ {P Q : List ℤ} {hp hq : Head} (b : Both P hp Q hq) where
     pub page-few : g .count ≤ 16
     page-few = rw page-count (shown-count (pairsOf P Q) key 16)
 
-    pub page-pairs : pagePairs g ≡ shown (pairsOf P Q) key 16
-    page-pairs = ap pagePairs e ∙ page-shows key s (pairsOf P Q) 16
+    pub lister-page-pairs : pagePairs g ≡ shown (pairsOf P Q) key 16
+    lister-page-pairs = ap pagePairs e ∙ page-shows key s (pairsOf P Q) 16
 
     pub page-last : lastOr (g .key) (pagePairs g) ≡ lastOr key (shown (pairsOf P Q) key 16)
     unfolding pageOf
-    page-last = λ i. lastOr (e i .key) (page-pairs i)
+    page-last = λ i. lastOr (e i .key) (lister-page-pairs i)
 
     pub page-end : g .end ≡ isNone (after (lastOr key (shown (pairsOf P Q) key 16)) (pairsOf P Q))
     unfolding pageOf
@@ -99,7 +99,7 @@ module _ {P Q : List ℤ} {hp hq : Head} (b : Both P hp Q hq) where
     pub page-has : (k : ℕ) → k < g .count → HasBoth (pointsOf P) (pointsOf Q) (getD (g .pairs) k none)
     unfolding pagePairs
     page-has k h =
-        let at : getD (shown (pairsOf P Q) key 16) k none ≡ getD (g .pairs) k none = ap (λ (x : List Pair). getD x k none) (sym page-pairs) ∙ getD-take (g .count) (g .pairs) k none h in
+        let at : getD (shown (pairsOf P Q) key 16) k none ≡ getD (g .pairs) k none = ap (λ (x : List Pair). getD x k none) (sym lister-page-pairs) ∙ getD-take (g .count) (g .pairs) k none h in
         subst (HasBoth (pointsOf P) (pointsOf Q)) at
         (member-has _ (shown-member (pairsOf P Q) key 16 _ (at-member (shown (pairsOf P Q) key 16) k (rw page-count at h))))
 

@@ -22,7 +22,7 @@ use Rattle.lister.specs.Listing.{linesOf, pagesText, listingOf}
 use Rattle.lister.specs.Outcome.{Both, pairsOf, sheetsOutcome, printed}
 use Rattle.lister.proofs.LineLaws.{lines-append}
 use Rattle.lister.proofs.ShowLaws.{ascending}
-use Rattle.lister.proofs.OutcomeLaws.{listed}
+use Rattle.lister.proofs.OutcomeLaws.{lister-listed}
 
 -- the lines of a page, and of what follows if something does
 then-lines : (P Q : List Point) (t : Bool) (a b : List Pair) → linesOf P Q (a ++ cond t [] b) ≡ linesOf P Q a ++ cond t [] (linesOf P Q b)
@@ -53,4 +53,4 @@ module _ {P Q : List ℤ} {hp hq : Head} (b : Both P hp Q hq) (s : Source) where
   -- so that is what stands on standard output
   pub whole-printed : printed P Q (sheetsOutcome P Q) ≡ pagesText (suc (length (pairsOf P Q))) (pointsOf P) (pointsOf Q) (pairsOf P Q) start ++ endText (length (pairsOf P Q))
   unfolding printed
-  whole-printed = ap (printed P Q) (sym (listed P Q (length (pairsOf P Q)) (b .q-no) (b .p-no) refl)) ∙ sym whole-listing
+  whole-printed = ap (printed P Q) (sym (lister-listed P Q (length (pairsOf P Q)) (b .q-no) (b .p-no) refl)) ∙ sym whole-listing

@@ -18,7 +18,7 @@ use Rattle.sheet.proofs.OrderLaws.{order-below, rank-below, order-rank}
 use Rattle.near.specs.Waiting.{boxEntry, pointEntry, isBox, nodeOf, entryPosition, covered}
 use Rattle.near.specs.Room.{Kind, box, point, InRun}
 use Rattle.near.proofs.MassLaws.{atPlace, mass, root-mass}
-use Rattle.near.proofs.ListLaws.{sum-same}
+use Rattle.near.proofs.ListLaws.{near-sum-same}
 
 -- ---- numbers
 
@@ -91,10 +91,10 @@ module _ (w : List ℤ) (n m : ℕ) (f b : ℕ → ℕ) where
     unfolding mass atPlace
     run-weight zero j h e =
         ap (λ (s : ℕ). b j + s)
-        (sum-same _ _ (firstOf w n j) (countOf w n j) (λ k a u. sym (ap (weigh w n m f b) (covered-place w n m j k e) ∙ weigh-point (orderOf w n k))))
+        (near-sum-same _ _ (firstOf w n j) (countOf w n j) (λ k a u. sym (ap (weigh w n m f b) (covered-place w n m j k e) ∙ weigh-point (orderOf w n k))))
     run-weight (suc l) j h e =
         ap (λ (s : ℕ). b j + s)
-        (sum-same _ _ (firstOf w n j) (countOf w n j)
+        (near-sum-same _ _ (firstOf w n j) (countOf w n j)
         (λ k a u.
         let x = child w n m (o .table) j l h e k a u in
         sym (ap (weigh w n m f b) (covered-node w n m j k l e) ∙ weigh-box k (omega (arith, x .1)) ∙ ap (λ (i : ℕ). mass w n f b i k) (x .0))))

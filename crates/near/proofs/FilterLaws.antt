@@ -31,7 +31,7 @@ use Rattle.walk.proofs.FilterLaws.{Right, Settled}
 use Rattle.near.specs.Waiting.{boxEntry, pointEntry, covered, withCovered}
 use Rattle.near.specs.NearWalk.{rootWaits, nearKept}
 use Rattle.near.proofs.MassLaws.{atPlace}
-use Rattle.near.proofs.ListLaws.{Some, here, some-cases, some-none, total, insert-some, run-keeps, run-here}
+use Rattle.near.proofs.ListLaws.{Some, here, some-cases, near-some-none, total, insert-some, run-keeps, run-here}
 use Rattle.near.proofs.EntryLaws.{weigh, Under, itself, below, under-node, under-root}
 use Rattle.near.proofs.NearLaws.{sum-ones, sum-zero, covers-total, root-total, all-keep}
 
@@ -182,8 +182,8 @@ module _ (words : ℕ) (w : List ℤ) (q : Spot) (o : Opens w (points w) (nodes 
   -- every position below n is kept, or another that is kept drops it
   pub near-settled : (i : ℕ) → i < points w → Settled w (points w) q (nearKept words w q .bits) i
   near-settled i h =
-      ⊎-elim (λ (s : Settled w (points w) q (nearKept words w q .bits) i). s) (λ (u : Some (λ e. Under w (points w) (nodes w) e i) []). absurd (some-none u refl)) (whole .met i h)
+      ⊎-elim (λ (s : Settled w (points w) q (nearKept words w q .bits) i). s) (λ (u : Some (λ e. Under w (points w) (nodes w) e i) []). absurd (near-some-none u refl)) (whole .met i h)
 
   -- at most m nodes are opened
-  pub near-opened : nearKept words w q .opened ≤ nodes w
-  near-opened = omega (arith, whole .counted)
+  pub near-walk-opened : nearKept words w q .opened ≤ nodes w
+  near-walk-opened = omega (arith, whole .counted)

@@ -38,9 +38,9 @@ pub some-cases : {P : ℕ → Type 0} {e : ℕ} {l : List ℕ} → Some P (e ∷
 some-cases (here p) = inl p
 some-cases (later r) = inr r
 
-pub some-none : {P : ℕ → Type 0} {l : List ℕ} → Some P l → length l ≡ 0 → ⊥
-some-none (here p) z = omega arith
-some-none (later r) z = omega arith
+pub near-some-none : {P : ℕ → Type 0} {l : List ℕ} → Some P l → length l ≡ 0 → ⊥
+near-some-none (here p) z = omega arith
+near-some-none (later r) z = omega arith
 
 -- the sum of g over all
 unfoldable pub total : (ℕ → ℕ) → List ℕ → ℕ
@@ -188,7 +188,7 @@ module _ (w : List ℤ) (n m : ℕ) (q : Spot) where
 
 -- ---- sums
 
-pub sum-same : (f g : ℕ → ℕ) (a c : ℕ) → ((k : ℕ) → a ≤ k → k < a + c → f k ≡ g k) → sumOver f a c ≡ sumOver g a c
+pub near-sum-same : (f g : ℕ → ℕ) (a c : ℕ) → ((k : ℕ) → a ≤ k → k < a + c → f k ≡ g k) → sumOver f a c ≡ sumOver g a c
 unfolding sumOver
-sum-same f g a zero h = refl
-sum-same f g a (suc c) h = omega (arith, sum-same f g a c (λ k b u. h k b (omega arith)), h (a + c) (omega arith) (omega arith))
+near-sum-same f g a zero h = refl
+near-sum-same f g a (suc c) h = omega (arith, near-sum-same f g a c (λ k b u. h k b (omega arith)), h (a + c) (omega arith) (omega arith))

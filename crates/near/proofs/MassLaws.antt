@@ -16,7 +16,7 @@ use Rattle.sheet.specs.Order.{orderOf}
 use Rattle.sheet.specs.Nodes.{levelOf, firstOf, countOf, sameLevel, dueOf, isLast, tableOk}
 use Rattle.sheet.specs.Boxes.{sumOver}
 use Rattle.sheet.proofs.TreeLaws.{run-at, end-at, stands, run-top, due-same, due-up, last-end}
-use Rattle.sheet.proofs.CoverLaws.{one-at}
+use Rattle.sheet.proofs.CoverLaws.{sheet-one-at}
 use Rattle.sheet.proofs.SizeLaws.{sum-join}
 
 -- `f` weighs positions, `b` nodes: the point at place k, and all from node j on level l down
@@ -175,7 +175,7 @@ module _ (w : List ℤ) (n : ℕ) (f b : ℕ → ℕ) where
     pub root-mass : 0 < m → mass w n f b (levelOf w n (m - 1)) (m - 1) ≡ sumOver (atPlace w n f) 0 n + sumOver b 0 m
     root-mass h =
         ap (λ (i : ℕ). mass w n f b i (m - 1)) (run-at w n m ok (m - 1) below .level)
-        ∙ root-of (m - 1) _ _ _ (one-at w n m ok (m - 1) below l e) (end-at w n m ok (m - 1) below l) (total (m - 1) below)
+        ∙ root-of (m - 1) _ _ _ (sheet-one-at w n m ok (m - 1) below l e) (end-at w n m ok (m - 1) below l) (total (m - 1) below)
         ∙ ap (λ (k : ℕ). sumOver (atPlace w n f) 0 n + sumOver b 0 k) e
       where
         below : m - 1 < m

@@ -36,7 +36,7 @@ use Rattle.walk.proofs.Meaning.{pair-clear}
 use Rattle.near.specs.NearWalk.{nearOrder, nearKept, nearKeeps}
 use Rattle.near.specs.Claims.{NotAfter, times}
 use Rattle.near.proofs.OrderLaws.{order-ascends, order-once, order-only, order-length}
-use Rattle.near.proofs.FilterLaws.{near-long, near-below, near-settled, near-opened}
+use Rattle.near.proofs.FilterLaws.{near-long, near-below, near-settled, near-walk-opened}
 
 -- ---- the points one after another
 
@@ -60,7 +60,7 @@ module _ (w : List ℤ) (q : Spot) (opens : Opens w (points w) (nodes w)) where
 module _ (words : ℕ) (w : List ℤ) (q : Spot) (opens : Opens w (points w) (nodes w)) (enough : points w ≤ 64 * words) where
   -- "nodes opened never exceed m in one walk of one sheet"
   pub near-opened-at-most-m : nearKept words w q .opened ≤ nodes w
-  near-opened-at-most-m = near-opened words w q opens enough
+  near-opened-at-most-m = near-walk-opened words w q opens enough
 
   -- the words are as many as were lent
   pub near-words : length (nearKept words w q .bits) ≡ words

@@ -40,8 +40,8 @@ out-within lo hi c h k l = go (ltZ c lo) (ltZ hi c)
     go false true = in-up (in-- l k) tt
     go false false = in-lit tt
 
-pub wide : {z : ℤ} → Within 1_000_000_000 z → Within 2_000_000_000 z
-wide h = in-up h tt
+pub near-wide : {z : ℤ} → Within 1_000_000_000 z → Within 2_000_000_000 z
+near-wide h = in-up h tt
 
 -- the square of an integer within two billion is at most this
 square-most : (r : ℕ) (z : ℤ) → pos r ≡ sq z → Within 2_000_000_000 z → r ≤ 4_000_000_000_000_000_000

@@ -90,9 +90,9 @@ first-small w n m q o k i h =
 pub first-few : (w : List ℤ) (q : Spot) (k : ℕ) → k ≤ 16 → length (take k (nearOrder w q)) ≤ 16
 first-few w q k h = omega (arith, length-take k (nearOrder w q))
 
-pub found-is : (P : List ℤ) (q : Spot) (k c : ℕ) (l : List Near) → c ≡ length (take k (nearOrder P q)) → l ≡ sixteen (nearAt P q) (take k (nearOrder P q)) → record { number = 0; count = c; points = l } ≡ nearestAt P q k
+pub nearest-found-is : (P : List ℤ) (q : Spot) (k c : ℕ) (l : List Near) → c ≡ length (take k (nearOrder P q)) → l ≡ sixteen (nearAt P q) (take k (nearOrder P q)) → record { number = 0; count = c; points = l } ≡ nearestAt P q k
 unfolding nearestAt
-found-is P q k c l e f = λ t. record { number = 0; count = e t; points = f t }
+nearest-found-is P q k c l e f = λ t. record { number = 0; count = e t; points = f t }
 
 -- ---- nearest
 
@@ -131,9 +131,9 @@ module _ (P Q : List ℤ) (id k : ℕ) (ws : List ℕ) where
         unfolding waitNo given
         nearest-room h r f = nearest-refused 25 (passes ∙ (rw (lt-ltb (length ws) (points P + nodes P) (omega (arith, at .n-is, at .m-is))))) (λ x. omega arith) r f
 
-        pub nearest-given : c .n + c .m ≤ length ws → (r : Found) (q : Spot) (ws′ : List ℕ) → q ≡ c .at → r ≡ nearestAt P q k → ws′ ≡ wiped (c .n + c .m) ws → Answered r ws′
+        pub nearest-call-given : c .n + c .m ≤ length ws → (r : Found) (q : Spot) (ws′ : List ℕ) → q ≡ c .at → r ≡ nearestAt P q k → ws′ ≡ wiped (c .n + c .m) ws → Answered r ws′
         unfolding waitNo given nearestAnswer waitedBy
-        nearest-given h r q ws′ i f d =
+        nearest-call-given h r q ws′ i f d =
             let v : no ≡ 0 = passes ∙ (rw (le-ltb (length ws) (points P + nodes P) (omega (arith, at .n-is, at .m-is)))) in
             let s : c .n + c .m ≡ points P + nodes P = omega (arith, at .n-is, at .m-is) in
             (f ∙ ap (λ (x : Spot). nearestAt P x k) (i ∙ at .at-is) ∙ sym (answer-given _ nearestRefused _ v), d ∙ ap (λ (x : ℕ). wiped x ws) s ∙ sym (answer-given _ (λ n. ws) _ v))
@@ -170,9 +170,9 @@ module _ (P Q : List ℤ) (id : ℕ) (ws : List ℕ) where
       unfolding waitNo given
       filter-room h r f = filter-refused 25 (filter-passes ∙ (rw (lt-ltb (length ws) (points P + nodes P) (omega (arith, filter-at .n-is, filter-at .m-is))))) (λ x. omega arith) r f
 
-      pub filter-given : c .n + c .m ≤ length ws → (q : Spot) (b : List ℕ) (count opened : ℕ) (ws′ : List ℕ) → q ≡ c .at → b ≡ nearKept 16 P q .bits → opened ≡ nearKept 16 P q .opened → count ≡ card b → ws′ ≡ wiped (c .n + c .m) ws → Filters (record { number = 0; bits = b; count = count; opened = opened }) ws′
+      pub nearest-filter-given : c .n + c .m ≤ length ws → (q : Spot) (b : List ℕ) (count opened : ℕ) (ws′ : List ℕ) → q ≡ c .at → b ≡ nearKept 16 P q .bits → opened ≡ nearKept 16 P q .opened → count ≡ card b → ws′ ≡ wiped (c .n + c .m) ws → Filters (record { number = 0; bits = b; count = count; opened = opened }) ws′
       unfolding waitNo given nearFiltered waitedBy filteredTo
-      filter-given h q b count opened ws′ i eb eo ec d =
+      nearest-filter-given h q b count opened ws′ i eb eo ec d =
           let v : filter-no ≡ 0 = filter-passes ∙ (rw (le-ltb (length ws) (points P + nodes P) (omega (arith, filter-at .n-is, filter-at .m-is)))) in
           let s : c .n + c .m ≡ points P + nodes P = omega (arith, filter-at .n-is, filter-at .m-is) in
           let k : nearKept 16 P q ≡ nearKept 16 P (standsAt Q id) = ap (nearKept 16 P) (i ∙ filter-at .at-is) in

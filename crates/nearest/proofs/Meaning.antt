@@ -1,12 +1,12 @@
 -- What the answers of the calls mean, from their promises alone.
 --
---     nearest-no, near-filter-no      the number is the first that applies
+--     nearest-call-no, near-filter-call-no      the number is the first that applies
 --     nearest-refused, near-filter-refused, waited-refused      refused, all else is zero, and what was lent is as it was
 --     nearest-served, near-filter-served      sheets that open, the id of a chamber, a size from 1 to 16 and enough numbers lent are served
---     chamber-is      the chamber with an id
+--     nearest-chamber-is      the chamber with an id
 --     nearest-count, nearest-at, nearest-unused     the pump houses given are the first of the order in which the walk comes to them, which near's Meaning speaks of
 --     near-pairs      a ring partner of the chamber is a kept position whose ring walk is clear, and no other
---     nearest-once, near-filter-once      one input, one answer, one final state
+--     nearest-call-once, near-filter-call-once      one input, one answer, one final state
 -- Assumes nothing.
 use mathlib.Core.Path.{_≡_, refl, sym, ap, _∙_}
 use mathlib.Core.Bool.{_&&_}
@@ -65,26 +65,26 @@ module _ (P Q : List ℤ) (id k len : ℕ) where
   unfolding nearestAnswer
   nearest-refused i e ne = answer-refused _ nearestRefused _ i e ne
 
-  pub nearest-given : nearestNo P Q id k len ≡ 0 → nearestAnswer P Q id k len ≡ nearestAt P (standsAt Q id) k
+  pub nearest-call-given : nearestNo P Q id k len ≡ 0 → nearestAnswer P Q id k len ≡ nearestAt P (standsAt Q id) k
   unfolding nearestAnswer
-  nearest-given e = answer-given _ nearestRefused _ e
+  nearest-call-given e = answer-given _ nearestRefused _ e
 
-  pub nearest-no : nearestAnswer P Q id k len .number ≡ nearestNo P Q id k len
+  pub nearest-call-no : nearestAnswer P Q id k len .number ≡ nearestNo P Q id k len
   unfolding nearestAnswer nearestAt nearestRefused
-  nearest-no = answer-number (nearestAt P (standsAt Q id) k) nearestRefused (λ r. r .number) refl (λ i. refl) (nearestNo P Q id k len)
+  nearest-call-no = answer-number (nearestAt P (standsAt Q id) k) nearestRefused (λ r. r .number) refl (λ i. refl) (nearestNo P Q id k len)
 
 module _ (P Q : List ℤ) (id len : ℕ) where
   pub near-filter-refused : (i : ℕ) → nearFilterNo P Q id len ≡ i → (i ≡ 0 → ⊥) → nearFiltered P Q id len ≡ unfiltered i
   unfolding nearFiltered
   near-filter-refused i e ne = answer-refused _ unfiltered _ i e ne
 
-  pub near-filter-given : nearFilterNo P Q id len ≡ 0 → nearFiltered P Q id len ≡ filteredTo (nearKept 16 P (standsAt Q id))
+  pub near-filter-call-given : nearFilterNo P Q id len ≡ 0 → nearFiltered P Q id len ≡ filteredTo (nearKept 16 P (standsAt Q id))
   unfolding nearFiltered
-  near-filter-given e = answer-given _ unfiltered _ e
+  near-filter-call-given e = answer-given _ unfiltered _ e
 
-  pub near-filter-no : nearFiltered P Q id len .number ≡ nearFilterNo P Q id len
+  pub near-filter-call-no : nearFiltered P Q id len .number ≡ nearFilterNo P Q id len
   unfolding nearFiltered filteredTo unfiltered
-  near-filter-no = answer-number (filteredTo (nearKept 16 P (standsAt Q id))) unfiltered (λ r. r .number) refl (λ i. refl) (nearFilterNo P Q id len)
+  near-filter-call-no = answer-number (filteredTo (nearKept 16 P (standsAt Q id))) unfiltered (λ r. r .number) refl (λ i. refl) (nearFilterNo P Q id len)
 
 -- ---- what is served
 
@@ -113,9 +113,9 @@ module _ (P Q : List ℤ) (id len : ℕ) (opens : sheetsNo P Q ≡ 0) (j : ℕ) 
 -- ---- the chamber
 
 -- ids ascend, so one chamber has the id
-pub chamber-is : (Q : List ℤ) → Opens Q (points Q) (nodes Q) → (id j : ℕ) → j < points Q → idAt (pointsOf Q) j ≡ id → positionOf (pointsOf Q) id ≡ j
+pub nearest-chamber-is : (Q : List ℤ) → Opens Q (points Q) (nodes Q) → (id j : ℕ) → j < points Q → idAt (pointsOf Q) j ≡ id → positionOf (pointsOf Q) id ≡ j
 unfolding positionOf
-chamber-is Q o id j h e =
+nearest-chamber-is Q o id j h e =
     let n = length (pointsOf Q) in
     let j-in : j < n = omega (arith, length-points Q) in
     let low : firstB n (has Q id) < n = first-in (has Q id) n j j-in (eq-eqb (idAt (pointsOf Q) j) id e) in
@@ -124,7 +124,7 @@ chamber-is Q o id j h e =
 
 pub stands-is : (Q : List ℤ) → Opens Q (points Q) (nodes Q) → (id j : ℕ) → j < points Q → idAt (pointsOf Q) j ≡ id → standsAt Q id ≡ spotOf Q j
 unfolding standsAt
-stands-is Q o id j h e = ap (spotOf Q) (chamber-is Q o id j h e)
+stands-is Q o id j h e = ap (spotOf Q) (nearest-chamber-is Q o id j h e)
 
 -- ---- the pump houses
 
@@ -162,12 +162,12 @@ near-pairs P Q p-opens q-opens fits j i j-in i-in = near-exact 16 P Q p-opens fi
 
 -- ---- one input, one answer, one final state
 
-pub nearest-once : (P Q : List ℤ) (id k : ℕ) (ws : List ℕ) (r r′ : Found) (t t′ : List ℕ)
+pub nearest-call-once : (P Q : List ℤ) (id k : ℕ) (ws : List ℕ) (r r′ : Found) (t t′ : List ℕ)
     → (r ≡ nearestAnswer P Q id k (length ws)) × (t ≡ waitedBy (nearestNo P Q id k (length ws)) P ws) → (r′ ≡ nearestAnswer P Q id k (length ws)) × (t′ ≡ waitedBy (nearestNo P Q id k (length ws)) P ws)
     → (r ≡ r′) × (t ≡ t′)
-nearest-once P Q id k ws r r′ t t′ a b = (a .0 ∙ sym (b .0), a .1 ∙ sym (b .1))
+nearest-call-once P Q id k ws r r′ t t′ a b = (a .0 ∙ sym (b .0), a .1 ∙ sym (b .1))
 
-pub near-filter-once : (P Q : List ℤ) (id : ℕ) (ws : List ℕ) (r r′ : Filtered) (t t′ : List ℕ)
+pub near-filter-call-once : (P Q : List ℤ) (id : ℕ) (ws : List ℕ) (r r′ : Filtered) (t t′ : List ℕ)
     → (r ≡ nearFiltered P Q id (length ws)) × (t ≡ waitedBy (nearFilterNo P Q id (length ws)) P ws) → (r′ ≡ nearFiltered P Q id (length ws)) × (t′ ≡ waitedBy (nearFilterNo P Q id (length ws)) P ws)
     → (r ≡ r′) × (t ≡ t′)
-near-filter-once P Q id ws r r′ t t′ a b = (a .0 ∙ sym (b .0), a .1 ∙ sym (b .1))
+near-filter-call-once P Q id ws r r′ t t′ a b = (a .0 ∙ sym (b .0), a .1 ∙ sym (b .1))

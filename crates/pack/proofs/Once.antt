@@ -9,8 +9,8 @@ use Rattle.sheet.specs.Limits.{form1}
 use Rattle.pack.specs.Pack.{packNo, packOut}
 
 module _ (n : ℕ) (p o : List ℤ) (ed : ℕ) (out : List ℤ) where
-  pub pack-once : (r r′ : ℕ) → r ≡ packNo form1 n p o ed (length out) → r′ ≡ packNo form1 n p o ed (length out) → r ≡ r′
-  pack-once r r′ e f = e ∙ sym f
+  pub pack-call-once : (r r′ : ℕ) → r ≡ packNo form1 n p o ed (length out) → r′ ≡ packNo form1 n p o ed (length out) → r ≡ r′
+  pack-call-once r r′ e f = e ∙ sym f
 
   pub pack-words-once : (w w′ : List ℤ) → w ≡ packOut form1 n p o ed out → w′ ≡ packOut form1 n p o ed out → w ≡ w′
   pack-words-once w w′ e f = e ∙ sym f

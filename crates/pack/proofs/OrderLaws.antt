@@ -35,12 +35,12 @@ first-stay p k (suc n) h g =
     rw (lt-ltb (firstB n p) n (omega arith)) i)
     (eq-or-lt-of-le h)
 
-pub place-is : (o : List ℤ) (i n : ℕ) → placeIn o i n < n → eqZ (at o (placeIn o i n)) (pos i) ≡ true
+pub pack-place-is : (o : List ℤ) (i n : ℕ) → placeIn o i n < n → eqZ (at o (placeIn o i n)) (pos i) ≡ true
 unfolding placeIn
-place-is o i n h = first-hit (λ p. eqZ (at o p) (pos i)) n h
+pack-place-is o i n h = first-hit (λ p. eqZ (at o p) (pos i)) n h
 
 pub place-hit : (o : List ℤ) (i n : ℕ) → placeIn o i n < n → num (at o (placeIn o i n)) ≡ i
-place-hit o i n h = is-num _ i (place-is o i n h)
+place-hit o i n h = is-num _ i (pack-place-is o i n h)
 
 -- a word that is 0 to n-1 is a position by its number
 below-is : (n i : ℕ) (z : ℤ) → isBelow n z ≡ true → eqZ z (pos i) ≡ eqb (num z) i

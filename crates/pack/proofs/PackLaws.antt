@@ -48,9 +48,9 @@ unfolding rangeOk
 range-edition lim n ed e = and-right (leb n (lim .points)) (editionOk ed) e
 
 -- the length against the sheet's
-pub size-fits : (n m size : ℕ) → m ≡ nodesFor n → size ≡ 5 * n + 7 * m + 6 → eqb size (sheetSize n) ≡ true
+pub pack-size-fits : (n m size : ℕ) → m ≡ nodesFor n → size ≡ 5 * n + 7 * m + 6 → eqb size (sheetSize n) ≡ true
 unfolding sheetSize
-size-fits n m size e h = eq-eqb size (5 * n + 7 * nodesFor n + 6) (omega arith)
+pack-size-fits n m size e h = eq-eqb size (5 * n + 7 * nodesFor n + 6) (omega arith)
 
 pub size-differs : (n m size : ℕ) → m ≡ nodesFor n → (size ≡ 5 * n + 7 * m + 6 → ⊥) → eqb size (sheetSize n) ≡ false
 unfolding sheetSize

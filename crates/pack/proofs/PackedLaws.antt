@@ -27,7 +27,7 @@ use Rattle.pack.specs.Tree.{nodesFor, planOf, planCount}
 use Rattle.pack.specs.Order.{placeIn, orderListOk}
 use Rattle.pack.specs.Packed.{flatWord, coordIn, boxSide, nodeWord, bodyWord, trailerWord, packWord, sheetSize, packed}
 use Rattle.pack.specs.Work.{Holds, nodeRead, headWord, sidesPut}
-use Rattle.pack.proofs.OrderLaws.{place-hit, place-is, list-word, list-below, list-back, list-place}
+use Rattle.pack.proofs.OrderLaws.{place-hit, pack-place-is, list-word, list-below, list-back, list-place}
 use Rattle.pack.proofs.TableLaws.{Planned, num-of, plan-few, node-stood, count-range, plan-child, plan-leaf}
 
 -- ---- the words, part by part
@@ -245,7 +245,7 @@ module _ (p o w : List ℤ) (n : ℕ) (h : Holds w (bodyWord p o n) (5 * n)) whe
       let r = list-place o n ok i g in
       and-both (isBelow n (orderWord w n i) && isBelow n (rankWord w n i)) _
       (and-both (isBelow n (orderWord w n i)) (isBelow n (rankWord w n i)) (ap (isBelow n) (order-same i g) ∙ list-word o n ok i g) (ap (isBelow n) (rank-same i g) ∙ lt-ltb (placeIn o i n) n r))
-      (ap (λ (j : ℕ). eqZ (orderWord w n j) (pos i)) (num-of _ _ (rank-same i g)) ∙ ap (λ (z : ℤ). eqZ z (pos i)) (order-same (placeIn o i n) r) ∙ place-is o i n r))
+      (ap (λ (j : ℕ). eqZ (orderWord w n j) (pos i)) (num-of _ _ (rank-same i g)) ∙ ap (λ (z : ℤ). eqZ z (pos i)) (order-same (placeIn o i n) r) ∙ pack-place-is o i n r))
 
 -- ---- a node's box from what is written before it
 

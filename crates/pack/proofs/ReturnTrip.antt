@@ -34,7 +34,7 @@ use Rattle.pack.specs.Packed.{boxSide, trailerWord, packed}
 use Rattle.pack.specs.Pack.{pointsIn, packNo, packOut}
 use Rattle.pack.specs.Claims.{Roomy, Returned}
 use Rattle.pack.proofs.PackLaws.{pack-facts, range-few, range-edition, out-refused, out-packed}
-use Rattle.pack.proofs.TableLaws.{num-of, plan-few, plan-some, plan-child, plan-leaf, table-right, node-stood, count-range, level-is, first-is, count-is}
+use Rattle.pack.proofs.TableLaws.{num-of, plan-few, plan-some, plan-child, plan-leaf, table-right, node-stood, count-range, level-is, first-is, pack-count-is}
 use Rattle.pack.proofs.PackedLaws.{point-word, order-right, holds-fewer, packed-size, packed-body, packed-trail, packed-plan, coord-read, side-read}
 
 in-range : (a b : ℕ) → a ≤ b → within (pos 0) (pos b) (pos a) ≡ true
@@ -115,13 +115,13 @@ module _ (p o : List ℤ) (n ed : ℕ) where
         let w = packed p o n ed in
         let pl = packed-plan p o n ed in
         let c = count-range (planOf n j) (node-stood n j h .some) in
-        rw (first-is w n pl j h, count-is w n pl j h)
+        rw (first-is w n pl j h, pack-count-is w n pl j h)
         (best-cong q _ _ _ _ (λ k x y. sym (coord-read p o w n (nodesFor n) ok (packed-body p o n ed) q k (plan-leaf w n pl g j h e k (omega arith)))))
     side-tight g q (suc l) j h e =
         let w = packed p o n ed in
         let pl = packed-plan p o n ed in
         let c = count-range (planOf n j) (node-stood n j h .some) in
-        rw (first-is w n pl j h, count-is w n pl j h)
+        rw (first-is w n pl j h, pack-count-is w n pl j h)
         (best-cong q _ _ _ _
         (λ k x y.
         let d = plan-child w n pl g j l h e k x (omega arith) in
@@ -184,8 +184,8 @@ form1-roomy = record { low = omega arith; nodes-enough = omega arith }
 
 -- From the promise of `pack` alone: `r` is its answer, and `out′` are the lent words at its exit. Where it answers 0 these open, and their points are the
 -- given ones, in order.
-pub return-trip : (n : ℕ) (p o : List ℤ) (ed : ℕ) (out : List ℤ) (r : ℕ) (out′ : List ℤ) → r ≡ packNo form1 n p o ed (length out) → out′ ≡ packOut form1 n p o ed out → r ≡ 0 → Returned n p ed out′
-return-trip n p o ed out r out′ e f z =
+pub pack-return-trip : (n : ℕ) (p o : List ℤ) (ed : ℕ) (out : List ℤ) (r : ℕ) (out′ : List ℤ) → r ≡ packNo form1 n p o ed (length out) → out′ ≡ packOut form1 n p o ed out → r ≡ 0 → Returned n p ed out′
+pack-return-trip n p o ed out r out′ e f z =
     let k = sym e ∙ z in
     let s = pack-facts form1 n p o ed (length out) k in
     subst (Returned n p ed) (out-packed form1 n p o ed out k ∙ sym f)

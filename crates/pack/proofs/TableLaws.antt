@@ -129,9 +129,9 @@ module _ (w : List ℤ) (n : ℕ) (p : Planned w n) where
   unfolding firstOf
   first-is j h = num-of _ _ (p .firsts j h)
 
-  pub count-is : (j : ℕ) → j < nodesFor n → countOf w n j ≡ planCount (planOf n j)
+  pub pack-count-is : (j : ℕ) → j < nodesFor n → countOf w n j ≡ planCount (planOf n j)
   unfolding countOf
-  count-is j h = num-of _ _ (p .counts j h)
+  pack-count-is j h = num-of _ _ (p .counts j h)
 
   -- the next node stands on the same level where this one leaves something to cover
   same-more : (j : ℕ) → j + 1 < nodesFor n → planOf n j .next + 16 < planOf n j .top → sameLevel w n j ≡ true
@@ -159,7 +159,7 @@ module _ (w : List ℤ) (n : ℕ) (p : Planned w n) where
       (λ (e : ltb (x .next + 16) (x .top) ≡ true).
       let g = ltb-true (x .next + 16) (x .top) e in
       due-same w n j (same-more j (omega arith) g)
-      ∙ due-ext _ _ (ap (λ (d : Due). d .level) i) (ap (λ (d : Due). d .head) i) (omega (arith, first-is j (omega arith), count-is j (omega arith), count-whole x g)) (ap (λ (d : Due). d .top) i)
+      ∙ due-ext _ _ (ap (λ (d : Due). d .level) i) (ap (λ (d : Due). d .head) i) (omega (arith, first-is j (omega arith), pack-count-is j (omega arith), count-whole x g)) (ap (λ (d : Due). d .top) i)
       ∙ sym (follow-same j x g) ∙ sym (s .onward (omega arith)) ∙ z)
       (λ (e : ltb (x .next + 16) (x .top) ≡ false).
       let g = ltb-false (x .next + 16) (x .top) e in
@@ -198,7 +198,7 @@ module _ (w : List ℤ) (n : ℕ) (p : Planned w n) where
       rw (due-plan j h)
       (and-both _ _
       (run-right w n x j (planCount x) (plan-level n j g h) (p .levels j h) (p .firsts j h) (p .counts j h) (c .0) (c .1))
-      (end-right w n (nodesFor n) x j (λ l. let e = end-plan j h l in (omega (arith, first-is j h, count-is j h, e .0), e .1)))))
+      (end-right w n (nodesFor n) x j (λ l. let e = end-plan j h l in (omega (arith, first-is j h, pack-count-is j h, e .0), e .1)))))
 
   pub level-is : (j : ℕ) → j < nodesFor n → levelOf w n j ≡ planOf n j .level
   unfolding levelOf
@@ -207,8 +207,8 @@ module _ (w : List ℤ) (n : ℕ) (p : Planned w n) where
   -- so what a planned node above level 0 covers stands one level down and before it, and a leaf covers places
   pub plan-child : n ≤ 4294967296 → (j l : ℕ) → j < nodesFor n → planOf n j .level ≡ suc l → (k : ℕ) → planOf n j .next ≤ k → k < planOf n j .next + planCount (planOf n j) → (planOf n k .level ≡ l) × (k < j)
   plan-child g j l h e k a b =
-      let c = child w n (nodesFor n) (table-right g) j l h (level-is j h ∙ e) k (omega (arith, first-is j h)) (omega (arith, first-is j h, count-is j h)) in
+      let c = child w n (nodesFor n) (table-right g) j l h (level-is j h ∙ e) k (omega (arith, first-is j h)) (omega (arith, first-is j h, pack-count-is j h)) in
       (sym (level-is k (omega (arith, c .1))) ∙ c .0, c .1)
 
   pub plan-leaf : n ≤ 4294967296 → (j : ℕ) → j < nodesFor n → planOf n j .level ≡ 0 → (k : ℕ) → k < planOf n j .next + planCount (planOf n j) → k < n
-  plan-leaf g j h e k b = leaf w n (nodesFor n) (table-right g) j h (level-is j h ∙ e) k (omega (arith, first-is j h, count-is j h))
+  plan-leaf g j h e k b = leaf w n (nodesFor n) (table-right g) j h (level-is j h ∙ e) k (omega (arith, first-is j h, pack-count-is j h))

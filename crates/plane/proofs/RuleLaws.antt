@@ -61,8 +61,8 @@ number-same : (a : ℤ) → same a a ≡ true
 number-same a = let e : leZ a a ≡ true = omega zl in and-both (leZ a a) (leZ a a) e e
 
 -- equal bits are equal numbers
-pub same-bits : (a b : ℤ) → SFits w64 a → SFits w64 b → eqb (ofZ w64 a) (ofZ w64 b) ≡ same a b
-same-bits a b f g =
+pub plane-same-bits : (a b : ℤ) → SFits w64 a → SFits w64 b → eqb (ofZ w64 a) (ofZ w64 b) ≡ same a b
+plane-same-bits a b f g =
     test-iff _ _ (λ e. subst (λ (z : ℤ). same a z ≡ true) (sym (toZ-ofZ f) ∙ ap (toZ w64) (eqb-true (ofZ w64 a) (ofZ w64 b) e) ∙ toZ-ofZ g) (number-same a))
     (λ e. eq-eqb (ofZ w64 a) (ofZ w64 b) (ap (ofZ w64) (same-number a b e)))
 
@@ -279,7 +279,7 @@ right-clear a b = let e : blocks a b b ≡ (not (sameSpot b a) && false) = rw (d
 pub same-by : (a b : Spot) → SpotIn a → SpotIn b → (eqb (ofZ w64 (a .x)) (ofZ w64 (b .x)) && eqb (ofZ w64 (a .y)) (ofZ w64 (b .y))) ≡ sameSpot a b
 unfolding sameSpot
 same-by a b f g =
-    rw (same-bits (a .x) (b .x) (sfits-in (f .x-in) tt) (sfits-in (g .x-in) tt), same-bits (a .y) (b .y) (sfits-in (f .y-in) tt) (sfits-in (g .y-in) tt))
+    rw (plane-same-bits (a .x) (b .x) (sfits-in (f .x-in) tt) (sfits-in (g .x-in) tt), plane-same-bits (a .y) (b .y) (sfits-in (f .y-in) tt) (sfits-in (g .y-in) tt))
 
 abbrev back : ℤ → ℤ
 back z = toZ w64 (ofZ w64 z)

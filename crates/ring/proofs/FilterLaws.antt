@@ -13,7 +13,7 @@ use Rattle.walk.specs.FilterWalk.{Kept, filterKept}
 use Rattle.ring.specs.Numbers.{positionNo, filterNo}
 use Rattle.ring.specs.Answers.{headsOf, filteredTo, unfiltered, filtered}
 use Rattle.ring.specs.declared.Heads.{Heads}
-use Rattle.ring.proofs.NumberLaws.{position-past, position-in}
+use Rattle.ring.proofs.NumberLaws.{position-past, ring-position-in}
 use Rattle.ring.proofs.HeadLaws.{headed-both, sheets-stop, sheets-pass}
 
 pub filter-refused : (P Q : List ℤ) (j k : ℕ) → filterNo P Q j ≡ k → (k ≡ 0 → ⊥) → unfiltered k ≡ filtered P Q j
@@ -49,4 +49,4 @@ module _ (P Q : List ℤ) (j : ℕ) (h : Heads) (e : h ≡ headsOf P Q) where
         let d = bits-are ∙ ap (λ (f : Kept). f .bits) k in
         let f = opened-is ∙ ap (λ (g : Kept). g .opened) k in
         let g = count-is ∙ ap card d in
-        (λ t. record { number = 0; bits = d t; count = g t; opened = f t }) ∙ filter-given P Q j (after ∙ position-in Q j (omega (arith, n .nq-is)))
+        (λ t. record { number = 0; bits = d t; count = g t; opened = f t }) ∙ filter-given P Q j (after ∙ ring-position-in Q j (omega (arith, n .nq-is)))

@@ -21,9 +21,9 @@ pub long : (w : List ℤ) → sheetNo w ≡ 0 → 6 ≤ length w
 long w e = open-trailer form1 w e .long
 
 -- and at most 1,000 points
-pub few : (w : List ℤ) → sheetNo w ≡ 0 → points w ≤ 1000
+pub heads-few : (w : List ℤ) → sheetNo w ≡ 0 → points w ≤ 1000
 unfolding form1
-few w e = open-trailer form1 w e .n-le
+heads-few w e = open-trailer form1 w e .n-le
 
 abbrev found : List ℤ → Head
 found w = record { number = 0; len = length w; n = points w; m = nodes w }
@@ -130,7 +130,7 @@ headed-both P Q h e z =
       opens = o;
       np-is = ap (λ (g : Heads). g .np) f;
       nq-is = ap (λ (g : Heads). g .nq) f;
-      np-le = subst (λ (g : Heads). g .np ≤ 1000) (sym f) (few P (s .0));
+      np-le = subst (λ (g : Heads). g .np ≤ 1000) (sym f) (heads-few P (s .0));
       p-facts = subst (λ (g : Heads). Opens P (g .np) (g .mp)) (sym f) (open-facts form1 form1-fair P (s .0));
       q-facts = subst (λ (g : Heads). Opens Q (g .nq) (g .mq)) (sym f) (open-facts form1 form1-fair Q (s .1));
     }

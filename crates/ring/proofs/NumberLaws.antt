@@ -13,6 +13,6 @@ pub position-past : (w : List ℤ) (i : ℕ) → points w ≤ i → positionNo w
 unfolding positionNo given
 position-past w i h = rw (le-ltb i (points w) h)
 
-pub position-in : (w : List ℤ) (i : ℕ) → i < points w → positionNo w i ≡ 0
+pub ring-position-in : (w : List ℤ) (i : ℕ) → i < points w → positionNo w i ≡ 0
 unfolding positionNo given
-position-in w i h = rw (lt-ltb i (points w) h)
+ring-position-in w i h = rw (lt-ltb i (points w) h)

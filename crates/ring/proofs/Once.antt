@@ -20,35 +20,35 @@ use Rattle.ring.specs.declared.Walked.{Walked}
 use Rattle.ring.specs.declared.Walked.the-variants.{Done, Refused}
 use Rattle.ring.proofs.RingLaws.{ring-refused}
 
-pub open-once : (w : List ℤ) (r r′ : ℕ) → r ≡ sheetNo w → r′ ≡ sheetNo w → r ≡ r′
-open-once w r r′ e f = e ∙ sym f
+pub ring-open-once : (w : List ℤ) (r r′ : ℕ) → r ≡ sheetNo w → r′ ≡ sheetNo w → r ≡ r′
+ring-open-once w r r′ e f = e ∙ sym f
 
-pub head-once : (w : List ℤ) (r r′ : Head) → r ≡ headOf w → r′ ≡ headOf w → r ≡ r′
-head-once w r r′ e f = e ∙ sym f
+pub ring-head-once : (w : List ℤ) (r r′ : Head) → r ≡ headOf w → r′ ≡ headOf w → r ≡ r′
+ring-head-once w r r′ e f = e ∙ sym f
 
-pub point-once : (w : List ℤ) (i : ℕ) (r r′ : Pointed) → r ≡ pointed w i → r′ ≡ pointed w i → r ≡ r′
-point-once w i r r′ e f = e ∙ sym f
+pub ring-point-once : (w : List ℤ) (i : ℕ) (r r′ : Pointed) → r ≡ pointed w i → r′ ≡ pointed w i → r ≡ r′
+ring-point-once w i r r′ e f = e ∙ sym f
 
-pub ring-once : (P Q : List ℤ) (j i : ℕ) (r r′ : Walked) → r ≡ walked P Q j i → r′ ≡ walked P Q j i → r ≡ r′
-ring-once P Q j i r r′ e f = e ∙ sym f
+pub ring-walk-once : (P Q : List ℤ) (j i : ℕ) (r r′ : Walked) → r ≡ walked P Q j i → r′ ≡ walked P Q j i → r ≡ r′
+ring-walk-once P Q j i r r′ e f = e ∙ sym f
 
-pub filter-once : (P Q : List ℤ) (j : ℕ) (r r′ : Filtered) → r ≡ filtered P Q j → r′ ≡ filtered P Q j → r ≡ r′
-filter-once P Q j r r′ e f = e ∙ sym f
+pub ring-filter-once : (P Q : List ℤ) (j : ℕ) (r r′ : Filtered) → r ≡ filtered P Q j → r′ ≡ filtered P Q j → r ≡ r′
+ring-filter-once P Q j r r′ e f = e ∙ sym f
 
 -- ---- the number of each answer
 
-pub point-no : (w : List ℤ) (i : ℕ) → pointedNo (pointed w i) ≡ pointNo w i
+pub ring-point-no : (w : List ℤ) (i : ℕ) → pointedNo (pointed w i) ≡ pointNo w i
 unfolding pointed
-point-no w i = answer-number (At (assetOf w i)) NoPoint pointedNo refl (λ k. refl) (pointNo w i)
+ring-point-no w i = answer-number (At (assetOf w i)) NoPoint pointedNo refl (λ k. refl) (pointNo w i)
 
-pub ring-no : (P Q : List ℤ) (j i : ℕ) → walkedNo (walked P Q j i) ≡ ringNo P Q j i
+pub ring-walk-no : (P Q : List ℤ) (j i : ℕ) → walkedNo (walked P Q j i) ≡ ringNo P Q j i
 unfolding walked
-ring-no P Q j i = answer-number (Done (pairWalk P Q j i)) Refused walkedNo refl (λ k. refl) (ringNo P Q j i)
+ring-walk-no P Q j i = answer-number (Done (pairWalk P Q j i)) Refused walkedNo refl (λ k. refl) (ringNo P Q j i)
 
 -- a refused walk is never clear
 pub refused-not-clear : (P Q : List ℤ) (j i : ℕ) → (ringNo P Q j i ≡ 0 → ⊥) → walkedClear (walked P Q j i) ≡ false
 refused-not-clear P Q j i ne = ap walkedClear (sym (ring-refused P Q j i (ringNo P Q j i) refl ne))
 
-pub filter-no : (P Q : List ℤ) (j : ℕ) → filtered P Q j .number ≡ filterNo P Q j
+pub ring-filter-no : (P Q : List ℤ) (j : ℕ) → filtered P Q j .number ≡ filterNo P Q j
 unfolding filtered filteredTo unfiltered
-filter-no P Q j = answer-number (filteredTo (filterKept 16 P (spotOf Q j))) unfiltered (λ r. r .number) refl (λ k. refl) (filterNo P Q j)
+ring-filter-no P Q j = answer-number (filteredTo (filterKept 16 P (spotOf Q j))) unfiltered (λ r. r .number) refl (λ k. refl) (filterNo P Q j)

@@ -1,8 +1,8 @@
 -- The page request of a self join: its answers by number, and what the promise says of a page.
 --
---     own-no           the number is the first that applies; own-refused: refused, all else is zero
+--     ring-own-no           the number is the first that applies; own-refused: refused, all else is zero
 --     own-served       with a sheet that opens, a key and a size in range, the answer is 0, the page of the list and the count of the walks
---     own-once         one request, one answer
+--     ring-own-once         one request, one answer
 --     own-list         following the answers from (0, 0), whatever their sizes from 1 to 16, gives the list
 -- Assumes nothing.
 use mathlib.Core.Path.{_≡_, refl, sym, _∙_}
@@ -30,7 +30,7 @@ use Rattle.ring.specs.declared.Paged.{Paged}
 use Rattle.ring.specs.Answers.{headOf}
 use Rattle.ring.specs.Page.{keyNo, askedNo, pageGiven, pageRefused}
 use Rattle.ring.specs.Own.{ownNo, ownAnswer}
-use Rattle.ring.proofs.HeadLaws.{Headed, headed, head-number, few}
+use Rattle.ring.proofs.HeadLaws.{Headed, headed, head-number, heads-few}
 use Rattle.ring.proofs.PageLaws.{followed-list}
 
 -- a self join is asked of with no t: 9, then 10
@@ -53,8 +53,8 @@ module _ (S : List ℤ) (key : Key) (size : ℕ) where
   own-answered e = answer-given _ pageRefused _ e
 
   -- one request, one answer
-  pub own-once : (r r′ : Paged) → r ≡ ownAnswer S key size → r′ ≡ ownAnswer S key size → r ≡ r′
-  own-once r r′ e f = e ∙ sym f
+  pub ring-own-once : (r r′ : Paged) → r ≡ ownAnswer S key size → r′ ≡ ownAnswer S key size → r ≡ r′
+  ring-own-once r r′ e f = e ∙ sym f
 
   -- No other request is refused: a sheet that opens, each id of the key at most 2,000,000,000 and a size from 1 to 16 are served.
   pub own-served : sheetNo S ≡ 0 → key .q ≤ lastId → key .p ≤ lastId → 1 ≤ size → size ≤ 16 → ownAnswer S key size ≡ pageGiven alone S S key size
@@ -62,9 +62,9 @@ module _ (S : List ℤ) (key : Key) (size : ℕ) where
   own-served opens a b c d = own-answered (rw (opens, le-leb (key .q) lastId a, le-leb (key .p) lastId b, size-taken size c d))
 
   -- the number is the first that applies
-  pub own-no : ownAnswer S key size .number ≡ ownNo S key size
+  pub ring-own-no : ownAnswer S key size .number ≡ ownNo S key size
   unfolding ownAnswer pageGiven pageRefused
-  own-no = answer-number (pageGiven alone S S key size) pageRefused (λ r. r .number) refl (λ k. refl) (ownNo S key size)
+  ring-own-no = answer-number (pageGiven alone S S key size) pageRefused (λ r. r .number) refl (λ k. refl) (ownNo S key size)
 
   module _ (h : Head) (e : h ≡ headOf S) (r : Paged) where
     pub own-shut : (h .number ≡ 0 → ⊥) → r ≡ pageRefused (h .number) → r ≡ ownAnswer S key size
@@ -86,7 +86,7 @@ module _ (S : List ℤ) (key : Key) (size : ℕ) where
 
 -- a sheet of form 1 has a position for each point on sixteen words
 pub points-fit : (S : List ℤ) (h : Head) → Headed S h → h .n ≤ 1024
-points-fit S h o = omega (arith, o .n-is, few S (o .opens))
+points-fit S h o = omega (arith, o .n-is, heads-few S (o .opens))
 
 -- the one sheet in both places
 pub of-one : (S : List ℤ) → Alone alone S S

@@ -1,9 +1,9 @@
 -- The page request: its answers by number, and what the promise says of a page.
 --
---     page-no           the number is the first that applies; page-refused: refused, all else is zero
---     page-served       with sheets that open, a key and a size in range, the answer is 0, the page of the list and the count of the walks
---     page-once         one request, one answer
---     pages-list        following the answers from (0, 0), whatever their sizes from 1 to 16, gives the list
+--     ring-page-no           the number is the first that applies; page-refused: refused, all else is zero
+--     ring-page-served       with sheets that open, a key and a size in range, the answer is 0, the page of the list and the count of the walks
+--     ring-page-once         one request, one answer
+--     ring-pages-list        following the answers from (0, 0), whatever their sizes from 1 to 16, gives the list
 --     given-by-points   sheets with the same points give the same pairs, number and end mark of every page of any terms
 -- Assumes nothing.
 use mathlib.Core.Path.{_≡_, refl, sym, ap, _∙_}
@@ -40,7 +40,7 @@ use Rattle.join.specs.Maker.{pageMade, pageFrom}
 use Rattle.join.specs.Walks.{Walks}
 use Rattle.join.specs.Sheets.{walksBy, Alone}
 use Rattle.join.specs.Threshold.{walksFor}
-use Rattle.join.proofs.Meaning.{points-rise, page-pairs, page-opened, sheet-pages, list-by-points}
+use Rattle.join.proofs.Meaning.{points-rise, join-page-pairs, join-page-opened, sheet-pages, join-list-by-points}
 use Rattle.ring.specs.declared.Heads.{Heads}
 use Rattle.ring.specs.declared.Paged.{Paged}
 use Rattle.ring.specs.Numbers.{sheetsNo}
@@ -89,20 +89,20 @@ module _ (P Q : List ℤ) (a : Request) where
   page-answered e = answer-given _ pageRefused _ e
 
   -- one request, one answer
-  pub page-once : (r r′ : Paged) → r ≡ pageAnswer P Q a → r′ ≡ pageAnswer P Q a → r ≡ r′
-  page-once r r′ e f = e ∙ sym f
+  pub ring-page-once : (r r′ : Paged) → r ≡ pageAnswer P Q a → r′ ≡ pageAnswer P Q a → r ≡ r′
+  ring-page-once r r′ e f = e ∙ sym f
 
   -- No other request is refused: sheets that open, each id of the key at most 2,000,000,000, a size from 1 to 16 and a t up to 1,000 are served.
-  pub page-served : sheetsNo P Q ≡ 0 → a .key .q ≤ lastId → a .key .p ≤ lastId → 1 ≤ a .size → a .size ≤ 16 → a .threshold ≤ lastThreshold → pageAnswer P Q a ≡ Given
+  pub ring-page-served : sheetsNo P Q ≡ 0 → a .key .q ≤ lastId → a .key .p ≤ lastId → 1 ≤ a .size → a .size ≤ 16 → a .threshold ≤ lastThreshold → pageAnswer P Q a ≡ Given
   unfolding pageNo keyNo thresholdNo first given
-  page-served opens x y c d e =
+  ring-page-served opens x y c d e =
       let s = both-open P Q opens in
       page-answered (rw (s .0, s .1, le-leb (a .key .q) lastId x, le-leb (a .key .p) lastId y, size-taken (a .size) c d, le-leb (a .threshold) lastThreshold e))
 
   -- the number is the first that applies
-  pub page-no : pageAnswer P Q a .number ≡ pageNo P Q a
+  pub ring-page-no : pageAnswer P Q a .number ≡ pageNo P Q a
   unfolding pageAnswer pageGiven pageRefused
-  page-no = answer-number (Given) pageRefused (λ r. r .number) refl (λ k. refl) (pageNo P Q a)
+  ring-page-no = answer-number (Given) pageRefused (λ r. r .number) refl (λ k. refl) (pageNo P Q a)
 
   module _ (h : Heads) (e : h ≡ headsOf P Q) (r : Paged) where
     pub page-sheets : (h .number ≡ 0 → ⊥) → r ≡ pageRefused (h .number) → r ≡ pageAnswer P Q a
@@ -136,8 +136,8 @@ module _ {P Q : List ℤ} {np mp nq mq : ℕ} (o : Opens P np mp) (o′ : Opens 
   unfolding pageGiven
   page-given d ed s es g eg =
       let w : ℕ → Walks = λ n. walksFor (walksBy a 16 P Q) n (a .threshold) in
-      let opened : d .opened ≡ pageOpened (w (points P)) key size (points P) (points Q) = ap (λ (x : Draft). x .opened) ed ∙ page-opened o o′ a al 16 (omega arith) key size ∙ ap (λ (n : ℕ). pageOpened (w n) key size n nq) (sym (o .n-is)) ∙ ap (pageOpened (w (points P)) key size (points P)) (sym (o′ .n-is)) in
-      let page : g ≡ pageOf (sourceOf P Q a) (listFor a (pointsOf P) (pointsOf Q)) key size = eg ∙ ap (λ (x : Source). pageFrom x key d) es ∙ ap (pageFrom (sourceOf P Q a) key) ed ∙ page-pairs o o′ a al 16 (omega arith) (sourceOf P Q a) key size few in
+      let opened : d .opened ≡ pageOpened (w (points P)) key size (points P) (points Q) = ap (λ (x : Draft). x .opened) ed ∙ join-page-opened o o′ a al 16 (omega arith) key size ∙ ap (λ (n : ℕ). pageOpened (w n) key size n nq) (sym (o .n-is)) ∙ ap (pageOpened (w (points P)) key size (points P)) (sym (o′ .n-is)) in
+      let page : g ≡ pageOf (sourceOf P Q a) (listFor a (pointsOf P) (pointsOf Q)) key size = eg ∙ ap (λ (x : Source). pageFrom x key d) es ∙ ap (pageFrom (sourceOf P Q a) key) ed ∙ join-page-pairs o o′ a al 16 (omega arith) (sourceOf P Q a) key size few in
       λ i. record { number = 0; opened = opened i; page = page i }
 
 -- a list of two sheets
@@ -167,15 +167,15 @@ module _ (P Q : List ℤ) (opens : sheetsNo P Q ≡ 0) where
   q-opens : Opens Q (points Q) (nodes Q)
   q-opens = open-facts form1 form1-fair Q (both-open P Q opens .1)
 
-  pub pages-list : (t : ℕ) → t ≤ lastThreshold → (sizes : ℕ → ℕ) → ((i : ℕ) → sizeNo (sizes i) ≡ 0)
+  pub ring-pages-list : (t : ℕ) → t ≤ lastThreshold → (sizes : ℕ → ℕ) → ((i : ℕ) → sizeNo (sizes i) ≡ 0)
       → followed (length (listFor (withT t) (pointsOf P) (pointsOf Q))) sizes (λ k n. pageAnswer P Q (requestOf (withT t) k n) .page) start ≡ listFor (withT t) (pointsOf P) (pointsOf Q)
-  pages-list t most sizes s =
-      followed-list (withT t) P Q p-opens q-opens (λ k n. pageAnswer P Q (requestOf (withT t) k n)) (λ k n x y c d. page-served P Q (requestOf (withT t) k n) opens x y c d most) sizes s
+  ring-pages-list t most sizes s =
+      followed-list (withT t) P Q p-opens q-opens (λ k n. pageAnswer P Q (requestOf (withT t) k n)) (λ k n x y c d. ring-page-served P Q (requestOf (withT t) k n) opens x y c d most) sizes s
 
 -- sheets with the same points give the same pairs, number and end mark of every page, whatever their editions and trees
 module _ (a : Terms) (P P′ Q Q′ : List ℤ) (key : Key) (size : ℕ) (ep : pointsOf P ≡ pointsOf P′) (eq : pointsOf Q ≡ pointsOf Q′) (r r′ : Paged) (e : r ≡ pageGiven a P Q key size) (e′ : r′ ≡ pageGiven a P′ Q′ key size) where
   pub given-by-points : (r .page .pairs ≡ r′ .page .pairs) × (r .page .count ≡ r′ .page .count) × (r .page .end ≡ r′ .page .end)
   unfolding pageGiven
   given-by-points =
-      let l = list-by-points P P′ Q Q′ ep eq a (sourceOf P Q a) (sourceOf P′ Q′ a) key size in
+      let l = join-list-by-points P P′ Q Q′ ep eq a (sourceOf P Q a) (sourceOf P′ Q′ a) key size in
       (ap (λ (x : Paged). x .page .pairs) e ∙ l .0 ∙ sym (ap (λ (x : Paged). x .page .pairs) e′), ap (λ (x : Paged). x .page .count) e ∙ l .1 ∙ sym (ap (λ (x : Paged). x .page .count) e′), ap (λ (x : Paged). x .page .end) e ∙ l .2 ∙ sym (ap (λ (x : Paged). x .page .end) e′))

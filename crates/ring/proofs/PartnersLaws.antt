@@ -1,8 +1,8 @@
 -- The question for a chamber's partners: its answers by number, and what the promise says of them.
 --
---     partners-no        the number is the first that applies; partners-refused: refused, all else is zero
+--     ring-partners-no        the number is the first that applies; partners-refused: refused, all else is zero
 --     partners-served    with sheets that open, the id of a chamber and a t from 1 to 1,000, the answer is 0, the count and the yes
---     partners-once      one question, one answer
+--     ring-partners-once      one question, one answer
 -- Assumes nothing.
 use mathlib.Core.Path.{_≡_, refl, sym, ap, _∙_}
 use mathlib.Core.Bool.{true, not}
@@ -48,8 +48,8 @@ module _ (P Q : List ℤ) (id t : ℕ) where
   partners-answered e = answer-given _ partnersRefused _ e
 
   -- one question, one answer
-  pub partners-once : (r r′ : Partnered) → r ≡ partnersAnswer P Q id t → r′ ≡ partnersAnswer P Q id t → r ≡ r′
-  partners-once r r′ e f = e ∙ sym f
+  pub ring-partners-once : (r r′ : Partnered) → r ≡ partnersAnswer P Q id t → r′ ≡ partnersAnswer P Q id t → r ≡ r′
+  ring-partners-once r r′ e f = e ∙ sym f
 
   -- No other question is refused: sheets that open, the id of a chamber and a t from 1 to 1,000 are served.
   pub partners-served : sheetsNo P Q ≡ 0 → (j : ℕ) → j < length (pointsOf Q) → idAt (pointsOf Q) j ≡ id → 1 ≤ t → t ≤ lastThreshold → partnersAnswer P Q id t ≡ partnersGiven P Q id t
@@ -60,9 +60,9 @@ module _ (P Q : List ℤ) (id t : ℕ) where
       partners-answered (rw (s .0, s .1, lt-ltb (firstB (length (pointsOf Q)) (has Q id)) (length (pointsOf Q)) known, le-leb 1 t a, le-leb t lastThreshold b))
 
   -- the number is the first that applies
-  pub partners-no : partnersAnswer P Q id t .number ≡ partnersNo P Q id t
+  pub ring-partners-no : partnersAnswer P Q id t .number ≡ partnersNo P Q id t
   unfolding partnersAnswer partnersGiven partnersRefused
-  partners-no = answer-number (partnersGiven P Q id t) partnersRefused (λ r. r .number) refl (λ k. refl) (partnersNo P Q id t)
+  ring-partners-no = answer-number (partnersGiven P Q id t) partnersRefused (λ r. r .number) refl (λ k. refl) (partnersNo P Q id t)
 
   module _ (h : Heads) (e : h ≡ headsOf P Q) (r : Partnered) where
     pub partners-sheets : (h .number ≡ 0 → ⊥) → r ≡ partnersRefused (h .number) → r ≡ partnersAnswer P Q id t

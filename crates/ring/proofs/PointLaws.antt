@@ -19,7 +19,7 @@ use Rattle.ring.specs.Answers.{headOf, assetOf, pointed}
 use Rattle.ring.specs.declared.Head.{Head}
 use Rattle.ring.specs.declared.Asset.{Asset}
 use Rattle.ring.specs.declared.Pointed.the-variants.{At, Refused}
-use Rattle.ring.proofs.NumberLaws.{position-past, position-in}
+use Rattle.ring.proofs.NumberLaws.{position-past, ring-position-in}
 use Rattle.ring.proofs.HeadLaws.{head-number, headed}
 
 pub point-refused : (w : List ℤ) (i k : ℕ) → pointNo w i ≡ k → (k ≡ 0 → ⊥) → Refused k ≡ pointed w i
@@ -48,7 +48,7 @@ module _ (w : List ℤ) (i : ℕ) (h : Head) (e : h ≡ headOf w) where
   unfolding pointNo
   point-read a z within is =
       let o = headed w h e z in
-      point-given w i a (first-passes (sheetNo w) _ (o .opens) ∙ first-last _ ∙ position-in w i (omega (arith, o .n-is))) is
+      point-given w i a (first-passes (sheetNo w) _ (o .opens) ∙ first-last _ ∙ ring-position-in w i (omega (arith, o .n-is))) is
 
 -- the record of a position, from its three words as they are read
 pub asset-read : (w : List ℤ) (i k : ℕ) (x y : ℤ) → k ≡ num (idAt w i) → x ≡ xAt w i → y ≡ yAt w i → record { id = k; x = x; y = y } ≡ assetOf w i

@@ -13,7 +13,7 @@ use Rattle.ring.specs.Numbers.{positionNo, ringNo}
 use Rattle.ring.specs.Answers.{headsOf, walked}
 use Rattle.ring.specs.declared.Heads.{Heads}
 use Rattle.ring.specs.declared.Walked.the-variants.{Done, Refused}
-use Rattle.ring.proofs.NumberLaws.{position-past, position-in}
+use Rattle.ring.proofs.NumberLaws.{position-past, ring-position-in}
 use Rattle.ring.proofs.HeadLaws.{headed-both, sheets-stop, sheets-pass}
 
 pub ring-refused : (P Q : List ℤ) (j i k : ℕ) → ringNo P Q j i ≡ k → (k ≡ 0 → ⊥) → Refused k ≡ walked P Q j i
@@ -44,9 +44,9 @@ module _ (P Q : List ℤ) (j i : ℕ) (h : Heads) (e : h ≡ headsOf P Q) where
     pub ring-past-p : j < h .nq → h .np ≤ i → Refused 9 ≡ walked P Q j i
     ring-past-p within past =
         let o = headed-both P Q h e z in
-        ring-refused P Q j i 9 (after ∙ first-passes (positionNo Q j) _ (position-in Q j (omega (arith, o .nq-is))) ∙ first-last _ ∙ position-past P i (omega (arith, o .np-is))) (λ y. omega arith)
+        ring-refused P Q j i 9 (after ∙ first-passes (positionNo Q j) _ (ring-position-in Q j (omega (arith, o .nq-is))) ∙ first-last _ ∙ position-past P i (omega (arith, o .np-is))) (λ y. omega arith)
 
     pub ring-walks : (a : Answer) → j < h .nq → i < h .np → a ≡ pairWalk P Q j i → Done a ≡ walked P Q j i
     ring-walks a within inside is =
         let o = headed-both P Q h e z in
-        ring-given P Q j i a (after ∙ first-passes (positionNo Q j) _ (position-in Q j (omega (arith, o .nq-is))) ∙ first-last _ ∙ position-in P i (omega (arith, o .np-is))) is
+        ring-given P Q j i a (after ∙ first-passes (positionNo Q j) _ (ring-position-in Q j (omega (arith, o .nq-is))) ∙ first-last _ ∙ ring-position-in P i (omega (arith, o .np-is))) is

@@ -1,5 +1,5 @@
 -- What a run's answer and the slots after it mean, from the definitions alone.
---     run-served, run-sixteen      with two sheets that open and a leaf of Q, 16 is the number exactly where the pairs outnumber the slots, and else the run is given
+--     run-served, run-call-sixteen      with two sheets that open and a leaf of Q, 16 is the number exactly where the pairs outnumber the slots, and else the run is given
 --     run-first, run-rest          the pairs stand in the first slots, and the rest of the slice is not touched
 --     run-refused                  a refusal leaves the slots as they stood
 --     run-long                     the slice is as long as it was
@@ -32,9 +32,9 @@ module _ (P Q : List ℤ) (v len : ℕ) (sheets : sheetsNo P Q ≡ 0) (leaf : le
   unfolding roomNo given
   run-served h = run-passes P Q v len sheets leaf ∙ rw (le-ltb len (length (leafList P Q v)) h)
 
-  pub run-sixteen : (runNo P Q v len ≡ 16) ↔ (len < length (leafList P Q v))
+  pub run-call-sixteen : (runNo P Q v len ≡ 16) ↔ (len < length (leafList P Q v))
   unfolding roomNo given
-  run-sixteen = (
+  run-call-sixteen = (
     λ e. outnumber (ltb len (length (leafList P Q v))) refl (sym (run-passes P Q v len sheets leaf) ∙ e),
     λ h. run-passes P Q v len sheets leaf ∙ rw (lt-ltb len (length (leafList P Q v)) h),
   )

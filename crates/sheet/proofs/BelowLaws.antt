@@ -12,7 +12,7 @@ use lib.IntN.{ℤ}
 use lib.Signed.{ltZ, leZ}
 use Rattle.words.specs.Word.{minZ, maxZ}
 use Rattle.integers.proofs.Bools.{decide}
-use Rattle.words.proofs.Signs.{leZ-refl, leZ-trans, lt-le, not-lt-le}
+use Rattle.words.proofs.Signs.{leZ-refl, leZ-trans, words-lt-le, not-lt-le}
 use Rattle.sheet.specs.Nodes.{levelOf, firstOf, countOf, tableOk}
 use Rattle.sheet.specs.Boxes.{coordOf, better, best, tightSide, Below, reaches}
 use Rattle.sheet.proofs.TreeLaws.{run-at, child}
@@ -41,12 +41,12 @@ better-laws q a b =
     ⊎-elim
     (λ (e : ltb q 2 ≡ true).
     ⊎-elim
-    (λ (f : ltZ b a ≡ true). record { left = rw (e, f) (lt-le b a f); right = rw (e, f) (leZ-refl b); one = inr (rw (e, f)) })
+    (λ (f : ltZ b a ≡ true). record { left = rw (e, f) (words-lt-le b a f); right = rw (e, f) (leZ-refl b); one = inr (rw (e, f)) })
     (λ (f : ltZ b a ≡ false). record { left = rw (e, f) (leZ-refl a); right = rw (e, f) (not-lt-le b a f); one = inl (rw (e, f)) })
     (decide (ltZ b a)))
     (λ (e : ltb q 2 ≡ false).
     ⊎-elim
-    (λ (f : ltZ a b ≡ true). record { left = rw (e, f) (lt-le a b f); right = rw (e, f) (leZ-refl b); one = inr (rw (e, f)) })
+    (λ (f : ltZ a b ≡ true). record { left = rw (e, f) (words-lt-le a b f); right = rw (e, f) (leZ-refl b); one = inr (rw (e, f)) })
     (λ (f : ltZ a b ≡ false). record { left = rw (e, f) (leZ-refl a); right = rw (e, f) (not-lt-le a b f); one = inl (rw (e, f)) })
     (decide (ltZ a b)))
     (decide (ltb q 2))

@@ -47,9 +47,9 @@ pub record OneNode (w : List ℤ) (n m l k : ℕ) : Type 0 where
   pub only : (j : ℕ) → j < m → levelOf w n j ≡ l → Below w n l j k → j ≡ node
 
 module _ (w : List ℤ) (n m : ℕ) (ok : tableOk w n m ≡ true) where
-  pub one-at : (j : ℕ) → j < m → isLast w n m j ≡ true → j + 1 ≡ m → dueOf w n j .head ≡ j
+  pub sheet-one-at : (j : ℕ) → j < m → isLast w n m j ≡ true → j + 1 ≡ m → dueOf w n j .head ≡ j
   unfolding tableOk nodeOk nodeRule
-  one-at j h l e =
+  sheet-one-at j h l e =
       eqb-true _ _ (beq-left _ _ (end-beq w n m (dueOf w n j) j (and-right (runOk w n (dueOf w n j) j) (endOk w n m (dueOf w n j) j) (all-at (nodeOk w n m) m ok j h)) l) (eq-eqb (j + 1) m e))
 
   -- the last node of the level of node j
@@ -107,7 +107,7 @@ module _ (w : List ℤ) (n m : ℕ) (ok : tableOk w n m ≡ true) where
       let ri = run-at w n m ok i (omega arith) in
       let f = last-of i (omega arith) in
       let sf = stands w n m ok (f .0) (f .2) in
-      let no : f .0 + 1 ≡ m → ⊥ = λ e. omega (arith, one-at (f .0) (f .2) (f .3) e, f .4, si .head-le) in
+      let no : f .0 + 1 ≡ m → ⊥ = λ e. omega (arith, sheet-one-at (f .0) (f .2) (f .3) e, f .4, si .head-le) in
       let d = due-up w n (f .0) (last-up w n m (f .0) (f .3) no) in
       let hj : suc (f .0) < m = below (f .0) (f .2) no in
       let rj = run-at w n m ok (suc (f .0)) hj in

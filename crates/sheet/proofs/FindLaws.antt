@@ -22,8 +22,8 @@ abbrev pub has : List ℤ → ℕ → ℕ → Bool
 has s id j = eqb (idAt (pointsOf s) j) id
 
 module _ {s : List ℤ} {n m : ℕ} (o : Opens s n m) (id : ℕ) where
-  pub seek-start : firstB 0 (has s id) ≡ 0
-  seek-start = none-yet (has s id)
+  pub sheet-seek-start : firstB 0 (has s id) ≡ 0
+  sheet-seek-start = none-yet (has s id)
 
   pub seek-on : (j a : ℕ) → firstB j (has s id) ≡ j → a ≡ idAt (pointsOf s) j → (a ≡ id → ⊥) → firstB (j + 1) (has s id) ≡ j + 1
   seek-on j a e i ne = first-more (has s id) j e (ne-eqb (idAt (pointsOf s) j) id (λ x. ne (i ∙ x)))
@@ -35,6 +35,6 @@ module _ {s : List ℤ} {n m : ℕ} (o : Opens s n m) (id : ℕ) where
   unfolding positionOf
   seek-stop j a e i y l = first-stop (has s id) j (length (pointsOf s)) e (eq-eqb (idAt (pointsOf s) j) id (sym i ∙ y)) (omega (arith, records))
 
-  pub seek-end : (j : ℕ) → firstB j (has s id) ≡ j → j ≤ n → n ≤ j → j ≡ positionOf (pointsOf s) id
+  pub sheet-seek-end : (j : ℕ) → firstB j (has s id) ≡ j → j ≤ n → n ≤ j → j ≡ positionOf (pointsOf s) id
   unfolding positionOf
-  seek-end j e l g = sym e ∙ ap (λ (k : ℕ). firstB k (has s id)) (le-antisymm l g ∙ sym records)
+  sheet-seek-end j e l g = sym e ∙ ap (λ (k : ℕ). firstB k (has s id)) (le-antisymm l g ∙ sym records)

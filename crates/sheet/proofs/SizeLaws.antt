@@ -14,7 +14,7 @@ use Rattle.sheet.specs.declared.Due.{Due}
 use Rattle.sheet.specs.Nodes.{levelOf, firstOf, countOf, sameLevel, dueOf, isLast, tableOk}
 use Rattle.sheet.specs.Boxes.{sumOver, treeSize}
 use Rattle.sheet.proofs.TreeLaws.{run-at, end-at, stands, run-top, due-same, due-up, last-end}
-use Rattle.sheet.proofs.CoverLaws.{one-at}
+use Rattle.sheet.proofs.CoverLaws.{sheet-one-at}
 
 pub sum-join : (f : ℕ → ℕ) (a c e : ℕ) → sumOver f a (c + e) ≡ sumOver f a c + sumOver f (a + c) e
 unfolding sumOver
@@ -160,7 +160,7 @@ module _ (w : List ℤ) (n m : ℕ) (ok : tableOk w n m ≡ true) where
   pub root-size : 0 < m → treeSize w n (levelOf w n (m - 1)) (m - 1) ≡ m
   root-size h =
       ap (λ (i : ℕ). treeSize w n i (m - 1)) (run-at w n m ok (m - 1) b .level)
-      ∙ root-of w n (m - 1) _ _ _ (one-at w n m ok (m - 1) b l e) (end-at w n m ok (m - 1) b l) (total (m - 1) b)
+      ∙ root-of w n (m - 1) _ _ _ (sheet-one-at w n m ok (m - 1) b l e) (end-at w n m ok (m - 1) b l) (total (m - 1) b)
       ∙ e
     where
       b : m - 1 < m

@@ -1,6 +1,6 @@
 -- The call's answer, number by number.
 --     short-refused, short-answered        an answer by the call's number
---     number-p, number-q, number-k         that number, at each return of the code
+--     shortest-number-p, shortest-number-q, number-k         that number, at each return of the code
 --     given-asked, served                  what the search asks, and that the call is served then
 -- Assumes nothing.
 use mathlib.Core.Path.{_≡_, refl, sym, _∙_}
@@ -34,23 +34,23 @@ module _ (P Q : List ℤ) (k : ℕ) where
   served opens a b = sheets-open P Q _ opens ∙ first-last _ ∙ size-taken k a b
 
   -- the number is the first that applies
-  pub short-no : shortAnswer P Q k .number ≡ shortNo P Q k
+  pub short-call-no : shortAnswer P Q k .number ≡ shortNo P Q k
   unfolding shortAnswer shortGiven shortRefused
-  short-no = answer-number (shortGiven P Q k) shortRefused (λ r. r .number) refl (λ n. refl) (shortNo P Q k)
+  short-call-no = answer-number (shortGiven P Q k) shortRefused (λ r. r .number) refl (λ n. refl) (shortNo P Q k)
 
   -- one input, one answer
   pub short-once : (r r′ : Shortlist) → r ≡ shortAnswer P Q k → r′ ≡ shortAnswer P Q k → r ≡ r′
   short-once r r′ e f = e ∙ sym f
 
   module _ (a : Head) (e : a ≡ headOf P) where
-    pub number-p : (a .number ≡ 0 → ⊥) → shortNo P Q k ≡ a .number
+    pub shortest-number-p : (a .number ≡ 0 → ⊥) → shortNo P Q k ≡ a .number
     unfolding shortNo
-    number-p ne = sheets-stop P Q _ _ (heads-p P Q a e ne) ne
+    shortest-number-p ne = sheets-stop P Q _ _ (heads-p P Q a e ne) ne
 
     module _ (z : a .number ≡ 0) (b : Head) (f : b ≡ headOf Q) where
-      pub number-q : (b .number ≡ 0 → ⊥) → shortNo P Q k ≡ b .number
+      pub shortest-number-q : (b .number ≡ 0 → ⊥) → shortNo P Q k ≡ b .number
       unfolding shortNo
-      number-q ne = sheets-stop P Q _ _ (heads-q P Q a e z b f ne) ne
+      shortest-number-q ne = sheets-stop P Q _ _ (heads-q P Q a e z b f ne) ne
 
       module _ (y : b .number ≡ 0) (n : ℕ) (d : n ≡ sizeNo k) where
         pub number-k : shortNo P Q k ≡ n

@@ -3,7 +3,7 @@
 --     shortest-count     as many as k, or as the list has
 --     shortest-only      pairs of the list
 --     shortest-rises     in order: each is shorter than all that stand after it, so none stands there twice
---     shortest-first     and shorter than each pair of the list that is not among them
+--     shortest-pairs-first     and shorter than each pair of the list that is not among them
 -- Assumes nothing.
 use mathlib.Core.Path.{_≡_, refl, sym, ap, subst, _∙_}
 use mathlib.Core.Bool.{Bool, true, false, cond}
@@ -135,9 +135,9 @@ module _ (k : ℕ) (l : List Pair) where
   unfolding shortestOf
   shortest-rises key e = rises-places (take k (inOrder l)) (take-rises k (inOrder l) (order-rises key l e))
 
-  pub shortest-first : (v w : Pair) → List·Memᴰ v l → (List·Memᴰ v (shortestOf k l) → ⊥) → List·Memᴰ w (shortestOf k l) → shorter w v ≡ true
+  pub shortest-pairs-first : (v w : Pair) → List·Memᴰ v l → (List·Memᴰ v (shortestOf k l) → ⊥) → List·Memᴰ w (shortestOf k l) → shorter w v ≡ true
   unfolding shortestOf
-  shortest-first v w m out n =
+  shortest-pairs-first v w m out n =
       let s = inOrder l in
       let rest : List·Memᴰ v (drop k s) =
       ⊎-elim (λ (x : List·Memᴰ v (take k s)). absurd (out x)) (λ (x : List·Memᴰ v (drop k s)). x)

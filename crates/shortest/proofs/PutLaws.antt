@@ -1,5 +1,5 @@
 -- A pair put in its place among the first n of an array, from the n-th place down: those that are longer move up by one. B is the array before, A as it stands at place i.
---     moved-start, moved-on, moved-stop, moved-end     what is left to do, before the loop, after a turn, and where the pair is stored
+--     shortest-moved-start, moved-on, shortest-moved-stop, shortest-moved-end     what is left to do, before the loop, after a turn, and where the pair is stored
 --     put-padded     among the pairs held, with unused ones behind them
 -- Assumes nothing.
 use mathlib.Core.Path.{_≡_, refl, sym, ap, subst, _∙_}
@@ -25,8 +25,8 @@ pub record Moved (v : Pair) (B : List Pair) (n : ℕ) (A : List Pair) (i : ℕ) 
   pub left : insert v (take n B) ++ drop (suc n) B ≡ insert v (take i B) ++ drop (suc i) A
 
 module _ (v : Pair) (B : List Pair) (n : ℕ) where
-  pub moved-start : Moved v B n B n
-  moved-start = record { upto = omega arith; long = refl; same = refl; left = refl }
+  pub shortest-moved-start : Moved v B n B n
+  shortest-moved-start = record { upto = omega arith; long = refl; same = refl; left = refl }
 
   module _ (A : List Pair) (i j : ℕ) (above : i ≡ suc j) (m : Moved v B n A i) (w : Pair) (is : w ≡ getD A j none) (inside : i < length B) where
     in-a : i < length A
@@ -60,8 +60,8 @@ module _ (v : Pair) (B : List Pair) (n : ℕ) where
         }
 
     -- the pair is stored after the first that it is not shorter than
-    pub moved-stop : Ordered (take n B) → shorter v w ≡ false → set A i v ≡ insert v (take n B) ++ drop (suc n) B
-    moved-stop o e =
+    pub shortest-moved-stop : Ordered (take n B) → shorter v w ≡ false → set A i v ≡ insert v (take n B) ++ drop (suc n) B
+    shortest-moved-stop o e =
         let part : Ordered (take j B ++ (w ∷ [])) = subst Ordered (take-take i n B (m .upto) ∙ cut) (take-ordered i (take n B) o) in
         let last = ordered-last v w (take j B) part e in
         set-split A i v in-a
@@ -71,8 +71,8 @@ module _ (v : Pair) (B : List Pair) (n : ℕ) where
         ∙ sym (m .left)
 
   -- or before all
-  pub moved-end : (A : List Pair) (i : ℕ) → i ≡ 0 → Moved v B n A i → 0 < length B → set A 0 v ≡ insert v (take n B) ++ drop (suc n) B
-  moved-end A i z m h =
+  pub shortest-moved-end : (A : List Pair) (i : ℕ) → i ≡ 0 → Moved v B n A i → 0 < length B → set A 0 v ≡ insert v (take n B) ++ drop (suc n) B
+  shortest-moved-end A i z m h =
       set-split A 0 v (omega (arith, m .long))
       ∙ ap (λ (t : List Pair). t ++ drop 1 A) (sym (insert-none v))
       ∙ ap (λ (k : ℕ). insert v (take k B) ++ drop (suc k) A) (sym z)

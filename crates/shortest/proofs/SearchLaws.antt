@@ -1,7 +1,7 @@
 -- The search for the shortest pairs: one page, pair by pair, and one page after the other.
 --     Made, made             what the page maker's draft shows
 --     Passed                 the loop over a page's pairs: passed-start, passed-put, passed-over, passed-drop, passed-all
---     Going                  the loop over the pages: going-start, going-fair, going-on, fewer, all-gathered
+--     Going                  the loop over the pages: shortest-going-start, going-fair, going-on, shortest-fewer, all-gathered
 -- Assumes nothing.
 use mathlib.Core.Path.{_≡_, refl, sym, ap, ap₂, subst, _∙_}
 use mathlib.Core.Bool.{Bool, true, false, not, true≢false}
@@ -29,9 +29,9 @@ use Rattle.join.specs.Maker.{pageMade, pageFrom}
 use Rattle.join.specs.Sheets.{walksOf}
 use Rattle.join.specs.Threshold.{walksFor}
 use Rattle.list.specs.Terms.{full}
-use Rattle.list.proofs.TermsLaws.{full-list}
+use Rattle.list.proofs.TermsLaws.{full-ring-list}
 use Rattle.ring.proofs.PageLaws.{of-two}
-use Rattle.join.proofs.Meaning.{points-rise, page-pairs}
+use Rattle.join.proofs.Meaning.{points-rise, join-page-pairs}
 use Rattle.shortest.specs.declared.Search.{Search}
 use Rattle.shortest.specs.Order.{shorter, insert, shortestOf}
 use Rattle.shortest.specs.Answer.{pairsOf}
@@ -51,7 +51,7 @@ pub made : {P Q : List ℤ} {np mp nq mq : ℕ} → Opens P np mp → Opens Q nq
 unfolding pageFrom pageOf
 made {P} {Q} o o′ fit key d e =
     let s : Source = record { «p_edition» = 0; «q_edition» = 0; terms = full } in
-    let g : pageFrom s key d ≡ pageOf s (pairsOf P Q) key 16 = ap (pageFrom s key) e ∙ page-pairs o o′ full (of-two full refl P Q) 16 (omega arith) s key 16 (omega arith) ∙ ap (λ (l : List Pair). pageOf s l key 16) (full-list (pointsOf P) (pointsOf Q)) in
+    let g : pageFrom s key d ≡ pageOf s (pairsOf P Q) key 16 = ap (pageFrom s key) e ∙ join-page-pairs o o′ full (of-two full refl P Q) 16 (omega arith) s key 16 (omega arith) ∙ ap (λ (l : List Pair). pageOf s l key 16) (full-ring-list (pointsOf P) (pointsOf Q)) in
     record { count = ap (λ (x : Page). x .count) g; pairs = ap (λ (x : Page). x .pairs) g; end = ap (λ (x : Page). x .end) g }
 
 -- ---- a search that holds s
@@ -199,9 +199,9 @@ no-more [] e = refl
 no-more (v ∷ d) e = absurd (true≢false (sym e))
 
 module _ (l : List Pair) (k : ℕ) (asc : ascends start l ≡ true) where
-  pub going-start : Going l k (searchOf [] start false)
+  pub shortest-going-start : Going l k (searchOf [] start false)
   unfolding Ordered
-  going-start = record {
+  shortest-going-start = record {
     fair = fair-of k [] start false (omega arith) tt;
     left = sym (gathered-is k l) ∙ ap₂ (gathered k) (sym (after-all start l asc)) (sym (holds [] start false));
     last = λ e. absurd (true≢false (sym e));
@@ -232,9 +232,9 @@ module _ (l : List Pair) (k : ℕ) (asc : ascends start l ≡ true) where
           last = λ f. no-more (after next l) f;
         })
 
-    pub fewer : (r : Search) → r ≡ nextOf l k g → toGo l (r .key) (r .end) < suc (length (after (g .key) l))
+    pub shortest-fewer : (r : Search) → r ≡ nextOf l k g → toGo l (r .key) (r .end) < suc (length (after (g .key) l))
     unfolding page next nextOf
-    fewer r e = by (r .end) refl
+    shortest-fewer r e = by (r .end) refl
       where
         key-is : after (r .key) l ≡ drop 16 (after (g .key) l)
         key-is = ap (λ (x : Search). after (x .key) l) e ∙ rest

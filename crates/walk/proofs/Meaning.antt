@@ -2,22 +2,22 @@
 -- The ring rule is that of the lists of points, `ringPair (pointsOf P) (pointsOf Q) j i`, with no tree in it: q is position j of Q, p is position i of P.
 --
 --     filter walk for q over w, kept set on so many words as hold the points
---         kept-partner      "For every position, a ring partner of q is kept"
+--         walk-kept-partner      "For every position, a ring partner of q is kept"
 --         dropped-by        a position that is not kept is dropped by one that is
 --         unused-zero       "unused bits are 0"; kept-words: the words are as many as were lent
 --         count-kept        "the number of bits set" is the number of kept positions
 --         filter-opened-at-most-m
 --     ring walk for a, b over w
---         clear-iff         clear exactly if no record of the sheet blocks
---         point-blocks      a point answer names a record that blocks
---         side-blocks       a side answer names the first side of a node's box that lies strictly inside, and on it a record blocks
---         ring-opened-at-most-m
+--         walk-clear-iff         clear exactly if no record of the sheet blocks
+--         walk-point-blocks      a point answer names a record that blocks
+--         walk-side-blocks       a side answer names the first side of a node's box that lies strictly inside, and on it a record blocks
+--         walk-ring-opened-at-most-m
 --     ring walk for q and p over Q, then P
 --         pair-is           "Q is walked first, then P if Q is clear; the counts add up"
 --         pair-clear        clear exactly for a ring pair
 --         pair-point, pair-side      what a hit names does block; a side is the first of its box that lies strictly inside
 --         pair-opened       at most the nodes of both sheets are opened
---         pair-exact        a ring partner of q is a kept position whose ring walk is clear, and no other
+--         walk-pair-exact        a ring partner of q is a kept position whose ring walk is clear, and no other
 -- Assumes nothing.
 use mathlib.Core.Path.{_≡_, sym, ap, subst, _∙_}
 use mathlib.Core.Bool.{Bool, true, false, cond, _&&_}
@@ -82,10 +82,10 @@ module _ (words : ℕ) (w : List ℤ) (q : Spot) (opens : Opens w (points w) (no
         (kept-settled words w q opens enough i h)
 
 -- "For every position, a ring partner of q is kept": q is position j of Q, its partner position i of P.
-pub kept-partner : (words : ℕ) (P Q : List ℤ) → Opens P (points P) (nodes P) → points P ≤ 64 * words → (j i : ℕ) → j < points Q → i < points P
+pub walk-kept-partner : (words : ℕ) (P Q : List ℤ) → Opens P (points P) (nodes P) → points P ≤ 64 * words → (j i : ℕ) → j < points Q → i < points P
     → ringPair (pointsOf P) (pointsOf Q) j i ≡ true → filterKeeps words P (spotOf Q j) i ≡ true
 unfolding drops
-kept-partner words P Q opens enough j i hj hi e =
+walk-kept-partner words P Q opens enough j i hj hi e =
     let q = spotOf Q j in
     let p = spotOf P i in
     let free = unblocked-free P q p (and-right (unblocked (pointsOf Q) q p) (unblocked (pointsOf P) q p) (sym (pair-rule P Q j i hj hi) ∙ e)) in
@@ -98,20 +98,20 @@ kept-partner words P Q opens enough j i hj hi e =
 
 module _ (set : ℕ) (w : List ℤ) (opens : Opens w (points w) (nodes w)) (a b : Spot) where
   -- "nodes opened never exceed m in one walk of one sheet"
-  pub ring-opened-at-most-m : ringWalk set w a b .opened ≤ nodes w
-  ring-opened-at-most-m = ring-opened set w opens a b
+  pub walk-ring-opened-at-most-m : ringWalk set w a b .opened ≤ nodes w
+  walk-ring-opened-at-most-m = ring-opened set w opens a b
 
   -- The walk is clear exactly if no record of the sheet blocks.
-  pub clear-iff : clear (ringWalk set w a b .hit) ≡ unblocked (pointsOf w) a b
-  clear-iff = walk-unblocked set w opens a b
+  pub walk-clear-iff : clear (ringWalk set w a b .hit) ≡ unblocked (pointsOf w) a b
+  walk-clear-iff = walk-unblocked set w opens a b
 
   -- A point answer names a position of the sheet that blocks.
-  pub point-blocks : (x : Blocker) → ringWalk set w a b .hit ≡ Point x → (x .set ≡ set) × Blocks w (points w) a b (x .position)
-  point-blocks x e = subst (Truth set w (points w) (nodes w) a b) e (ring-truth set w opens a b)
+  pub walk-point-blocks : (x : Blocker) → ringWalk set w a b .hit ≡ Point x → (x .set ≡ set) × Blocks w (points w) a b (x .position)
+  walk-point-blocks x e = subst (Truth set w (points w) (nodes w) a b) e (ring-truth set w opens a b)
 
   -- A side answer names a node of the sheet and the first side of its box that lies strictly inside; on it stands a position that blocks.
-  pub side-blocks : (x : Edge) → ringWalk set w a b .hit ≡ Side x → (x .set ≡ set) × (x .node < nodes w) × BlocksBySide w (points w) a b (x .node) (x .side)
-  side-blocks x e = subst (Truth set w (points w) (nodes w) a b) e (ring-truth set w opens a b)
+  pub walk-side-blocks : (x : Edge) → ringWalk set w a b .hit ≡ Side x → (x .set ≡ set) × (x .node < nodes w) × BlocksBySide w (points w) a b (x .node) (x .side)
+  walk-side-blocks x e = subst (Truth set w (points w) (nodes w) a b) e (ring-truth set w opens a b)
 
 -- ---- the ring walk for q and p: over Q, then over P. Set 0 is P, 1 is Q.
 
@@ -130,25 +130,25 @@ module _ (P Q : List ℤ) (p-opens : Opens P (points P) (nodes P)) (q-opens : Op
 
   -- A point answer names a record of Q or one of P that blocks;
   pub pair-point : (x : Blocker) → pairWalk P Q j i .hit ≡ Point x → BlocksPair P Q j i (x .set) (x .position)
-  pair-point x = pair-hit P Q j i (λ h. h ≡ Point x → BlocksPair P Q j i (x .set) (x .position)) (λ e. inl (point-blocks 1 Q q-opens (spotOf Q j) (spotOf P i) x e)) (λ e. inr (point-blocks 0 P p-opens (spotOf Q j) (spotOf P i) x e))
+  pair-point x = pair-hit P Q j i (λ h. h ≡ Point x → BlocksPair P Q j i (x .set) (x .position)) (λ e. inl (walk-point-blocks 1 Q q-opens (spotOf Q j) (spotOf P i) x e)) (λ e. inr (walk-point-blocks 0 P p-opens (spotOf Q j) (spotOf P i) x e))
 
   -- and a side answer a node of that sheet and the first side of its box that lies strictly inside, on which one stands.
   pub pair-side : (x : Edge) → pairWalk P Q j i .hit ≡ Side x → BlocksPairBySide P Q j i (x .set) (x .node) (x .side)
-  pair-side x = pair-hit P Q j i (λ h. h ≡ Side x → BlocksPairBySide P Q j i (x .set) (x .node) (x .side)) (λ e. inl (side-blocks 1 Q q-opens (spotOf Q j) (spotOf P i) x e)) (λ e. inr (side-blocks 0 P p-opens (spotOf Q j) (spotOf P i) x e))
+  pair-side x = pair-hit P Q j i (λ h. h ≡ Side x → BlocksPairBySide P Q j i (x .set) (x .node) (x .side)) (λ e. inl (walk-side-blocks 1 Q q-opens (spotOf Q j) (spotOf P i) x e)) (λ e. inr (walk-side-blocks 0 P p-opens (spotOf Q j) (spotOf P i) x e))
 
   module _ (j-in : j < points Q) (i-in : i < points P) where
     -- The pair walk is clear exactly for a ring pair.
     pub pair-clear : clear (pairWalk P Q j i .hit) ≡ ringPair (pointsOf P) (pointsOf Q) j i
     pair-clear =
         pair-both P Q j i
-        ∙ ap (λ (t : Bool). t && clear (overP P Q j i .hit)) (clear-iff 1 Q q-opens (spotOf Q j) (spotOf P i))
-        ∙ ap (λ (t : Bool). unblocked (pointsOf Q) (spotOf Q j) (spotOf P i) && t) (clear-iff 0 P p-opens (spotOf Q j) (spotOf P i))
+        ∙ ap (λ (t : Bool). t && clear (overP P Q j i .hit)) (walk-clear-iff 1 Q q-opens (spotOf Q j) (spotOf P i))
+        ∙ ap (λ (t : Bool). unblocked (pointsOf Q) (spotOf Q j) (spotOf P i) && t) (walk-clear-iff 0 P p-opens (spotOf Q j) (spotOf P i))
         ∙ sym (pair-rule P Q j i j-in i-in)
 
     -- A ring partner of q is exactly a kept position whose ring walk is clear: what a page maker may rely on.
-    pub pair-exact : (words : ℕ) → points P ≤ 64 * words → ringPair (pointsOf P) (pointsOf Q) j i ≡ (filterKeeps words P (spotOf Q j) i && clear (pairWalk P Q j i .hit))
-    pair-exact words enough =
+    pub walk-pair-exact : (words : ℕ) → points P ≤ 64 * words → ringPair (pointsOf P) (pointsOf Q) j i ≡ (filterKeeps words P (spotOf Q j) i && clear (pairWalk P Q j i .hit))
+    walk-pair-exact words enough =
         let kept = filterKeeps words P (spotOf Q j) i in
         test-iff _ _
-        (λ e. and-both kept (clear (pairWalk P Q j i .hit)) (kept-partner words P Q p-opens enough j i j-in i-in e) (pair-clear ∙ e))
+        (λ e. and-both kept (clear (pairWalk P Q j i .hit)) (walk-kept-partner words P Q p-opens enough j i j-in i-in e) (pair-clear ∙ e))
         (λ e. sym pair-clear ∙ and-right kept (clear (pairWalk P Q j i .hit)) e)

@@ -40,7 +40,7 @@ use Rattle.walk.specs.Walk.{inTurn, walk, walkAll}
 use Rattle.walk.specs.FilterWalk.{Kept, soFar, dropped, shut, consider, filterPlace, filterTake, filterVisit, filterKept, filterKeeps}
 use Rattle.walk.specs.RingWalk.{clear, ringWalk}
 use Rattle.walk.specs.SelfWalk.{passTake, passKept, passKeeps}
-use Rattle.walk.proofs.Meaning.{kept-partner, clear-iff}
+use Rattle.walk.proofs.Meaning.{walk-kept-partner, walk-clear-iff}
 
 -- ---- two walks side by side: what every step keeps true of both states, the walks keep true
 
@@ -223,7 +223,7 @@ module _ (words : ℕ) (w : List ℤ) (opens : Opens w (points w) (nodes w)) (en
       let free = unblocked (pointsOf w) (spotAt (pointsOf w) j) (spotAt (pointsOf w) i) in
       let keeps = passKeeps words w j i in
       let walked = clear (ringWalk 0 w (spotOf w j) (spotOf w i) .hit) in
-      let is : walked ≡ free = clear-iff 0 w opens (spotOf w j) (spotOf w i) ∙ ap₂ (unblocked (pointsOf w)) (sym (spot-of w j hj)) (sym (spot-of w i hi)) in
+      let is : walked ≡ free = walk-clear-iff 0 w opens (spotOf w j) (spotOf w i) ∙ ap₂ (unblocked (pointsOf w)) (sym (spot-of w j hj)) (sym (spot-of w i hi)) in
       test-iff _ _
       (λ e.
       let f = and-left free free (and-right low (free && free) e) in
@@ -237,4 +237,4 @@ module _ (words : ℕ) (w : List ℤ) (opens : Opens w (points w) (nodes w)) (en
       is-kept l f =
           let ring : ringPair (pointsOf w) (pointsOf w) j i ≡ true = unfold ringPair in and-both (unblocked (pointsOf w) (spotAt (pointsOf w) j) (spotAt (pointsOf w) i)) (unblocked (pointsOf w) (spotAt (pointsOf w) j) (spotAt (pointsOf w) i)) f f in
           let apart : i ≡ j → ⊥ = λ e. let z = ltb-true (idAt (pointsOf w) j) (idAt (pointsOf w) i) l in let y = ap (idAt (pointsOf w)) e in omega arith in
-          pass-keeps i ∙ and-both (filterKeeps words w (spotOf w j) i) (not (eqb i j)) (kept-partner words w w opens enough j i hj hi ring) (ap not (ne-eqb i j apart))
+          pass-keeps i ∙ and-both (filterKeeps words w (spotOf w j) i) (not (eqb i j)) (walk-kept-partner words w w opens enough j i hj hi ring) (ap not (ne-eqb i j apart))

@@ -126,9 +126,9 @@ module _ (walkAt : ℕ → Answer) (b₀ : List ℕ) where
       quiet : (y : ℕ) → x ≤ y → y < u → kept b₀ y ≡ false
       quiet y h l = sym (s .above y h) ∙ from-between b x u e y h l
 
-  pub sift-start : (o : ℕ) (b : List ℕ) (opened u : ℕ) → b ≡ b₀ → opened ≡ o → u ≡ nextFrom b 0 → Sifts o b 0 opened u
+  pub walk-sift-start : (o : ℕ) (b : List ℕ) (opened u : ℕ) → b ≡ b₀ → opened ≡ o → u ≡ nextFrom b 0 → Sifts o b 0 opened u
   unfolding sumOver
-  sift-start o b opened u e f g = sift-next o b 0 opened 0 u g (record { long = ap length e; below = λ y l. absurd (omega arith); above = λ y l. ap (λ (ws : List ℕ). kept ws y) e; counted = refl; spent = omega arith })
+  walk-sift-start o b opened u e f g = sift-next o b 0 opened 0 u g (record { long = ap length e; below = λ y l. absurd (omega arith); above = λ y l. ap (λ (ws : List ℕ). kept ws y) e; counted = refl; spent = omega arith })
 
   -- one turn
   module _ (o : ℕ) (b : List ℕ) (count opened x : ℕ) (s : Sifts o b count opened x) (l : x < 64 * length b₀) (a : Answer) (e : a ≡ walkAt x) (t : Bool) (g : t ≡ clear (a .hit)) where

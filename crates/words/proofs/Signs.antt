@@ -133,8 +133,8 @@ pub leZ-trans : (a b c : ℤ) → leZ a b ≡ true → leZ b c ≡ true → leZ 
 leZ-trans a b c e f = omega zl
 
 -- a test that holds strictly holds
-pub lt-le : (a b : ℤ) → ltZ a b ≡ true → leZ a b ≡ true
-lt-le a b e = omega zl
+pub words-lt-le : (a b : ℤ) → ltZ a b ≡ true → leZ a b ≡ true
+words-lt-le a b e = omega zl
 
 pub not-lt-le : (a b : ℤ) → ltZ a b ≡ false → leZ b a ≡ true
 not-lt-le a b e = leZ-not b a ∙ ap not e

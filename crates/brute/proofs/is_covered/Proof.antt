@@ -2,7 +2,7 @@
 use mathlib.Core.Path.{_≡_, _∙_}
 use borrow.Author.Needs.{needs}
 use Rattle.brute.specs.Brute.{across, apart}
-use Rattle.brute.proofs.Distances.{back, covers-not, covers-by}
+use Rattle.brute.proofs.Distances.{brute-back, covers-not, covers-by}
 use Rattle.brute.proofs.is_covered.Statement.{statement}
 use Rattle.brute.proofs.is_covered.Tie as tie
 
@@ -20,16 +20,16 @@ module _ (d : tie.After-apart2) where
   s = e .before .before .before
 
   ex : e .across .result ≡ across (s .args .a .x) (s .args .b .x)
-  ex = e .across .ensures .0 ∙ (λ i. across (back (s .pre .0 .0) i) (back (s .pre .1 .0 .0) i))
+  ex = e .across .ensures .0 ∙ (λ i. across (brute-back (s .pre .0 .0) i) (brute-back (s .pre .1 .0 .0) i))
 
   ey : f .across2 .result ≡ across (s .args .a .y) (s .args .b .y)
-  ey = f .across2 .ensures .0 ∙ (λ i. across (back (s .pre .0 .1) i) (back (s .pre .1 .0 .1) i))
+  ey = f .across2 .ensures .0 ∙ (λ i. across (brute-back (s .pre .0 .1) i) (brute-back (s .pre .1 .0 .1) i))
 
   zx : x .apart .result ≡ apart (s .args .a .x) (s .args .b .x) (s .args .z .x)
-  zx = x .apart .ensures ∙ (λ i. apart (back (s .pre .0 .0) i) (back (s .pre .1 .0 .0) i) (back (s .pre .1 .1 .0) i))
+  zx = x .apart .ensures ∙ (λ i. apart (brute-back (s .pre .0 .0) i) (brute-back (s .pre .1 .0 .0) i) (brute-back (s .pre .1 .1 .0) i))
 
   zy : d .apart2 .result ≡ apart (s .args .a .y) (s .args .b .y) (s .args .z .y)
-  zy = d .apart2 .ensures ∙ (λ i. apart (back (s .pre .0 .1) i) (back (s .pre .1 .0 .1) i) (back (s .pre .1 .1 .1) i))
+  zy = d .apart2 .ensures ∙ (λ i. apart (brute-back (s .pre .0 .1) i) (brute-back (s .pre .1 .0 .1) i) (brute-back (s .pre .1 .1 .1) i))
 
 across-requires : tie.Need-across-requires
 across-requires c κs = search needs

@@ -5,7 +5,7 @@ use borrow.Author.Needs.{needs}
 use borrow.Author.Tests.{lt-ltb, le-ltb}
 use Rattle.brute.specs.Brute.{across, sizeOf}
 use Rattle.brute.specs.declared.Place.{Place}
-use Rattle.brute.proofs.Distances.{back}
+use Rattle.brute.proofs.Distances.{brute-back}
 use Rattle.brute.proofs.size_of.Statement.{statement}
 use Rattle.brute.proofs.size_of.Tie as tie
 
@@ -39,10 +39,10 @@ returns-3 c =
     let b = e .before .before .before in
     let a = b .before in
     let t = a .before in
-    let ax = back (a .place-at .ensures .1 .0) ∙ ap (λ (z : Place). z .x) (a .place-at .ensures .0) in
-    let ay = back (a .place-at .ensures .1 .1) ∙ ap (λ (z : Place). z .y) (a .place-at .ensures .0) in
-    let bx = back (b .place-at2 .ensures .1 .0) ∙ ap (λ (z : Place). z .x) (b .place-at2 .ensures .0) in
-    let by = back (b .place-at2 .ensures .1 .1) ∙ ap (λ (z : Place). z .y) (b .place-at2 .ensures .0) in
+    let ax = brute-back (a .place-at .ensures .1 .0) ∙ ap (λ (z : Place). z .x) (a .place-at .ensures .0) in
+    let ay = brute-back (a .place-at .ensures .1 .1) ∙ ap (λ (z : Place). z .y) (a .place-at .ensures .0) in
+    let bx = brute-back (b .place-at2 .ensures .1 .0) ∙ ap (λ (z : Place). z .x) (b .place-at2 .ensures .0) in
+    let by = brute-back (b .place-at2 .ensures .1 .1) ∙ ap (λ (z : Place). z .y) (b .place-at2 .ensures .0) in
     rw (lt-ltb _ _ (t .before .before .if1 .left), lt-ltb _ _ (t .if2 .left)) (ap₂ _+_ (e .across .ensures .0 ∙ ap₂ across ax bx) (c .across2 .ensures .0 ∙ ap₂ across ay by))
 
 pub size-of-spec : {M : Type 1} → statement M

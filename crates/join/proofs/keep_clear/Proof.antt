@@ -6,7 +6,7 @@ use native.Mathlib.Omega.{arith}
 use lib.ListN.{length}
 use Rattle.bits.proofs.NextLaws.{from-le}
 use Rattle.walk.proofs.SiftLaws.{sift-next}
-use Rattle.join.proofs.CountLaws.{Keeping, Kept-to, keep-start, keep-long, keep-clear, keep-gone, keep-few, keep-room, kept-clear, kept-count, kept-opened}
+use Rattle.join.proofs.CountLaws.{Keeping, Kept-to, keep-start, keep-long, keep-clear, keep-gone, keep-few, keep-room, kept-clear, join-kept-count, kept-opened}
 use Rattle.join.proofs.CallLaws.{walks-room}
 use Rattle.join.proofs.keep_clear.Statement.{statement}
 use Rattle.join.proofs.keep_clear.Tie as tie
@@ -94,7 +94,7 @@ returns c =
     let l = c .before in
     let s = start l in
     let h = c .loop-test .left in
-    (kept-clear (s .pre .0) (s .pre .1) _ (s .pre .3 .enough) _ _ _ _ _ (l .loop .inv) h, kept-count (s .pre .0) (s .pre .1) _ (s .pre .3 .enough) _ _ _ _ _ (l .loop .inv) h, kept-opened (s .pre .0) (s .pre .1) _ (s .pre .3 .enough) _ _ _ _ _ (l .loop .inv) h)
+    (kept-clear (s .pre .0) (s .pre .1) _ (s .pre .3 .enough) _ _ _ _ _ (l .loop .inv) h, join-kept-count (s .pre .0) (s .pre .1) _ (s .pre .3 .enough) _ _ _ _ _ (l .loop .inv) h, kept-opened (s .pre .0) (s .pre .1) _ (s .pre .3 .enough) _ _ _ _ _ (l .loop .inv) h)
 
 pub keep-clear-spec : {M : Type 1} → statement M
 keep-clear-spec =

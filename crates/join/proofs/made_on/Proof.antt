@@ -7,7 +7,7 @@ use lib.ListN.{length}
 use Rattle.join.specs.Sheets.{walksBy}
 use Rattle.join.specs.Threshold.{walksFor}
 use Rattle.join.proofs.ThresholdLaws.{for-cap, first-for}
-use Rattle.join.proofs.TurnLaws.{Rounds, rounds-start, rounds-room, rounds-on, rounds-stop, rounds-end}
+use Rattle.join.proofs.TurnLaws.{Rounds, join-rounds-start, join-rounds-room, rounds-on, rounds-stop, join-rounds-end}
 use Rattle.walk.proofs.FilterCode.{still-holds}
 use Rattle.join.proofs.CallLaws.{chamber-same, page-room}
 use Rattle.join.proofs.KindLaws.{by-capped}
@@ -24,7 +24,7 @@ first-from-requires : tie.Need-first-from-requires Inv-loop μ-loop
 first-from-requires c κs = c .before .before .pre .1
 
 loop-holds : tie.Need-loop-holds Inv-loop μ-loop
-loop-holds c = (refl, rounds-start _ _ _ _ _ _ _ (first-for _ _ _ _ _ _ (c .first-from .ensures)))
+loop-holds c = (refl, join-rounds-start _ _ _ _ _ _ _ (first-for _ _ _ _ _ _ (c .first-from .ensures)))
 
 same-length : tie.Need-same-length Inv-loop μ-loop
 same-length c = c .before .before .loop .inv .0
@@ -37,7 +37,7 @@ with-chamber-requires c κs =
     let l = c .before .before .before in
     let s = l .before .before .before .before in
     let in-loop = c .before .before .loop-test .taken in
-    (s .pre .0, s .pre .1, in-loop, s .pre .2, still-holds _ _ _ (l .loop .inv .0) (s .pre .3), lt-of-le-of-lt (rounds-room _ _ _ _ _ _ _ (l .loop .j) in-loop (l .loop .inv .1)) (page-room (s .pre .0) (s .pre .1)), s .pre .4)
+    (s .pre .0, s .pre .1, in-loop, s .pre .2, still-holds _ _ _ (l .loop .inv .0) (s .pre .3), lt-of-le-of-lt (join-rounds-room _ _ _ _ _ _ _ (l .loop .j) in-loop (l .loop .inv .1)) (page-room (s .pre .0) (s .pre .1)), s .pre .4)
 
 add-j : tie.Need-add-j Inv-loop μ-loop
 add-j c = omega arith
@@ -59,7 +59,7 @@ same-length-2 : tie.Need-same-length-2 Inv-loop μ-loop
 same-length-2 c = c .before .loop .inv .0
 
 returns-2 : tie.Need-returns-2 Inv-loop μ-loop
-returns-2 c = rounds-end _ _ _ _ _ _ _ _ (c .loop-test .left) (c .before .loop .inv .1)
+returns-2 c = join-rounds-end _ _ _ _ _ _ _ _ (c .loop-test .left) (c .before .loop .inv .1)
 
 pub made-on-spec : {M : Type 1} → statement M
 made-on-spec =

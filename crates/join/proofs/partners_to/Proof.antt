@@ -1,6 +1,6 @@
 -- `join::partners_to` meets its contract: the lent words are the filter walk's. Assumes nothing.
 use Rattle.walk.proofs.FilterCode.{still-holds}
-use Rattle.join.proofs.CallLaws.{words-are, spot-fits}
+use Rattle.join.proofs.CallLaws.{words-are, join-spot-fits}
 use borrow.Author.Needs.{needs}
 use Rattle.join.proofs.partners_to.Statement.{statement}
 use Rattle.join.proofs.partners_to.Tie as tie
@@ -11,7 +11,7 @@ spot-at-requires c κs = search needs
 filter-kept-requires : tie.Need-filter-kept-requires
 filter-kept-requires c κs =
     let s = c .before .before .before in
-    (s .pre .0, spot-fits (s .pre .1) _ _ (s .pre .2) (c .before .spot-at .ensures), s .pre .3)
+    (s .pre .0, join-spot-fits (s .pre .1) _ _ (s .pre .2) (c .before .spot-at .ensures), s .pre .3)
 
 count-to-requires : tie.Need-count-to-requires
 count-to-requires c κs =

@@ -1,6 +1,6 @@
 -- `join::walked` meets its contract: of a self join the one ring walk, else that of both sheets. Assumes nothing.
 use native.Mathlib.Omega.{arith}
-use Rattle.join.proofs.CallLaws.{spot-fits}
+use Rattle.join.proofs.CallLaws.{join-spot-fits}
 use Rattle.join.proofs.KindLaws.{walked-once, walked-both}
 use borrow.Author.Needs.{needs}
 use Rattle.join.proofs.walked.Statement.{statement}
@@ -15,7 +15,7 @@ spot-at-requires-2 c κs = search needs
 ring-on-requires : tie.Need-ring-on-requires
 ring-on-requires c κs =
     let s = c .before .before .before in
-    (s .pre .0, spot-fits (s .pre .1) _ _ (s .pre .2) (c .before .spot-at .ensures), spot-fits (s .pre .0) _ _ (s .pre .3) (c .spot-at2 .ensures), omega arith)
+    (s .pre .0, join-spot-fits (s .pre .1) _ _ (s .pre .2) (c .before .spot-at .ensures), join-spot-fits (s .pre .0) _ _ (s .pre .3) (c .spot-at2 .ensures), omega arith)
 
 returns : tie.Need-returns
 returns c words =

@@ -2,7 +2,7 @@
 use mathlib.Core.Path.{sym, _∙_}
 use native.Mathlib.Omega.{arith}
 use Rattle.walk.proofs.FilterCode.{still-holds}
-use Rattle.join.proofs.CallLaws.{words-are, filter-few, spot-fits, walks-few}
+use Rattle.join.proofs.CallLaws.{words-are, filter-few, join-spot-fits, walks-few}
 use Rattle.join.proofs.ThresholdLaws.{chamber-full}
 use Rattle.join.proofs.KindLaws.{by-agrees, by-chamber, two-shut, two-shown}
 use borrow.Author.Needs.{needs}
@@ -15,7 +15,7 @@ spot-at-requires c κs = search needs
 filter-kept-requires : tie.Need-filter-kept-requires
 filter-kept-requires c κs =
     let s = c .before .before .before in
-    (s .pre .0, spot-fits (s .pre .1) _ _ (s .pre .2) (c .before .spot-at .ensures), s .pre .4)
+    (s .pre .0, join-spot-fits (s .pre .1) _ _ (s .pre .2) (c .before .spot-at .ensures), s .pre .4)
 
 add-r : tie.Need-add-r
 add-r c =

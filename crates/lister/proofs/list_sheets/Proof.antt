@@ -1,6 +1,6 @@
 -- `lister::list_sheets` meets its contract. Assumes nothing.
 use Rattle.ring.proofs.HeadLaws.{Headed, headed, head-number}
-use Rattle.lister.proofs.OutcomeLaws.{q-refused, p-refused, listed}
+use Rattle.lister.proofs.OutcomeLaws.{q-refused, p-refused, lister-listed}
 use borrow.Author.Needs.{needs}
 use Rattle.lister.proofs.list_sheets.Statement.{statement}
 use Rattle.lister.proofs.list_sheets.Tie as tie
@@ -41,7 +41,7 @@ returns-3 : tie.Need-returns-3
 returns-3 c =
     let e = c .before in
     let s = e .before .before .before .before .before .before in
-    listed (s .args .p .now) (s .args .q .now) (c .list-pairs .result) (q-opens (e .before .before .before) .opens) (p-opens e .opens) (c .list-pairs .ensures)
+    lister-listed (s .args .p .now) (s .args .q .now) (c .list-pairs .result) (q-opens (e .before .before .before) .opens) (p-opens e .opens) (c .list-pairs .ensures)
 
 pub list-sheets-spec : {M : Type 1} → statement M
 list-sheets-spec =

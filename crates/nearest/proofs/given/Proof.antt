@@ -5,7 +5,7 @@ use native.Mathlib.Omega.{arith}
 use lib.ListN.{length, take, length-set}
 use Rattle.near.specs.NearWalk.{nearOrder}
 use Rattle.nearest.specs.Nearest.{nearAt}
-use Rattle.nearest.proofs.AnswerLaws.{Listing, listing-start, listing-step, listing-end, padded-at, first-small, first-few, found-is}
+use Rattle.nearest.proofs.AnswerLaws.{Listing, listing-start, listing-step, listing-end, padded-at, first-small, first-few, nearest-found-is}
 use Rattle.nearest.proofs.given.Statement.{statement}
 use Rattle.nearest.proofs.given.Tie as tie
 
@@ -74,7 +74,7 @@ returns : tie.Need-returns Inv-loop μ-loop
 returns c =
     let l = c .before in
     let f = l .before .before .before in (
-      found-is _ _ _ _ _ (f .first-points .ensures .1) (listing-end _ _ (few l) _ _ (omega (arith, c .loop-test .left, f .first-points .ensures .1)) (l .loop .inv .0)),
+      nearest-found-is _ _ _ _ _ (f .first-points .ensures .1) (listing-end _ _ (few l) _ _ (omega (arith, c .loop-test .left, f .first-points .ensures .1)) (l .loop .inv .0)),
       f .first-points .ensures .2,
     )
 

@@ -2,7 +2,7 @@
 use mathlib.Core.Path.{refl}
 use native.Mathlib.Omega.{arith}
 use Rattle.nearest.proofs.ChamberLaws.{placed-facts}
-use Rattle.nearest.proofs.AnswerLaws.{filter-chamber, filter-room, filter-given}
+use Rattle.nearest.proofs.AnswerLaws.{filter-chamber, filter-room, nearest-filter-given}
 use borrow.Author.Needs.{needs}
 use Rattle.nearest.proofs.near_filter.Statement.{statement}
 use Rattle.nearest.proofs.near_filter.Tie as tie
@@ -49,7 +49,7 @@ returns-3 : tie.Need-returns-3
 returns-3 c =
     let k = c .before .before .before .before .before in
     let e = c .before .before .before .before .before .before .before .before .before in
-    filter-given _ _ _ _ _ (c .before .before .before .before .before .before .before .before .before .before .before .before .before .placed .ensures) (e .before .before .if1 .left) (e .if2 .left) _ _ _ _ _ refl (k .near-kept .ensures .0) (k .near-kept .ensures .1) (c .len .ensures) (k .near-kept .ensures .2)
+    nearest-filter-given _ _ _ _ _ (c .before .before .before .before .before .before .before .before .before .before .before .before .before .placed .ensures) (e .before .before .if1 .left) (e .if2 .left) _ _ _ _ _ refl (k .near-kept .ensures .0) (k .near-kept .ensures .1) (c .len .ensures) (k .near-kept .ensures .2)
 
 pub near-filter-spec : {M : Type 1} → statement M
 near-filter-spec =

@@ -3,7 +3,7 @@ use mathlib.Core.Path.{refl, sym, _∙_}
 use native.Mathlib.Omega.{arith}
 use Rattle.list.proofs.PageLaws.{size-fits}
 use Rattle.nearest.proofs.ChamberLaws.{placed-facts}
-use Rattle.nearest.proofs.AnswerLaws.{nearest-chamber, nearest-size, nearest-room, nearest-given}
+use Rattle.nearest.proofs.AnswerLaws.{nearest-chamber, nearest-size, nearest-room, nearest-call-given}
 use borrow.Author.Needs.{needs}
 use Rattle.nearest.proofs.nearest.Statement.{statement}
 use Rattle.nearest.proofs.nearest.Tie as tie
@@ -48,7 +48,7 @@ same-length c = search needs
 returns-4 : tie.Need-returns-4
 returns-4 c =
     let g = c .before .before in
-    nearest-given _ _ _ _ _ _ (c .before .before .before .before .before .before .before .before .before .before .before .placed .ensures) (c .before .before .before .before .before .before .before .before .before .if1 .left) _ (c .before .before .before .before .before .before .before .before .size-no .ensures) (c .before .before .before .before .before .before .before .if2 .left) (c .before .before .before .before .before .if3 .left) _ _ _ refl (g .given .ensures .0) (g .given .ensures .1)
+    nearest-call-given _ _ _ _ _ _ (c .before .before .before .before .before .before .before .before .before .before .before .placed .ensures) (c .before .before .before .before .before .before .before .before .before .if1 .left) _ (c .before .before .before .before .before .before .before .before .size-no .ensures) (c .before .before .before .before .before .before .before .if2 .left) (c .before .before .before .before .before .if3 .left) _ _ _ refl (g .given .ensures .0) (g .given .ensures .1)
 
 pub nearest-spec : {M : Type 1} → statement M
 nearest-spec =

@@ -3,7 +3,7 @@ use Rattle.integers.proofs.Bools.{passed, failed}
 use Rattle.words.specs.First.{given, first}
 use Rattle.pack.specs.Pack.{packNo}
 use Rattle.pack.proofs.TableLaws.{plan-few}
-use Rattle.pack.proofs.PackLaws.{shape-points, shape-order, range-few, size-fits, size-differs}
+use Rattle.pack.proofs.PackLaws.{shape-points, shape-order, range-few, pack-size-fits, size-differs}
 use borrow.Author.Needs.{needs}
 use Rattle.pack.proofs.pack_no.Statement.{statement}
 use Rattle.pack.proofs.pack_no.Tie as tie
@@ -85,7 +85,7 @@ returns-6 c =
     let a = passed (u .before .before .before .before .before .shape-ok .ensures) (u .before .before .before .before .if1 .left) in
     let b = passed (u .before .before .before .range-ok .ensures) (u .before .before .if2 .left) in
     let d = passed (u .before .points-ok .ensures) (u .if3 .left) in
-    rw (a, b, d, passed (c .before .before .before .before .before .each-once .ensures) (c .before .before .if4 .left), size-fits _ _ _ (c .before .nodes-for .ensures) (c .if5 .left))
+    rw (a, b, d, passed (c .before .before .before .before .before .each-once .ensures) (c .before .before .if4 .left), pack-size-fits _ _ _ (c .before .nodes-for .ensures) (c .if5 .left))
 
 pub pack-no-spec : {M : Type 1} → statement M
 pack-no-spec =

@@ -57,7 +57,7 @@ use Rattle.list.proofs.Pair.Laws as T′
 use Rattle.runs.specs.declared.Run.{Run}
 use Rattle.runs.specs.declared.RunArray.{RunArray}
 use Rattle.runs.specs.Run.{runAnswer, runSlots, withSlots, runArray}
-use Rattle.runs.proofs.ArrayLaws.{array-is}
+use Rattle.runs.proofs.ArrayLaws.{runs-array-is}
 use Rattle.runs.proofs.Run as R
 use Rattle.runs.proofs.Run.Laws as R′
 use Rattle.runs.proofs.RunArray as N
@@ -262,7 +262,7 @@ module _ {M : Type 1} (𝓤 : URA M) (H : Heap 𝓤) (A : Atoms 𝓤) (W : Given
           returns ! (look ! 27 refl) $ forget ! 0 refl $ forget ! 6 refl $ forget ! 8 refl $ forget ! 10 refl $ forget ! 12 refl $ forget ! 14 refl $ forget ! 17 refl $ forget ! 19 refl $ forget ! 21 refl $ forget ! 23 refl $ forget ! 25 refl $ forget ! 27 refl $
           move ! (27 ∷ 28 ∷ []) $ free1 ! $ move ! (25 ∷ 26 ∷ []) $ free1 ! $ move ! (23 ∷ 24 ∷ []) $ free1 ! $ move ! (21 ∷ 22 ∷ []) $ free1 ! $ move ! (19 ∷ 20 ∷ []) $ free1 ! $ move ! (17 ∷ 18 ∷ []) $ free1 ! $ move ! (0 ∷ 16 ∷ []) $ free1 ! $
           move ! (13 ∷ 14 ∷ []) $ free1 ! $ move ! (11 ∷ 12 ∷ []) $ free1 ! $ move ! (9 ∷ 10 ∷ []) $ free1 ! $ move ! (7 ∷ 8 ∷ []) $ free1 ! $ move ! (5 ∷ 6 ∷ []) $ free1 ! $ free0 ! $ keep ! (2 ∷ 1 ∷ 4 ∷ []) $
-          by ! (exits t (subst (Is N.the-row t) (LL.tells N.the-type N′.the-laws t _ is₁) is₁) (array-is (now p) (now q) v ys len m r (zs .1 .1 .1 .0) t m-is (e .0) (e .1) t-is))))))))))))))))))))))))))))))))
+          by ! (exits t (subst (Is N.the-row t) (LL.tells N.the-type N′.the-laws t _ is₁) is₁) (runs-array-is (now p) (now q) v ys len m r (zs .1 .1 .1 .0) t m-is (e .0) (e .1) t-is))))))))))))))))))))))))))))))))
         where
           room : (m : ℕ) → m ≡ lentOf 256 len → Room P (length (front m ys))
           room m e = subst (Room P) (sym (front-long 256 len m e ys long)) (lent-room 256 len m e (omega arith))

@@ -5,7 +5,7 @@ use Prim.Native.Nat.{_<_}
 use borrow.Author.Tests.{not-true, not-false}
 use Rattle.list.specs.Pages.{padded}
 use Rattle.shortest.specs.Answer.{pairsOf, shortGiven}
-use Rattle.shortest.proofs.SearchLaws.{Going, toGo, going-start, going-on, fewer, all-gathered, pairs-ascend}
+use Rattle.shortest.proofs.SearchLaws.{Going, toGo, shortest-going-start, going-on, shortest-fewer, all-gathered, pairs-ascend}
 use Rattle.shortest.proofs.given.Statement.{statement}
 use Rattle.shortest.proofs.given.Tie as tie
 
@@ -17,7 +17,7 @@ abbrev μ-loop : tie.MeasureT-loop
 
 loop-holds : tie.Need-loop-holds Inv-loop μ-loop
 unfolding padded
-loop-holds c = going-start _ _ (pairs-ascend (c .pre .0) (c .pre .1))
+loop-holds c = shortest-going-start _ _ (pairs-ascend (c .pre .0) (c .pre .1))
 
 with-page-requires : tie.Need-with-page-requires Inv-loop μ-loop
 with-page-requires c κs = let l = c .before .before in let p = l .before .pre in (p .0, p .1, p .2, p .3, p .4, l .loop .inv .fair)
@@ -30,7 +30,7 @@ loop-less c =
     let still : l .loop .g .end ≡ false = not-true _ (t .if1 .taken) in
     let list = pairsOf (s .args .p .now) (s .args .q .now) in
     subst (λ (e : Bool). toGo list (c .with-page .result .key) (c .with-page .result .end) < toGo list (l .loop .g .key) e) (sym still)
-    (fewer list (s .args .k) (pairs-ascend (s .pre .0) (s .pre .1)) (l .loop .g) (c .with-page .result) (c .with-page .ensures))
+    (shortest-fewer list (s .args .k) (pairs-ascend (s .pre .0) (s .pre .1)) (l .loop .g) (c .with-page .result) (c .with-page .ensures))
 
 loop-again : tie.Need-loop-again Inv-loop μ-loop
 loop-again c =

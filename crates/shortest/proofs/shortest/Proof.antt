@@ -1,7 +1,7 @@
 -- `shortest::shortest` meets its contract, number by number. Assumes nothing.
 use mathlib.Core.Path.{sym, _∙_}
 use borrow.Author.Needs.{needs}
-use Rattle.shortest.proofs.AnswerLaws.{short-refused, short-answered, number-p, number-q, number-k, given-asked}
+use Rattle.shortest.proofs.AnswerLaws.{short-refused, short-answered, shortest-number-p, shortest-number-q, number-k, given-asked}
 use Rattle.shortest.proofs.shortest.Statement.{statement}
 use Rattle.shortest.proofs.shortest.Tie as tie
 
@@ -12,7 +12,7 @@ refused-requires : tie.Need-refused-requires
 refused-requires c κs = search needs
 
 returns : tie.Need-returns
-returns c = let a = c .before in c .refused .ensures ∙ sym (short-refused _ _ _ _ (number-p _ _ _ _ (a .before .before .head-of .ensures) (a .if1 .taken)) (a .if1 .taken))
+returns c = let a = c .before in c .refused .ensures ∙ sym (short-refused _ _ _ _ (shortest-number-p _ _ _ _ (a .before .before .head-of .ensures) (a .if1 .taken)) (a .if1 .taken))
 
 head-of-requires-2 : tie.Need-head-of-requires-2
 head-of-requires-2 c κs = search needs
@@ -25,7 +25,7 @@ returns-2 c =
     let b = c .before in
     let q = b .before .before in
     let a = q .before in
-    c .refused2 .ensures ∙ sym (short-refused _ _ _ _ (number-q _ _ _ _ (a .before .before .head-of .ensures) (a .if1 .left) _ (q .head-of2 .ensures) (b .if2 .taken)) (b .if2 .taken))
+    c .refused2 .ensures ∙ sym (short-refused _ _ _ _ (shortest-number-q _ _ _ _ (a .before .before .head-of .ensures) (a .if1 .left) _ (q .head-of2 .ensures) (b .if2 .taken)) (b .if2 .taken))
 
 size-no-requires : tie.Need-size-no-requires
 size-no-requires c κs = search needs

@@ -12,7 +12,7 @@ use borrow.Author.Needs.{needs}
 use Rattle.integers.proofs.Bools.{failed, passed}
 use Rattle.shortest.specs.declared.Search.{Search}
 use Rattle.shortest.specs.Search.{putAt}
-use Rattle.shortest.proofs.PutLaws.{Moved, moved-start, moved-on, moved-stop, moved-end}
+use Rattle.shortest.proofs.PutLaws.{Moved, shortest-moved-start, moved-on, shortest-moved-stop, shortest-moved-end}
 use Rattle.shortest.proofs.with_pair.Statement.{statement}
 use Rattle.shortest.proofs.with_pair.Tie as tie
 
@@ -36,7 +36,7 @@ add-r : tie.Need-add-r Inv-loop μ-loop
 add-r c = search needs
 
 loop-holds : tie.Need-loop-holds Inv-loop μ-loop
-loop-holds c = (moved-start _ _ _, refl)
+loop-holds c = (shortest-moved-start _ _ _, refl)
 
 sub-w : tie.Need-sub-w Inv-loop μ-loop
 sub-w c = search needs
@@ -62,7 +62,7 @@ returns c =
     let l = c .before .before .before .before in
     let a = l .before .args in
     let inside : l .loop .i < length (a .g .pairs) = omega (arith, long (l .before), l .loop .inv .0 .upto, l .before .pre .0) in
-    let put = moved-stop (a .v) (a .g .pairs) (a .n) (l .loop .r .pairs) (l .loop .i) (l .loop .i - 1) (omega arith) (l .loop .inv .0) _ refl inside (l .before .pre .1) (failed (c .before .is-shorter .ensures) (c .if1 .taken)) in
+    let put = shortest-moved-stop (a .v) (a .g .pairs) (a .n) (l .loop .r .pairs) (l .loop .i) (l .loop .i - 1) (omega arith) (l .loop .inv .0) _ refl inside (l .before .pre .1) (failed (c .before .is-shorter .ensures) (c .if1 .taken)) in
     with-rest (a .g) (l .loop .r) (a .n) (l .loop .inv .1) _ _ put
 
 mul-w-2 : tie.Need-mul-w-2 Inv-loop μ-loop
@@ -94,7 +94,7 @@ unfolding putAt
 returns-2 c =
     let l = c .before in
     let a = l .before .args in
-    let put = moved-end (a .v) (a .g .pairs) (a .n) (l .loop .r .pairs) (l .loop .i) (omega arith) (l .loop .inv .0) (omega (arith, long (l .before))) in
+    let put = shortest-moved-end (a .v) (a .g .pairs) (a .n) (l .loop .r .pairs) (l .loop .i) (omega arith) (l .loop .inv .0) (omega (arith, long (l .before))) in
     with-rest (a .g) (l .loop .r) (a .n) (l .loop .inv .1) _ _ put
 
 pub with-pair-spec : {M : Type 1} → statement M

@@ -12,7 +12,7 @@ use Rattle.sheet.specs.Boxes.{treeSize}
 use Rattle.walk.specs.FilterWalk.{Kept, soFar}
 use Rattle.walk.proofs.NodeLaws.{Node, kid, leaf-fits, few}
 use Rattle.leaf.specs.LeafWalk.{chamberSpot, skips, leafNode}
-use Rattle.leaf.proofs.FilterCode.{still-sets, Rounds, node-skip, node-leaf, node-above, rounds-start, rounds-room, rounds-step, rounds-end}
+use Rattle.leaf.proofs.FilterCode.{still-sets, Rounds, node-skip, leaf-node-leaf, leaf-node-above, leaf-rounds-start, leaf-rounds-room, leaf-rounds-step, leaf-rounds-end}
 use borrow.Fn.Kinds.{In}
 use borrow.Fn.PlainCycle.{Measures, is, falls, and}
 use Rattle.leaf.proofs.filter.leaf_node.Reads as leaf-node
@@ -107,10 +107,10 @@ leaf-node-returns-2 : (t : ℕ) → leaf-node-lts.Need-returns-2 (claims t) (lea
 leaf-node-returns-2 t c =
     let f = c .before .before in
     let w = f .before .before .before in
-    node-leaf _ _ _ _ _ _ _ _ _ _ _ _ (f .before .before .if2 .taken) (node t w .is-first) (node t w .is-count) (unskipped t w) (f .leaf-places .ensures) ∙ home t w
+    leaf-node-leaf _ _ _ _ _ _ _ _ _ _ _ _ (f .before .before .if2 .taken) (node t w .is-first) (node t w .is-count) (unskipped t w) (f .leaf-places .ensures) ∙ home t w
 
 leaf-node-loop-holds : (t : ℕ) → leaf-node-lts.Need-loop-holds (claims t) (leaf-node-at t) leaf-node.Post leaf-node-Inv-loop leaf-node-μ-loop
-leaf-node-loop-holds t c = let w = c .before in rounds-start _ _ _ _ _ _ _ _ _ _ _ (c .if2 .left) (node t w .is-first) (node t w .is-count) (room t w)
+leaf-node-loop-holds t c = let w = c .before in leaf-rounds-start _ _ _ _ _ _ _ _ _ _ _ (c .if2 .left) (node t w .is-first) (node t w .is-count) (room t w)
 
 leaf-node-add-leaf-node : (t : ℕ) → leaf-node-lts.Need-add-leaf-node (claims t) (leaf-node-at t) leaf-node.Post leaf-node-Inv-loop leaf-node-μ-loop
 leaf-node-add-leaf-node t c =
@@ -124,7 +124,7 @@ leaf-node-leaf-node-requires t c κs =
     let p = start t w .pre .1 in
     let z = l .before .if2 .left in
     let k = kid _ _ _ _ _ _ _ (node t w) z (l .loop .i) (c .before .loop-test .taken) in
-    let r = rounds-room _ _ _ _ _ _ _ _ _ _ _ _ (l .loop .i) (c .before .loop-test .taken) (l .loop .inv) in
+    let r = leaf-rounds-room _ _ _ _ _ _ _ _ _ _ _ _ (l .loop .i) (c .before .loop-test .taken) (l .loop .inv) in
     (omega (arith, k .1, node t w .is-level, start t w .pre .0, pos-of-ne-zero z), (p .0, p .1, k .0, still-sets _ _ _ _ (l .loop .inv .long) (p .3), rw (k .1) r))
 
 leaf-node-add-i : (t : ℕ) → leaf-node-lts.Need-add-i (claims t) (leaf-node-at t) leaf-node.Post leaf-node-Inv-loop leaf-node-μ-loop
@@ -139,7 +139,7 @@ leaf-node-loop-again t c =
     let l = f .before .before .before in
     let w = l .before .before in
     let k = kid _ _ _ _ _ _ _ (node t w) (l .before .if2 .left) (l .loop .i) (f .before .before .loop-test .taken) in
-    rounds-step _ _ _ _ _ _ _ _ _ _ _ _ _ _ (l .loop .i) (f .before .before .loop-test .taken) (l .loop .inv) (f .leaf-node .kept .1 .1 .1 .1 .0) (rw (k .1) at (f .leaf-node .ensures))
+    leaf-rounds-step _ _ _ _ _ _ _ _ _ _ _ _ _ _ (l .loop .i) (f .before .before .loop-test .taken) (l .loop .inv) (f .leaf-node .kept .1 .1 .1 .1 .0) (rw (k .1) at (f .leaf-node .ensures))
 
 leaf-node-same-length-3 : (t : ℕ) → leaf-node-lts.Need-same-length-3 (claims t) (leaf-node-at t) leaf-node.Post leaf-node-Inv-loop leaf-node-μ-loop
 leaf-node-same-length-3 t c = c .before .loop .inv .long
@@ -147,8 +147,8 @@ leaf-node-same-length-3 t c = c .before .loop .inv .long
 leaf-node-returns-3 : (t : ℕ) → leaf-node-lts.Need-returns-3 (claims t) (leaf-node-at t) leaf-node.Post leaf-node-Inv-loop leaf-node-μ-loop
 leaf-node-returns-3 t c =
     let w = c .before .before .before in
-    rounds-end _ _ _ _ _ _ _ _ _ _ _ _ (c .before .loop .i) (c .loop-test .left) (c .before .loop .inv)
-    ∙ node-above _ _ _ _ _ _ _ _ _ _ _ (c .before .before .if2 .left) (node t w .is-first) (node t w .is-count) (unskipped t w) ∙ home t w
+    leaf-rounds-end _ _ _ _ _ _ _ _ _ _ _ _ (c .before .loop .i) (c .loop-test .left) (c .before .loop .inv)
+    ∙ leaf-node-above _ _ _ _ _ _ _ _ _ _ _ (c .before .before .if2 .left) (node t w .is-first) (node t w .is-count) (unskipped t w) ∙ home t w
 
 pub +leaf-node-spec : {M : Type 1} → statement M
 +leaf-node-spec = close μ-leaf-node λ t. leaf-node-lts.spec (

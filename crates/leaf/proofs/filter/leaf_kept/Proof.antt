@@ -2,7 +2,7 @@
 use native.Mathlib.Omega.{arith}
 use native.Mathlib.Nat.{pos-of-ne-zero}
 use Rattle.walk.proofs.RoomLaws.{room-top}
-use Rattle.leaf.proofs.FilterCode.{still-sets, walked-none, walked}
+use Rattle.leaf.proofs.FilterCode.{still-sets, leaf-walked-none, leaf-walked}
 use borrow.Author.Needs.{needs}
 use Rattle.leaf.proofs.filter.leaf_kept.Statement.{statement}
 use Rattle.leaf.proofs.filter.leaf_kept.Tie as tie
@@ -16,7 +16,7 @@ same-length c = search needs
 returns : tie.Need-returns
 returns c =
     let p = c .before .before .before .before .before .before .before .pre in
-    walked-none _ _ _ _ _ _ _ _ (p .0 .n-is) (p .0 .m-is) (c .if1 .taken) (p .4) (c .before .before .before .before .clear .ensures)
+    leaf-walked-none _ _ _ _ _ _ _ _ (p .0 .n-is) (p .0 .m-is) (c .if1 .taken) (p .4) (c .before .before .before .before .clear .ensures)
 
 first-at-requires : tie.Need-first-at-requires
 first-at-requires c κs = search needs
@@ -46,7 +46,7 @@ returns-2 : tie.Need-returns-2
 returns-2 c =
     let e = c .before .before .before .before .before .before .before in
     let p = e .before .before .before .before .before .before .before .pre in
-    walked _ _ _ _ _ _ _ _ _ _ _ (c .before .before .before .before .before .count-at .ensures) (p .0 .n-is) (p .0 .m-is) (e .if1 .left) (p .4) (e .before .before .before .before .clear .ensures) (c .before .before .leaf-node .ensures)
+    leaf-walked _ _ _ _ _ _ _ _ _ _ _ (c .before .before .before .before .before .count-at .ensures) (p .0 .n-is) (p .0 .m-is) (e .if1 .left) (p .4) (e .before .before .before .before .clear .ensures) (c .before .before .leaf-node .ensures)
 
 pub leaf-kept-spec : {M : Type 1} → statement M
 leaf-kept-spec =

@@ -4,7 +4,7 @@ use Prim.Native.Nat.{_+_, _-_}
 use native.Mathlib.Omega.{arith}
 use Rattle.walk.proofs.NodeLaws.{position-fits}
 use Rattle.leaf.specs.LeafWalk.{chamberSpot}
-use Rattle.leaf.proofs.FilterCode.{place, place-is, still-sets, Turned, turned-start, turned-step, turned-end}
+use Rattle.leaf.proofs.FilterCode.{place, leaf-place-is, still-sets, Turned, turned-start, turned-step, turned-end}
 use Rattle.leaf.proofs.filter.leaf_places.Statement.{statement}
 use Rattle.leaf.proofs.filter.leaf_places.Tie as tie
 
@@ -40,7 +40,7 @@ loop-again : tie.Need-loop-again Inv-loop μ-loop
 loop-again c =
     let l = c .before .before .before .before .before .before in
     let f = c .before .before in
-    turned-step _ _ _ _ _ _ (l .loop .i) (l .before .before .args .first + l .loop .i) refl (c .before .before .before .before .before .loop-test .taken) (l .loop .inv) (f .weigh-all .kept .1 .1 .1 .1 .0) (place-is _ _ _ _ _ (l .before .before .args .first + l .loop .i) _ _ _ (c .before .before .before .before .order-at .ensures) (f .weigh-all .ensures))
+    turned-step _ _ _ _ _ _ (l .loop .i) (l .before .before .args .first + l .loop .i) refl (c .before .before .before .before .before .loop-test .taken) (l .loop .inv) (f .weigh-all .kept .1 .1 .1 .1 .0) (leaf-place-is _ _ _ _ _ (l .before .before .args .first + l .loop .i) _ _ _ (c .before .before .before .before .order-at .ensures) (f .weigh-all .ensures))
 
 same-length : tie.Need-same-length Inv-loop μ-loop
 same-length c = c .before .loop .inv .long

@@ -5,7 +5,7 @@ use Prim.Native.Nat.{_+_, _-_, _*_, _/_, _<_}
 use native.Mathlib.Omega.{arith}
 use Rattle.bits.proofs.NextLaws.{from-le}
 use Rattle.walk.proofs.SiftLaws.{sift-next}
-use Rattle.leaf.proofs.RunCode.{Going, Passed, Told, Met, tell, going-start, passed-long, words-few, place-in, position-in, going-met, going-few, going-room, going-clear, going-gone, made-set, made-count, made-opened}
+use Rattle.leaf.proofs.RunCode.{Going, Passed, Told, Met, tell, leaf-going-start, passed-long, words-few, place-in, position-in, going-met, going-few, leaf-going-room, going-clear, going-gone, made-set, made-count, made-opened}
 use Rattle.leaf.proofs.run.run_made.Statement.{statement}
 use Rattle.leaf.proofs.run.run_made.Tie as tie
 
@@ -49,7 +49,7 @@ next-from-requires c κs =
 loop-holds : tie.Need-loop-holds Inv-loop μ-loop
 loop-holds c =
     let k = c .before .before .before .before in
-    going-start (told (k .before .before .before .before .before)) _ _ _ (k .leaf-kept .ensures .0) (k .leaf-kept .ensures .1) (c .next-from .ensures)
+    leaf-going-start (told (k .before .before .before .before .before)) _ _ _ (k .leaf-kept .ensures .0) (k .leaf-kept .ensures .1) (c .next-from .ensures)
 
 mul-order-at : tie.Need-mul-order-at Inv-loop μ-loop
 mul-order-at c = omega (arith, start (c .before) .pre .4 .small)
@@ -84,7 +84,7 @@ pair-walk-requires c κs =
 add-opened : tie.Need-add-opened Inv-loop μ-loop
 add-opened c =
     let l = c .before .before .before .before in
-    omega (arith, going-room (told (start l)) _ _ _ _ (l .loop .inv) _ (read l .count-at .ensures) (c .before .before .before .loop-test .taken) _ _ _ (c .before .pair-walk .ensures))
+    omega (arith, leaf-going-room (told (start l)) _ _ _ _ (l .loop .inv) _ (read l .count-at .ensures) (c .before .before .before .loop-test .taken) _ _ _ (c .before .pair-walk .ensures))
 
 clear-after-requires : tie.Need-clear-after-requires Inv-loop μ-loop
 clear-after-requires c κs = tt

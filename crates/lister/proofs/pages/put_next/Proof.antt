@@ -10,7 +10,7 @@ use Rattle.ring.specs.Page.{sourceOf}
 use Rattle.text.specs.Text.{Grown}
 use Rattle.lister.specs.Listing.{linesOf}
 use Rattle.lister.specs.Outcome.{InRange, pairsOf}
-use Rattle.lister.proofs.ShowLaws.{page-is, page-count, page-few, page-pairs, page-last, page-end, page-has, next-in}
+use Rattle.lister.proofs.ShowLaws.{page-is, page-count, page-few, lister-page-pairs, page-last, page-end, page-has, next-in}
 use Rattle.lister.proofs.pages.put_next.Statement.{statement}
 use Rattle.lister.proofs.pages.put_next.Tie as tie
 
@@ -53,7 +53,7 @@ returns c =
     let e = asked a in
     let last = c .last-key .ensures ∙ page-last b k _ g e in (
       subst (λ (l : List Pair). Grown (s .args .out .now) (s .args .at) (t .put-page .last .1 .1 .1 .1 .1 .0) (t .put-page .result) (linesOf (pointsOf (s .args .p .now)) (pointsOf (s .args .q .now)) l))
-          (page-pairs b k _ g e) (t .put-page .ensures .0),
+          (lister-page-pairs b k _ g e) (t .put-page .ensures .0),
       (record { count = page-count b k _ g e; key = last; end = page-end b k _ g e; in-range = subst InRange (sym last) (next-in b k _ g e (s .pre .1)) }, t .put-page .ensures .1),
     )
 

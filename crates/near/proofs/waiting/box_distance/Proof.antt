@@ -9,7 +9,7 @@ use Rattle.integers.proofs.Solver.{v0, v1, v2, v3, v4, v5}
 use Rattle.integers.proofs.Mach.{Each, runs}
 use Rattle.plane.specs.Rule.{sq, out}
 use Rattle.plane.proofs.FarLaws.{out-same}
-use Rattle.near.proofs.WaitingLaws.{wide, away-fits, away-is}
+use Rattle.near.proofs.WaitingLaws.{near-wide, away-fits, away-is}
 use Rattle.near.proofs.waiting.box_distance.Statement.{statement}
 use Rattle.near.proofs.waiting.box_distance.Tie as tie
 
@@ -25,17 +25,17 @@ each s = let p = s .pre in (p .0 .x-in, (p .0 .y-in, (p .1 .xmin-in, (p .1 .ymin
 square-out-requires : tie.Need-square-out-requires
 square-out-requires c κs =
     let s = c .before .before .before in (
-      subst (Within 2_000_000_000) (sym (runs w64 (here s) β (each s) v2 tt)) (wide (s .pre .1 .xmin-in)),
-      subst (Within 2_000_000_000) (sym (runs w64 (here s) β (each s) v4 tt)) (wide (s .pre .1 .xmax-in)),
-      subst (Within 2_000_000_000) (sym (runs w64 (here s) β (each s) v0 tt)) (wide (s .pre .0 .x-in)),
+      subst (Within 2_000_000_000) (sym (runs w64 (here s) β (each s) v2 tt)) (near-wide (s .pre .1 .xmin-in)),
+      subst (Within 2_000_000_000) (sym (runs w64 (here s) β (each s) v4 tt)) (near-wide (s .pre .1 .xmax-in)),
+      subst (Within 2_000_000_000) (sym (runs w64 (here s) β (each s) v0 tt)) (near-wide (s .pre .0 .x-in)),
     )
 
 square-out-requires-2 : tie.Need-square-out-requires-2
 square-out-requires-2 c κs =
     let s = c .before .before .before .before .before .before .before in (
-      subst (Within 2_000_000_000) (sym (runs w64 (here s) β (each s) v3 tt)) (wide (s .pre .1 .ymin-in)),
-      subst (Within 2_000_000_000) (sym (runs w64 (here s) β (each s) v5 tt)) (wide (s .pre .1 .ymax-in)),
-      subst (Within 2_000_000_000) (sym (runs w64 (here s) β (each s) v1 tt)) (wide (s .pre .0 .y-in)),
+      subst (Within 2_000_000_000) (sym (runs w64 (here s) β (each s) v3 tt)) (near-wide (s .pre .1 .ymin-in)),
+      subst (Within 2_000_000_000) (sym (runs w64 (here s) β (each s) v5 tt)) (near-wide (s .pre .1 .ymax-in)),
+      subst (Within 2_000_000_000) (sym (runs w64 (here s) β (each s) v1 tt)) (near-wide (s .pre .0 .y-in)),
     )
 
 abbrev start : tie.After-square-out2 → tie.Start

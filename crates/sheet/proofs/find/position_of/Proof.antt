@@ -3,7 +3,7 @@ use mathlib.Core.Path.{_≡_}
 use Prim.Native.Nat.{_-_, _≤_}
 use native.Mathlib.Omega.{arith}
 use Rattle.words.specs.All.{firstB}
-use Rattle.sheet.proofs.FindLaws.{has, seek-start, seek-on, seek-stop, seek-end}
+use Rattle.sheet.proofs.FindLaws.{has, sheet-seek-start, seek-on, seek-stop, sheet-seek-end}
 use Rattle.sheet.proofs.find.position_of.Statement.{statement}
 use Rattle.sheet.proofs.find.position_of.Tie as tie
 
@@ -14,7 +14,7 @@ abbrev μ-loop : tie.MeasureT-loop
 μ-loop s n m id j₀ j = n - j
 
 loop-holds : tie.Need-loop-holds Inv-loop μ-loop
-loop-holds c = (omega arith, seek-start (c .pre) _)
+loop-holds c = (omega arith, sheet-seek-start (c .pre) _)
 
 id-at-requires : tie.Need-id-at-requires Inv-loop μ-loop
 id-at-requires c κs = (c .before .before .pre, c .loop-test .taken)
@@ -38,7 +38,7 @@ loop-again c =
     (omega (arith, i .before .loop-test .taken), seek-on (l .before .pre) _ _ _ (l .loop .inv .1) (i .id-at .ensures) (c .if1 .left))
 
 returns-2 : tie.Need-returns-2 Inv-loop μ-loop
-returns-2 c = seek-end (c .before .before .pre) _ _ (c .before .loop .inv .1) (c .before .loop .inv .0) (c .loop-test .left)
+returns-2 c = sheet-seek-end (c .before .before .pre) _ _ (c .before .loop .inv .1) (c .before .loop .inv .0) (c .loop-test .left)
 
 pub position-of-spec : {M : Type 1} → statement M
 position-of-spec =
