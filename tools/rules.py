@@ -1,6 +1,7 @@
 """The rules (docs/RULES.md), what stands for each of them (docs/promises.txt), and what is written and held to them: docs/PROMISES.md, citations, the audit.
 
-docs/promises.txt has a block for each rule, and one for each call open to callers, apart by empty lines; a line that starts with # is a remark on the file.
+docs/promises.txt has a block for each rule, and one for each call open to callers, apart by empty lines; a line that starts with # is a remark on the file, one that
+starts with two spaces goes on with the line before it.
 
     S8
     definition: sheet Order placeOk, orderOk          a crate, a file of its specs/ (or `src`), and names that it declares
@@ -69,7 +70,8 @@ def blocks_of(text):
     """The blocks of promises.txt in their order: what each is of, and its lines as (field, what)."""
     blocks = []
     for piece in re.split(r"\n[ \t]*\n", text):
-        lines = [line.strip() for line in piece.splitlines() if line.strip() and not line.startswith("#")]
+        whole = re.sub(r"\n  +", " ", "\n".join(line for line in piece.splitlines() if line.strip() and not line.startswith("#")))
+        lines = [line.strip() for line in whole.splitlines()]
         if lines:
             blocks.append((lines[0], [tuple(part.strip() for part in line.partition(":")[::2]) for line in lines[1:]]))
     return blocks
@@ -152,10 +154,16 @@ def told(field, what):
     return text + (" (%s)" % remark if remark and field == "tested" else ": " + remark if remark else "")
 
 
+def wrapped(text, **indents):
+    """A text in lines of at most so many bytes, which are no more characters."""
+    wide = re.sub(r"[^\x00-\x7f]", lambda found: found.group(0) + "\1" * (len(found.group(0).encode()) - 1), text)
+    return textwrap.fill(wide, LONGEST, break_long_words=False, break_on_hyphens=False, **indents).replace("\1", "")
+
+
 def filled(text):
     """An entry in lines; what stands between backquotes, and a title, is in one line."""
     whole = re.sub(r"`[^`]*`|\*[A-Z][a-z]+ [a-z]+\*", lambda found: found.group(0).replace(" ", "\0"), text)
-    return textwrap.fill(whole, LONGEST, initial_indent="- ", subsequent_indent="  ", break_long_words=False, break_on_hyphens=False).replace("\0", " ")
+    return wrapped(whole, initial_indent="- ", subsequent_indent="  ").replace("\0", " ")
 
 
 def entry(number, sentence, lines):
@@ -174,7 +182,7 @@ def written(rules, source):
     """PROMISES.md."""
     blocks = blocks_of(source)
     of_rule = dict((of, lines) for of, lines in blocks if NUMBER.fullmatch(of))
-    pieces = ["# What is promised, where it is defined, what proves it, what tests it\n", textwrap.fill(HEAD, LONGEST, break_on_hyphens=False) + "\n"]
+    pieces = ["# What is promised, where it is defined, what proves it, what tests it\n", wrapped(HEAD) + "\n"]
     for part in parts_of(rules):
         pieces.append("## %s\n\n%s\n" % (part.heading, "\n".join(entry(number, sentence, of_rule.get(number, [])) for number, sentence in part.rules)))
     calls = []
