@@ -2,6 +2,7 @@
    took in nanoseconds (the best of several runs), and whether their answers agree. With an argument each is done once: the answers are compared, and the times
    say nothing. */
 #include "../include/ring.h"
+#include "../tests/c/province.h"
 #include "twins.h"
 
 typedef struct { long sec, nsec; } moment;
@@ -32,6 +33,9 @@ static int clamp(int v) { return v < -1000000 ? -1000000 : v > 1000000 ? 1000000
 
 static void uniform(int n) { for (int i = 0; i < n; i++) { points[3 * i + 1] = (int)draw(2000001) - 1000000; points[3 * i + 2] = (int)draw(2000001) - 1000000; } }
 
+/* the same on the map of form 2 */
+static void wide(int n) { for (int i = 0; i < n; i++) { points[3 * i + 1] = (int)draw(2000000001) - 1000000000; points[3 * i + 2] = (int)draw(2000000001) - 1000000000; } }
+
 static void clustered(int n)
 {
     int x = 0, y = 0;
@@ -45,33 +49,6 @@ static void clustered(int n)
 static void grid(int n)
 {
     for (int i = 0; i < n; i++) { points[3 * i + 1] = (int)draw(60) * 1000; points[3 * i + 2] = (int)draw(60) * 1000; }
-}
-
-static int before(int axis, int a, int b)
-{
-    int u = points[3 * a + axis], v = points[3 * b + axis];
-    return u < v || (u == v && a < b);
-}
-
-static void sort(int *at, int n, int axis)
-{
-    for (int gap = n / 2; gap; gap /= 2)
-        for (int i = gap; i < n; i++) {
-            int v = at[i], k = i;
-            for (; k >= gap && before(axis, v, at[k - gap]); k -= gap) at[k] = at[k - gap];
-            at[k] = v;
-        }
-}
-
-/* sort-tile-recursive: slices by x, each by y */
-static void tile(int n)
-{
-    int leaves = (n + 15) / 16, slices = 1;
-    while (slices * slices < leaves) slices++;
-    int deep = 16 * ((leaves + slices - 1) / slices);
-    for (int i = 0; i < n; i++) order[i] = i;
-    sort(order, n, 1);
-    for (int at = 0; at < n; at += deep) sort(order + at, n - at < deep ? n - at : deep, 2);
 }
 
 static unsigned long size_of(unsigned long n)
@@ -95,14 +72,14 @@ static int once;
 /* the best of so many runs, each of so many times the work: what is short is done often, so that the clock's step does not count */
 #define BEST(runs, times, best, work) do { best = 1l << 62; for (int run = 0; run < (once ? 1 : (runs)); run++) { long begun = now(); for (int time = 0; time < (once ? 1 : (times)); time++) { work; } long took = now() - begun; if (took < best) best = took; } } while (0)
 
-static void packing(const char *what, const char *kind, int n, packed *s, unsigned edition)
+static void packing(const char *what, const char *kind, int n, packed *s, unsigned form, unsigned edition)
 {
     static packed other;
     long proved, twin;
     unsigned a = 1, b = 1;
     s->len = other.len = size_of((unsigned long)n);
-    BEST(20, 4000 / n, proved, a = ring_pack((size_t)n, points, 3 * (size_t)n, order, (size_t)n, edition, s->words, s->len));
-    BEST(20, 4000 / n, twin, b = twin_pack((unsigned long)n, points, order, edition, other.words, other.len));
+    BEST(20, 4000 / n, proved, a = ring_pack(form, (size_t)n, points, 3 * (size_t)n, order, (size_t)n, edition, s->words, s->len));
+    BEST(20, 4000 / n, twin, b = twin_pack(form, (unsigned long)n, points, order, edition, other.words, other.len));
     int agree = a == 0 && b == 0;
     for (unsigned long i = 0; i < s->len; i++) agree &= s->words[i] == other.words[i];
     tell(what, kind, n, proved, twin, agree);
@@ -120,13 +97,16 @@ static void opening(const char *kind, int n, const packed *s)
 static twin_pair mine[PAIRS], theirs[PAIRS], brutes[PAIRS];
 static unsigned long mine_opened, theirs_opened;
 
+/* lent to both sides: for pages the first RING_WORDS(MOST), for runs all */
+static uint64_t bits[16 * RING_WORDS(MOST)];
+
 static unsigned long list_proved(const packed *p, const packed *q, unsigned long size)
 {
     RingKey key = {0, 0};
     unsigned long count = 0;
     mine_opened = 0;
     for (;;) {
-        RingPaged r = ring_page(p->words, p->len, q->words, q->len, (RingRequest){key, size, 0});
+        RingPaged r = ring_page(p->words, p->len, q->words, q->len, (RingRequest){key, size, 0}, bits, RING_WORDS(MOST));
         if (r.number) return ~0ul;
         mine_opened += r.opened;
         for (unsigned long k = 0; k < r.page.count; k++) { mine[count].q = r.page.pairs[k].q; mine[count].p = r.page.pairs[k].p; mine[count].size = r.page.pairs[k].size; count++; }
@@ -141,7 +121,7 @@ static unsigned long list_twin(const packed *p, const packed *q, unsigned long s
     unsigned long count = 0;
     theirs_opened = 0;
     for (;;) {
-        twin_page_answer r = twin_page(p->words, p->len, q->words, q->len, key, size);
+        twin_page_answer r = twin_page(p->words, p->len, q->words, q->len, key, size, bits, RING_WORDS(MOST));
         if (r.number) return ~0ul;
         theirs_opened += r.opened;
         for (unsigned long k = 0; k < r.count; k++) theirs[count++] = r.pairs[k];
@@ -169,8 +149,8 @@ static unsigned long listing(const char *kind, int n, const packed *p, const pac
     RingKey key = {a ? mine[a / 2].q : 0, a ? mine[a / 2].p : 0};
     twin_key asked = {key.q, key.p};
     static RingPaged r; static twin_page_answer t;
-    BEST(10, 5, proved, r = ring_page(p->words, p->len, q->words, q->len, (RingRequest){key, 16, 0}));
-    BEST(10, 5, twin, t = twin_page(p->words, p->len, q->words, q->len, asked, 16));
+    BEST(10, 5, proved, r = ring_page(p->words, p->len, q->words, q->len, (RingRequest){key, 16, 0}, bits, RING_WORDS(MOST)));
+    BEST(10, 5, twin, t = twin_page(p->words, p->len, q->words, q->len, asked, 16, bits, RING_WORDS(MOST)));
     int agree = r.number == 0 && t.number == 0 && r.opened == t.opened && r.page.count == t.count && !r.page.end == !t.end;
     for (unsigned long k = 0; k < t.count && agree; k++) agree = r.page.pairs[k].q == t.pairs[k].q && r.page.pairs[k].p == t.pairs[k].p && r.page.pairs[k].size == t.pairs[k].size;
     tell("page", kind, n, proved, twin, agree);
@@ -183,7 +163,7 @@ static unsigned long runs_proved(const packed *p, const packed *q)
     unsigned long count = 0;
     mine_opened = 0;
     for (size_t v = 0;; v++) {
-        RingRun r = ring_leaf_run(p->words, p->len, q->words, q->len, v, (RingPair *)mine + count, PAIRS - count);
+        RingRun r = ring_leaf_run(p->words, p->len, q->words, q->len, v, (RingPair *)mine + count, PAIRS - count, bits, 16 * RING_WORDS(MOST));
         if (r.number) return r.number == 19 ? count : ~0ul;
         count += r.count; mine_opened += r.opened;
     }
@@ -194,7 +174,7 @@ static unsigned long runs_twin(const packed *p, const packed *q)
     unsigned long count = 0;
     theirs_opened = 0;
     for (twin_size v = 0;; v++) {
-        twin_run_answer r = twin_run(p->words, p->len, q->words, q->len, v, theirs + count, PAIRS - count);
+        twin_run_answer r = twin_run(p->words, p->len, q->words, q->len, v, theirs + count, PAIRS - count, bits, 16 * RING_WORDS(MOST));
         if (r.number) return r.number == 19 ? count : ~0ul;
         count += r.count; theirs_opened += r.opened;
     }
@@ -216,18 +196,19 @@ int main(int count, char **arguments)
 {
     (void)arguments;
     once = count > 1;
-    static const char *kinds[] = {"uniform", "clustered", "grid"};
-    static const maker makers[] = {uniform, clustered, grid};
+    static const char *kinds[] = {"uniform", "clustered", "grid", "wide"};
+    static const maker makers[] = {uniform, clustered, grid, wide};
+    static const unsigned forms[] = {1, 1, 1, 2};
     static const int sizes[] = {100, 300, 1000};
     static packed p, q;
-    for (int k = 0; k < 3; k++)
+    for (int k = 0; k < 4; k++)
         for (int s = 0; s < 3; s++) {
             int n = sizes[s];
             for (int side = 0; side < 2; side++) {
                 makers[k](n);
                 for (int i = 0; i < n; i++) points[3 * i] = 10 * i + 1 + side;
-                tile(n);
-                packing(side ? "packing-q" : "packing-p", kinds[k], n, side ? &q : &p, 7 + 2 * (unsigned)side);
+                province_tile(points, order, (size_t)n);
+                packing(side ? "packing-q" : "packing-p", kinds[k], n, side ? &q : &p, forms[k], 7 + 2 * (unsigned)side);
             }
             opening(kinds[k], n, &p);
             unsigned long listed = listing(kinds[k], n, &p, &q);

@@ -13,12 +13,28 @@
  *
  * What the caller sees to, since no call can test it
  *   - a pointer and its number describe memory that is there, aligned for its elements, and that nobody else writes during the call;
- *   - memory that a call may write (`out` of ring_pack, `slots` of ring_book_take and of ring_leaf_run, `waiting` of ring_nearest and of ring_near_filter) overlaps no other array of the same call;
+ *   - memory that a call may write (`out` of ring_pack, `slots` of ring_book_take and of ring_leaf_run, `waiting` of ring_nearest and of ring_near_filter,
+ *     `bits` wherever it stands) overlaps no other array of the same call;
+ *   - there is room on the stack: some 120 KB for ring_leaf_run where P has over 1,024 points, some 60 KB for ring_pack of form 2, a few KB for any other call;
  *   - a bool is 0 or 1, as C's own bool always is.
  * A negative number handed in for an unsigned one arrives as a large one, and is answered as such.
  *
  * P is the pump houses, Q the chambers. A sheet is an array of 32-bit words. A position is the number of a point in its sheet, from 0, in the order of the
  * ids. Where a call takes both, q's position goes first, then p's.
+ *
+ * Forms of sheets
+ *   form   points      nodes       coordinates
+ *   1      to 1,000    to 400      -1,000,000 to 1,000,000
+ *   2      to 60,000   to 24,000   -1,000,000,000 to 1,000,000,000
+ * The words are the same in both. P and Q may be of different forms in every call.
+ *
+ * Words lent for kept sets: `bits`
+ *   - A call that filters works on 64-bit words that the caller lends: at least RING_WORDS(n), where n is P's number of points (ring_open says it), of a self
+ *     join its sheet's; ring_leaf_run 16 times as many. Where n is 0 none is needed.
+ *   - What they hold before does not matter.
+ *   - After an answer of ring_filter_walk and ring_near_filter the first RING_WORDS(n) words are the kept set; after one of any other call so many as it
+ *     needs are 0. Words past these are never written.
+ *   - After a refusal all words are as they were. Fewer words than needed are refused by 24.
  */
 #ifndef RING_H
 #define RING_H
@@ -31,6 +47,9 @@
 extern "C" {
 #endif
 
+/* How many 64-bit words hold a bit for each of n positions. */
+#define RING_WORDS(n) (((size_t)(n) + 63) / 64)
+
 /* A place in the list of pairs: a chamber's id, then a pump house's, each 0 to 2,000,000,000. (0, 0) is before every pair. */
 typedef struct RingKey {
     uint32_t q;
@@ -38,7 +57,7 @@ typedef struct RingKey {
 } RingKey;
 
 /* A ring pair: a chamber's id and a pump house's, and its size, the squared distance of the two, which is the squared diameter of the circle on them: at most
- * 8,000,000,000,000. */
+ * 8,000,000,000,000,000,000. */
 typedef struct RingPair {
     uint32_t q;
     uint32_t p;
@@ -83,12 +102,14 @@ typedef struct RingBook {
     RingSource source;
 } RingBook;
 
-/* The answer of ring_open: how many words the sheet has, its points and its nodes. */
+/* The answer of ring_open: how many words the sheet has, its points and its nodes, its edition and its form. */
 typedef struct RingHead {
     uint32_t number;
     size_t len;
     size_t n;
     size_t m;
+    uint32_t edition;
+    uint32_t form;
 } RingHead;
 
 /* The answer of ring_point. */
@@ -99,11 +120,10 @@ typedef struct RingPoint {
     int32_t y;
 } RingPoint;
 
-/* The answer of ring_filter_walk: position i of P is kept where bit i % 64, counted from the lowest, of bits[i / 64] is set; `count` is how many bits are
- * set, `opened` how many nodes were opened. */
+/* The answer of ring_filter_walk and ring_near_filter, beside the kept set in the lent words, where position i of P is kept if bit i % 64, counted from the
+ * lowest, of bits[i / 64] is set: `count` is how many bits are set, `opened` how many nodes were opened. */
 typedef struct RingFiltered {
     uint32_t number;
-    uint64_t bits[16];
     size_t count;
     uint64_t opened;
 } RingFiltered;
@@ -198,16 +218,19 @@ typedef struct RingMarker {
 
 /* Opens a sheet.
  * Input    len words. They are only read.
- * Answer   the sheet's length in words, which is len, its number of points and its number of nodes.
- * Refused  1, 2, 3, 4, 5, 6, 7, 8, in this order. */
+ * Answer   the sheet's length in words, which is len, its number of points and its number of nodes, its edition and its form.
+ * Refused  1, 2, 3, 4, 5, 6, 7, 8, in this order: 3 and 5 by the limits of the sheet's own form. */
 RingHead ring_open(const int32_t *words, size_t len);
 
 /* Packs a sheet of n points.
- * Input    3n words of points (id, x, y; ids ascending), the position that stands at each of n places, an edition, and the words lent for the sheet:
- *          5n + 7m + 6 of them, where m is how many nodes of 16 it takes (n = 16: 1, n = 17: 3, n = 1,000: 68).
- * Answer   0, and out is the sheet: ring_open takes it, and it has these points.
- * Refused  18, 3, 5, 6, 17, in this order, and out is as it was. points and order are only read. */
-uint32_t ring_pack(size_t n, const int32_t *points, size_t points_len, const int32_t *order, size_t order_len, uint32_t edition, int32_t *out, size_t out_len);
+ * Input    the form, 1 or 2; n; 3n words of points (id, x, y; ids ascending), the position that stands at each of n places, and an edition. points and order
+ *          are only read.
+ * Lent     out: exactly as many words as the sheet has, 5n + 7m + 6, where m is how many nodes of 16 it takes (n = 16: 1, n = 17: 3, n = 1,000: 68,
+ *          n = 60,000: 4,001).
+ * Answer   0, and out is the sheet: ring_open takes it, and it has these points and this form.
+ * Refused  18, 2, 3, 5, 6, 17, in this order: 3 and 5 by the limits of the form. out is as it was then. */
+uint32_t ring_pack(uint32_t form, size_t n, const int32_t *points, size_t points_len, const int32_t *order, size_t order_len, uint32_t edition, int32_t *out,
+                   size_t out_len);
 
 /* Reads the point at a position of a sheet.
  * Input    a sheet's words, and a position below its number of points. The words are only read.
@@ -216,10 +239,11 @@ uint32_t ring_pack(size_t n, const int32_t *points, size_t points_len, const int
 RingPoint ring_point(const int32_t *words, size_t len, size_t position);
 
 /* The filter walk: which points of P may be ring partners of the chamber at position j of Q. Every ring partner is among them.
- * Input    both sheets, and a position of Q. The words are only read.
- * Answer   the kept positions of P, their number, and the nodes of P opened.
- * Refused  1 to 8 for P, then 1 to 8 for Q, then 9 where j is not below Q's n. */
-RingFiltered ring_filter_walk(const int32_t *p, size_t p_len, const int32_t *q, size_t q_len, size_t j);
+ * Input    both sheets, and a position of Q. The sheets' words are only read.
+ * Lent     bits: RING_WORDS(P's n) words or more. After an answer the first so many are the kept positions of P; those past them are not written.
+ * Answer   how many positions are kept, and the nodes of P opened.
+ * Refused  1 to 8 for P, then 1 to 8 for Q, then 9 where j is not below Q's n, then 24 where fewer words are lent; no lent word is written. */
+RingFiltered ring_filter_walk(const int32_t *p, size_t p_len, const int32_t *q, size_t q_len, size_t j, uint64_t *bits, size_t bits_len);
 
 /* The ring walk: whether the chamber at position j of Q and the pump house at position i of P are a ring pair, or what blocks them. Q is walked first,
  * then P if Q is clear.
@@ -228,48 +252,60 @@ RingFiltered ring_filter_walk(const int32_t *p, size_t p_len, const int32_t *q, 
  * Refused  1 to 8 for P, then 1 to 8 for Q, then 9 where j is not below Q's n or i is not below P's. */
 RingWalked ring_pair_walk(const int32_t *p, size_t p_len, const int32_t *q, size_t q_len, size_t j, size_t i);
 
-/* The first `size` ring pairs strictly after a key, of the list of the threshold: all pairs where it is 0, and otherwise those of the chambers that have at least
- * so many. The key need not be a listed pair.
- * Input    both sheets, and a request: a key, a size 1 to 16, and a threshold 0 to 1,000. The words are only read.
+/* The first `size` ring pairs strictly after a key, of the list of the threshold: all pairs where it is 0, and otherwise those of the chambers that have at
+ * least so many. The key need not be a listed pair.
+ * Input    both sheets, and a request: a key, a size 1 to 16, and a threshold 0 to 60,000. The sheets' words are only read.
+ * Lent     bits: RING_WORDS(P's n) words or more. After an answer the first so many are 0; those past them are not written.
  * Answer   the page: both editions and the threshold, the key, the pairs in the list's order, their number, the end mark. With a threshold above 0 the nodes
  *          opened are those of all kept partners of each chamber reached.
- * Refused  1 to 8 for P, then 1 to 8 for Q, then 9 where an id of the key is over 2,000,000,000, then 10 where the size is not 1 to 16, then 21. */
-RingPaged ring_page(const int32_t *p, size_t p_len, const int32_t *q, size_t q_len, RingRequest request);
+ * Refused  1 to 8 for P, then 1 to 8 for Q, then 9 where an id of the key is over 2,000,000,000, then 10 where the size is not 1 to 16, then 21, then 24 where
+ *          fewer words are lent; no lent word is written. */
+RingPaged ring_page(const int32_t *p, size_t p_len, const int32_t *q, size_t q_len, RingRequest request, uint64_t *bits, size_t bits_len);
 
-/* The self join of one sheet: the first `size` pairs strictly after a key. Its list has two different records of the sheet exactly if no other record of it blocks
- * them, each pair once, by the lower id, then the higher: in a pair q is the lower id, p the higher.
- * Input    the sheet, a key and a size 1 to 16. The words are only read.
+/* The self join of one sheet: the first `size` pairs strictly after a key. Its list has two different records of the sheet exactly if no other record of it
+ * blocks them, each pair once, by the lower id, then the higher: in a pair q is the lower id, p the higher.
+ * Input    the sheet, a key and a size 1 to 16. The sheet's words are only read.
+ * Lent     bits: RING_WORDS(the sheet's n) words or more. After an answer the first so many are 0; those past them are not written.
  * Answer   the page: the edition twice, the threshold 0, the kind, the key, the pairs in the list's order, their number, the end mark; and the nodes opened.
- * Refused  1 to 8, then 9 where an id of the key is over 2,000,000,000, then 10 where the size is not 1 to 16. */
-RingPaged ring_own_page(const int32_t *words, size_t words_len, RingKey key, size_t size);
+ * Refused  1 to 8, then 9 where an id of the key is over 2,000,000,000, then 10 where the size is not 1 to 16, then 24 where fewer words are lent; no lent word
+ *          is written. */
+RingPaged ring_own_page(const int32_t *words, size_t words_len, RingKey key, size_t size, uint64_t *bits, size_t bits_len);
 
 /* Whether the chamber with this id has at least t ring partners.
- * Input    both sheets, the id of a chamber, and a t from 1 to 1,000. The words are only read.
+ * Input    both sheets, the id of a chamber, and a t from 1 to 60,000. The sheets' words are only read.
+ * Lent     bits: RING_WORDS(P's n) words or more. After an answer the first so many are 0; those past them are not written.
  * Answer   the smaller of t and the number of its pairs in the list, and whether that is t.
- * Refused  1 to 8 for P, then 1 to 8 for Q, then 20 where no chamber has the id, then 21. */
-RingPartners ring_partners(const int32_t *p, size_t p_len, const int32_t *q, size_t q_len, uint32_t id, uint32_t t);
+ * Refused  1 to 8 for P, then 1 to 8 for Q, then 20 where no chamber has the id, then 21, then 24 where fewer words are lent; no lent word is written. */
+RingPartners ring_partners(const int32_t *p, size_t p_len, const int32_t *q, size_t q_len, uint32_t id, uint32_t t, uint64_t *bits, size_t bits_len);
 
 /* The shortest circles first: the k ring pairs with the smallest squared diameter, in order, ties by q id and then p id.
- * Input    both sheets, and a k 1 to 16. The words are only read.
+ * Input    both sheets, and a k 1 to 16. The sheets' words are only read.
+ * Lent     bits: RING_WORDS(P's n) words or more. After an answer the first so many are 0; those past them are not written.
  * Answer   the number of pairs, which is k, or that of all ring pairs where they are fewer, and the pairs.
- * Refused  1 to 8 for P, then 1 to 8 for Q, then 10 where k is not 1 to 16. */
-RingShortlist ring_shortest(const int32_t *p, size_t p_len, const int32_t *q, size_t q_len, size_t k);
+ * Refused  1 to 8 for P, then 1 to 8 for Q, then 10 where k is not 1 to 16, then 24 where fewer words are lent; no lent word is written. */
+RingShortlist ring_shortest(const int32_t *p, size_t p_len, const int32_t *q, size_t q_len, size_t k, uint64_t *bits, size_t bits_len);
 
 /* Nearest first, for a single chamber: the pump houses by squared distance to the chamber with this id, on a tie by id.
- * Input    both sheets, the id of a chamber, a size, and the numbers lent for what waits in the walk: at least as many as P has points and nodes, n + m. What they hold does not
- *          matter. The words are only read.
- * Answer   the first `size` pump houses, fewer if P has fewer. The first n + m lent numbers are 0 afterwards, and the rest are not written.
- * Refused  1 to 8 for P, then 1 to 8 for Q, then 20 where no chamber has the id, then 10 where the size is not 1 to 16, then 25 where fewer than n + m numbers are lent; no lent
- *          number is written. */
+ * Input    both sheets, the id of a chamber, and a size. The sheets' words are only read.
+ * Lent     waiting: the numbers for what waits in the walk, at least as many as P has points and nodes, n + m. What they hold does not matter. After an answer
+ *          the first n + m are 0; those past them are not written. No words are lent.
+ * Answer   the first `size` pump houses, fewer if P has fewer.
+ * Refused  1 to 8 for P, then 1 to 8 for Q, then 20 where no chamber has the id, then 10 where the size is not 1 to 16, then 25 where fewer than n + m numbers
+ *          are lent; no lent number is written. */
 RingFound ring_nearest(const int32_t *p, size_t p_len, const int32_t *q, size_t q_len, uint32_t id, size_t size, uint64_t *waiting, size_t waiting_len);
 
-/* The filter walk for a single chamber that goes nearest first: the positions of P that may be ring partners of the chamber with this id. Each ring partner is among them.
- * Input and lent numbers as of ring_nearest, but for the size. Answer as of ring_filter_walk.
- * Refused  1 to 8 for P, then 1 to 8 for Q, then 20, then 25, each as of ring_nearest; no lent number is written. */
-RingFiltered ring_near_filter(const int32_t *p, size_t p_len, const int32_t *q, size_t q_len, uint32_t id, uint64_t *waiting, size_t waiting_len);
+/* The filter walk for a single chamber that goes nearest first: the positions of P that may be ring partners of the chamber with this id. Each ring partner is
+ * among them.
+ * Input    both sheets, and the id of a chamber. The sheets' words are only read.
+ * Lent     waiting: numbers as for ring_nearest. bits: words as for ring_filter_walk, which are the kept set after an answer.
+ * Answer   as of ring_filter_walk.
+ * Refused  1 to 8 for P, then 1 to 8 for Q, then 20 where no chamber has the id, then 24 where fewer words are lent, then 25 where fewer numbers are; neither a
+ *          word nor a number is written. */
+RingFiltered ring_near_filter(const int32_t *p, size_t p_len, const int32_t *q, size_t q_len, uint32_t id, uint64_t *waiting, size_t waiting_len,
+                              uint64_t *bits, size_t bits_len);
 
 /* Begins a book of the list of two editions and a threshold, or of a self join: nothing held, open.
- * Input    two editions, each 1 to 1,000,000,000, and a threshold 0 to 1,000; for a self join one edition in both fields, and the threshold 0.
+ * Input    two editions, each 1 to 1,000,000,000, and a threshold 0 to 60,000; for a self join one edition in both fields, and the threshold 0.
  * Answer   the book. A book begun again starts from nothing.
  * Refused  3, then 21. */
 RingBegun ring_book_begin(RingSource source);
@@ -282,31 +318,36 @@ RingNext ring_book_next_key(RingBook book, const RingPair *slots, size_t slots_l
 
 /* Takes a page into a book: appends its pairs after the held ones, and closes the book if the end mark is set. Pages may be lost, repeated, late or out of
  * order: one that is not the next is refused and changes nothing.
- * Input    the book, its slots, and a page.
- * Answer   0 and the book from now on. Slots that were held before, and slots past those held after, are not written.
+ * Input    the book, and a page.
+ * Lent     slots: those of the book. Slots that were held before, and slots past those held after, are not written.
+ * Answer   0 and the book from now on.
  * Refused  11 the book holds more than there are slots; 12 it is closed; 22 the page is of the other kind; 13 it is of other editions; 31 it is of another
  *          threshold; 14 its key is not the book's next key;
- *          15 it has over 16 pairs, an id outside 1 to 2,000,000,000, a size over 8,000,000,000,000, pairs not ascending strictly after the key, or no pair
- *          and no end mark;
+ *          15 it has over 16 pairs, an id outside 1 to 2,000,000,000, a size over 8,000,000,000,000,000,000, pairs not ascending strictly after the key, or no
+ *          pair and no end mark;
  *          16 it has more pairs than slots are left. In this order, and no slot is written. */
 RingTaken ring_book_take(RingBook book, RingPair *slots, size_t slots_len, RingPage page);
 
 /* The map marker of two places (ax, ay) and (bx, by): doubled, each of its numbers is exactly the sum of the two coordinates. A zero sum gives positive zero.
- * Refused  5 where a coordinate is not -1,000,000 to 1,000,000. */
+ * Refused  5 where a coordinate is not -1,000,000,000 to 1,000,000,000. */
 RingMarker ring_marker(int32_t ax, int32_t ay, int32_t bx, int32_t by);
 
 /* One run per leaf: the ring pairs of the chambers of a leaf of Q, by the chambers' places in Q's order, then by p id. Over all leaves they are the list, each
  * pair once.
- * Input    both sheets, the number of a leaf of Q, and the slots lent for the pairs. The words are only read.
- * Answer   the number of pairs, which stand from the first slot on, and the nodes opened: by one walk of P for all chambers of the leaf, and by the ring walk of
- *          each partner that it keeps. Slots past the pairs are not written.
- * Refused  1 to 8 for P, then 1 to 8 for Q, then 19 where Q has no such node or it is no leaf, then 16 where the pairs outnumber the slots; no slot is written. */
-RingRun ring_leaf_run(const int32_t *p, size_t p_len, const int32_t *q, size_t q_len, size_t leaf, RingPair *slots, size_t slots_len);
+ * Input    both sheets, and the number of a leaf of Q. The sheets' words are only read.
+ * Lent     slots: room for the pairs. They stand from the first slot on; slots past them are not written.
+ *          bits: 16 * RING_WORDS(P's n) words or more, however many chambers the leaf has. After an answer the first so many are 0; those past them are not
+ *          written.
+ * Answer   the number of pairs, and the nodes opened: by one walk of P for all chambers of the leaf, and by the ring walk of each partner that it keeps.
+ * Refused  1 to 8 for P, then 1 to 8 for Q, then 19 where Q has no such node or it is no leaf, then 24 where fewer words are lent, then 16 where the pairs
+ *          outnumber the slots; the slots and the words are as they were, after 16 too, which comes up only once the work on the words is done. */
+RingRun ring_leaf_run(const int32_t *p, size_t p_len, const int32_t *q, size_t q_len, size_t leaf, RingPair *slots, size_t slots_len, uint64_t *bits,
+                      size_t bits_len);
 
 /*
  * The numbers of refusal, and the calls that give them; `a sheet`: every call that is given one
  *    1  under 6 words (a sheet)
- *    2  form number not 1 (a sheet)
+ *    2  form neither 1 nor 2 (a sheet, ring_pack)
  *    3  n, m or edition out of range (a sheet, ring_pack, ring_book_begin); a self join of two editions (ring_book_begin)
  *    4  span, root word or length wrong (a sheet)
  *    5  an id or coordinate breaks its rule (a sheet, ring_pack, ring_marker)
@@ -319,15 +360,17 @@ RingRun ring_leaf_run(const int32_t *p, size_t p_len, const int32_t *q, size_t q
  *   12  book closed (ring_book_take)
  *   13  page of other editions (ring_book_take)
  *   14  page key is not the book's next key (ring_book_take)
- *   15  over 16 pairs; an id outside 1 to 2,000,000,000; a size over 8,000,000,000,000; pairs not ascending strictly after the key; no pair and no end mark
- *       (ring_book_take)
+ *   15  over 16 pairs; an id outside 1 to 2,000,000,000; a size over 8,000,000,000,000,000,000; pairs not ascending strictly after the key; no pair and no
+ *       end mark (ring_book_take)
  *   16  more pairs than slots left (ring_book_take); more pairs than slots (ring_leaf_run)
  *   17  lent output not exactly the sheet's length (ring_pack)
  *   18  point words not 3n, or order list not n long (ring_pack)
  *   19  no such leaf (ring_leaf_run)
  *   20  unknown q id (ring_partners, ring_nearest, ring_near_filter)
- *   21  threshold outside 0 to 1,000 (ring_page, ring_partners, ring_book_begin), or 0 (ring_partners), or above 0 for a self join (ring_book_begin)
+ *   21  threshold outside 0 to 60,000 (ring_page, ring_partners, ring_book_begin), or 0 (ring_partners), or above 0 for a self join (ring_book_begin)
  *   22  page of the other kind (ring_book_take)
+ *   24  fewer words lent than the points need (ring_filter_walk, ring_page, ring_own_page, ring_partners, ring_shortest, ring_near_filter), or than
+ *       16 times so many (ring_leaf_run)
  *   25  fewer numbers lent than P has points and nodes (ring_nearest, ring_near_filter)
  *   31  page of another threshold (ring_book_take)
  */

@@ -28,23 +28,35 @@ def examples():
     assert reading.open_number(P) == 0 and reading.open_number(Q) == 0
     assert reading.ring_list(reading.Sheet(P).points, reading.Sheet(Q).points) == [(5, 1, 16), (5, 2, 36), (6, 2, 37)]
     for key, size, pairs, end in (((0, 0), 2, [(5, 1, 16), (5, 2, 36)], False), ((5, 2), 2, [(6, 2, 37)], True), ((6, 2), 2, [], True), ((5, 3), 2, [(6, 2, 37)], True)):
-        number, page, _ = reading.page_call(P, Q, key, size)
+        number, page, _, _ = reading.page_call(P, Q, key, size)
         assert (number, page.pairs, page.end) == (0, pairs, end)
     for k in range(1, 17):
-        assert reading.shortest_call(P, Q, k) == (0, [(5, 1, 16), (5, 2, 36), (6, 2, 37)][:k])
+        assert reading.shortest_call(P, Q, k)[:2] == (0, [(5, 1, 16), (5, 2, 36), (6, 2, 37)][:k])
     ties = [(5, 4, 9), (5, 7, 4), (6, 2, 9), (6, 3, 9), (7, 1, 4)]
     assert reading.shortest_of(ties, 3) == [(5, 7, 4), (7, 1, 4), (5, 4, 9)]
     listed = reading.ring_list(reading.Sheet(P).points, reading.Sheet(Q).points)
     assert [reading.list_of(listed, t) for t in range(4)] == [listed, listed, listed[:2], []]
-    assert [reading.partners_call(P, Q, q_id, t) for q_id, t in ((5, 1), (5, 2), (5, 3), (6, 1), (6, 2), (7, 1), (5, 0), (7, 0))] == [
+    assert [reading.partners_call(P, Q, q_id, t)[:3] for q_id, t in ((5, 1), (5, 2), (5, 3), (6, 1), (6, 2), (7, 1), (5, 0), (7, 0))] == [
         (0, 1, True), (0, 2, True), (0, 2, False), (0, 1, True), (0, 1, False), (20, 0, False), (21, 0, False), (20, 0, False)]
     houses = reading.Sheet(reading.pack([(1, 5, 0), (2, 6, 0)], [0, 1], 7))
     assert reading.leaf_walk(houses, [(0, 0)]) == ([[0]], 1)
     assert reading.leaf_walk(houses, [(0, 0), (3, 0)]) == ([[], [0]], 1)
     assert reading.leaf_walk(houses, [(0, 0), (0, 0)]) == ([[0], [0]], 1)
     assert reading.leaf_walk(houses, [(0, 0), (5, 1), (5, -1), (9, 0)]) == ([[0], [0], [0], [0, 1]], 1)
-    for n, m in ((0, 0), (16, 1), (17, 3), (1000, 68)):
+    for n, m in ((0, 0), (16, 1), (17, 3), (1000, 68), (60000, 4001)):
         assert len(reading.runs_of_sixteen(n)) == m
+    # request 9: the listing's sheets of either form; one word is lent for two points, sixteen for a run; what a call leaves there
+    for p, q in ((P[:-1] + [2], Q), (P, Q[:-1] + [2]), (P[:-1] + [2], Q[:-1] + [2])):
+        assert reading.ring_list(reading.Sheet(p).points, reading.Sheet(q).points) == listed and reading.open_number(p) == reading.open_number(q) == 0
+    assert reading.open_number(P[:-1] + [3]) == 2
+    assert reading.filter_call(P, Q, 1, []) == (24, [], 0, []) and reading.filter_call(P, Q, 2, []) == (9, [], 0, [])
+    assert reading.filter_call(P, Q, 1, [7, 8, 9]) == (0, [0, 1], 1, [3, 8, 9])
+    assert reading.page_call(P, Q, (0, 0), 2, words=[7, 8, 9])[::3] == (0, [0, 8, 9])
+    assert reading.page_call(P, Q, (0, 0), 17, words=[])[0] == 10 and reading.page_call(P, Q, (0, 0), 2, words=[])[::3] == (24, [])
+    assert reading.run_call(P, Q, 0, [], [7] * 15)[::4] == (24, [7] * 15) and reading.run_call(P, Q, 0, [], [7] * 16)[::4] == (16, [7] * 16)
+    assert reading.run_call(P, Q, 0, [(0, 0, 0)] * 3, [7] * 17)[::4] == (0, [0] * 16 + [7])
+    assert reading.near_filter_call(P, Q, 6, [7, 7], [])[0] == 24 and reading.near_filter_call(P, Q, 6, [7, 7], [7])[0] == 25
+    assert reading.near_filter_call(P, Q, 6, [7, 7, 7], [7, 7]) == (0, [1], 1, [0, 0, 0], [2, 7])
 
 
 def one_corner_is_enough(rng):

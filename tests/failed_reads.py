@@ -17,7 +17,7 @@ sys.path[:0] = [os.path.join(TOP, "tools"), os.path.join(TOP, "tests")]
 
 import kit
 import make_examples
-from stored import OPEN, PACK, POINT, RULES, WALKS, split
+from stored import MARK, OPEN, PACK, POINT, RULES, WALKS, split
 
 REFUSED = b"refused input\n"
 SHEETS = ["listing", "packing", "opening"]
@@ -54,7 +54,7 @@ def lines_of(case):
     """How many lines a case prints."""
     if case[0] == RULES:
         return len(make_examples.SAID)
-    return 1 if case[0] in (OPEN, POINT, PACK) else sum(case[3:5]) if case[0] == WALKS else case[3]
+    return 1 if case[0] in (OPEN, POINT, PACK, MARK) else sum(case[3:5]) if case[0] == WALKS else case[3]
 
 
 def front_of_tape():

@@ -19,17 +19,18 @@ def node_word(words, j, field):
 def faults(words):
     """Faults of a sheet that opens, with at least four points and three nodes: number, label, and the sheet with the fault."""
     n, m = words[-4], words[-3]
+    most_points, most_nodes, most = reading.LIMITS[words[-1]]
     last = m - 1
     out = []
 
     def fault(number, label, at, word):
         out.append((number, label, lambda w, at=at, word=word: put(w, at, word)))
 
-    for form in (0, 2, -1, BIG, SMALL):
+    for form in (0, 3, -1, BIG, SMALL):
         fault(2, "form %d" % form, -1, form)
-    for count in (1001, -1, BIG, SMALL):
+    for count in (most_points + 1, -1, BIG, SMALL):
         fault(3, "n %d" % count, -4, count)
-    for count in (401, -1, BIG, SMALL):
+    for count in (most_nodes + 1, -1, BIG, SMALL):
         fault(3, "m %d" % count, -3, count)
     for edition in (0, reading.EDITION + 1, -1, BIG, SMALL):
         fault(3, "edition %d" % edition, -2, edition)
@@ -44,7 +45,7 @@ def faults(words):
     fault(5, "an id twice", 3, words[0])
     fault(5, "ids fall", 3 * (n - 1), words[3 * (n - 2)] - 1)
     for field in (1, 2):
-        for wrong in (reading.COORDINATE + 1, -reading.COORDINATE - 1):
+        for wrong in (most + 1, -most - 1):
             fault(5, "coordinate %d" % wrong, 3 * (n - 2) + field, wrong)
     for at, name in ((3 * n, "order"), (4 * n, "rank")):
         for wrong in (n, -1, BIG):
@@ -64,5 +65,5 @@ def faults(words):
         for field in (3, 4, 5, 6):
             for step in (-1, 1):
                 fault(8, "node %d side %d by %d" % (j, field - 3, step), node_word(words, j, field), words[node_word(words, j, field)] + step)
-    fault(8, "a box far too large", node_word(words, last, 3), -reading.COORDINATE)
+    fault(8, "a box far too large", node_word(words, last, 3), -most)
     return out

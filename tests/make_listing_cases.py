@@ -45,6 +45,14 @@ def lines_of(p_words, q_words):
     return lines + ["end %d" % len(lines)]
 
 
+# "2 for a form other than 1 or 2 [..] and from the listing program for form 2"
+def number_of(words):
+    """The number of `open`, of form 1 alone."""
+    if len(words) >= 6 and words[-1] == 2:
+        return 2
+    return reading.open_number(words)
+
+
 # "The program splits at Q's span, found from the last six words; if span+6 is negative, under 6 or over the whole, Q is everything. It opens Q first. It
 # prints `refused q N` or `refused p N` alone, or `refused input` for under 24 bytes, over 62,448, or not a multiple of 4."
 def listing(given):
@@ -55,10 +63,10 @@ def listing(given):
     if length < 6 or length > len(words):
         length = len(words)
     p_words, q_words = words[:len(words) - length], words[len(words) - length:]
-    number = reading.open_number(q_words)
+    number = number_of(q_words)
     if number:
         return ["refused q %d" % number]
-    number = reading.open_number(p_words)
+    number = number_of(p_words)
     if number:
         return ["refused p %d" % number]
     return lines_of(p_words, q_words)
@@ -102,7 +110,7 @@ def in_turn(count):
 
 
 def broken(number):
-    """The example's P, refused by the number 2 to 8."""
+    """The example's P, refused by the number 2 to 8: by 2 it is a right sheet of form 2."""
     at, word = {2: (-1, 2), 3: (-2, 0), 4: (-5, 0), 5: (1, 1000001), 6: (6, 2), 7: (12, 1), 8: (15, 11)}[number]
     return changed(P, at, word)
 
@@ -136,6 +144,10 @@ def inputs():
     out.append(("sums of zero and one below", packed(sheet([(7, 5, -5)]) + sheet([(7, -5, 4)]))))
     out.append(("all on one spot", packed(sheet([(1, 3, 3), (2, 3, 3)]) + sheet([(1, 3, 3)]))))
     out += [("%d and %d points within %d" % (n, m, reach), packed(small(rng, n, reach) + small(rng, m, reach))) for n, m, reach in ((1, 1, 0), (9, 12, 3), (20, 20, 9), (60, 60, 20), (60, 33, 1000), (17, 60, far))]
+    wide = reading.pack([(7, -reading.WIDE_COORDINATE, 5), (8, reading.WIDE_COORDINATE, 6)], [1, 0], 3, 2)
+    assert all(reading.open_number(words) == 0 for words in (wide, broken(2)))
+    out += [("form 2 in both", packed(broken(2) + broken(2))), ("form 2 in P, past form 1's coordinates", packed(wide + Q)), ("form 2 in Q, past form 1's coordinates", packed(P + wide))]
+    out += [("form 2 in P, and an order that is none", packed(changed(broken(2), 6, 2) + Q)), ("form 3 in P", packed(changed(P, -1, 3) + Q)), ("form 3 in Q", packed(P + changed(Q, -1, 3)))]
     return out
 
 

@@ -1,70 +1,69 @@
 """The part `near` of the tape: pairs of sheets, and for chambers of Q the pump houses nearest first and the filter that goes nearest first.
 
-A case, in words: its kind, the lengths of P's and Q's sheet, the number of requests, P's words, Q's words, and for each request 1 or 2 (the pump houses, or the filter),
-the q id, the size and how many of 2,048 numbers are lent. A negative word stands for the largest number that a call can be given. Each number holds a
-mark before the call. A line has what was asked, the number of refusal, then how many of the 2,048 numbers are 0 and how many still hold their mark after the
-call; then the pump houses with their squared distances, or the number of bits set, the nodes opened and the sixteen words of the kept set.
+A case, in words: its kind, the lengths of P's and Q's sheet, the number of requests, P's words, Q's words, and for each request the number of words lent, 1 or 2
+(the pump houses, or the filter), the q id, the size and how many of 2,048 numbers are lent. A negative word stands for the largest number that a call can be
+given. Each number and each word holds a mark before the call. A line has what was asked, the number of refusal, then the pump houses with their squared
+distances, or the number of bits set and the nodes opened; then what the 2,048 numbers hold after the call, and what the words hold.
 """
 import reading
 import towns
 import trees
 from chance import Chance
-from stored import NEAR, Asked
+from stored import NEAR, WORDS, Asked, by_turns, lent_told, marks, needed, told
 
 LARGEST = 2 ** 64 - 1
 LARGEST_ID = 2 ** 32 - 1
 NUMBERS = 2048
-MARKS = [7_000_000_000 + k for k in range(NUMBERS)]
+MARKS = marks(NUMBERS)
 POINTS, FILTER = 1, 2
 
 
-def marked(lent, after):
-    whole = after + MARKS[lent:]
-    return [whole.count(0), sum(a == b for a, b in zip(whole, MARKS))]
+def numbers_told(lent, after):
+    return " numbers " + told(after + MARKS[lent:])
 
 
-def nearest_line(rules, p, q, q_id, size, lent):
+def nearest_line(rules, p, q, q_id, size, lent, words):
     number, found, after = rules.nearest_call(p, q, q_id, size, MARKS[:lent])
-    fields = [number] + marked(lent, after) + [len(found)] + [word for near in found for word in near]
-    return "nearest %d %d %d: %s" % (q_id, size, lent, " ".join(map(str, fields)))
+    fields = [number, len(found)] + [word for near in found for word in near]
+    return "nearest %d %d %d: %s" % (q_id, size, lent, " ".join(map(str, fields))) + numbers_told(lent, after) + lent_told(words, marks(words))
 
 
-def filter_line(rules, p, q, q_id, lent):
-    number, kept, opened, after = rules.near_filter_call(p, q, q_id, MARKS[:lent])
-    fields = [number] + marked(lent, after) + [len(kept), opened] + (rules.kept_words(kept) if number == 0 else [0] * 16)
-    return "filter %d %d: %s" % (q_id, lent, " ".join(map(str, fields)))
+def filter_line(rules, p, q, q_id, lent, words):
+    number, kept, opened, after, left = rules.near_filter_call(p, q, q_id, MARKS[:lent], marks(words))
+    return "filter %d %d: %d %d %d" % (q_id, lent, number, len(kept), opened) + numbers_told(lent, after) + lent_told(words, left)
 
 
 def asked(p, q, request):
-    kind, q_id, size, lent = request
+    words, kind, q_id, size, lent = request
     q_id = LARGEST_ID if q_id < 0 else q_id
     size = LARGEST if size < 0 else size
     lent = NUMBERS if lent < 0 else min(lent, NUMBERS)
-    return (nearest_line, p, q, q_id, size, lent) if kind == POINTS else (filter_line, p, q, q_id, lent)
+    return (nearest_line, p, q, q_id, size, lent, words) if kind == POINTS else (filter_line, p, q, q_id, lent, words)
 
 
 class Near(Asked):
     name = "near"
     kind = NEAR
 
-    def add(self, label, p, q, requests):
+    def add(self, label, p, q, requests, words=None):
+        requests = [(n,) + request for n, request in zip(words or by_turns(p, len(requests)), requests)]
         lines = self.put(label, p, q, requests, [asked(p, q, request) for request in requests])
-        for (kind, _, size, lent), line in zip(requests, lines):
-            fields = list(map(int, line.split(": ")[1].split()))
+        for (_, kind, _, size, lent), line in zip(requests, lines):
+            fields = list(map(int, line.split(": ")[1].split(" numbers")[0].split()))
             self.seen[kind, fields[0]] += 1
             if fields[0] == 0:
                 n, m = p[-4], p[-3]
                 self.seen["exactly enough lent"] += min(lent, NUMBERS) == n + m
                 self.seen["some left over"] += lent > n + m
                 if kind == POINTS:
-                    distances = fields[5::2]
+                    distances = fields[3::2]
                     self.seen["a tie"] += len(set(distances)) < len(distances)
-                    self.seen["fewer than asked"] += fields[3] < size
-                    self.seen["sixteen"] += fields[3] == 16
+                    self.seen["fewer than asked"] += fields[1] < size
+                    self.seen["sixteen"] += fields[1] == 16
                 else:
-                    in_table_order, _ = reading.filter_walk(reading.Sheet(p), reading.place_of(reading.Sheet(q), int(line.split()[1])))
-                    self.seen["kept otherwise than in table order"] += reading.kept_words(in_table_order) != fields[5:]
-                    self.seen["a node skipped"] += fields[4] < m
+                    place = reading.place_of(reading.Sheet(q), int(line.split()[1]))
+                    self.seen["kept otherwise than in table order"] += reading.filter_walk(reading.Sheet(p), place)[0] != reading.near_filter(reading.Sheet(p), place)[0]
+                    self.seen["a node skipped"] += fields[2] < m
 
 
 def ids_of(sheet):
@@ -147,6 +146,38 @@ def large_pairs(out, rng):
     out.add("the corners", p, q, [request for q_id in range(1, 6) for request in ((POINTS, q_id, 16, 5), (FILTER, q_id, 0, 5))])
 
 
+def of_forms(out, rng):
+    """Sheets of form 2 to the ends of its range, with each other and with those of form 1; its corners; and one that needs more than sixteen words."""
+    for label, p, q in towns.of_forms(rng, 30, 14):
+        out.add(label, p, q, requests_of(rng, p, q))
+    far = reading.WIDE_COORDINATE
+    corners = [(-far, -far), (-far, far), (far, -far), (far, far)]
+    p = reading.pack([(k + 1,) + place for k, place in enumerate(corners)], [3, 1, 0, 2], 3, 2)
+    q = reading.pack([(k + 1,) + place for k, place in enumerate(corners + [(0, 0)])], list(range(5)), 4, 2)
+    out.add("the corners of form 2", p, q, [request for q_id in range(1, 6) for request in ((POINTS, q_id, 16, 5), (FILTER, q_id, 0, 5))])
+    p, q = towns.many(rng), towns.sheet(rng, towns.province, 6, form=2)[1]
+    need, ids = p[-4] + p[-3], ids_of(q)
+    requests = [(FILTER, q_id, 0, need) for q_id in ids] + [(POINTS, ids[0], 16, need), (FILTER, ids[1], 0, need), (FILTER, ids[1], 0, need - 1)]
+    out.add("1,300 points of form 2", p, q, requests, [21, 22, WORDS, 21, 21, 21, 0, 20, 21])
+
+
+def words_lent(out, rng):
+    """Too few words, and too few numbers too: 24 comes after 20 and before 25, and nothing that is lent is touched then. The pump houses ask for no words."""
+    for p, q in towns.few_words(rng):
+        need, numbers, q_id = needed(p), p[-4] + p[-3], ids_of(q)[-1]
+        requests = [(FILTER, q_id, 0, numbers), (FILTER, q_id, 0, numbers - 1), (FILTER, q_id, 0, 0), (FILTER, q_id + 1, 0, numbers), (POINTS, q_id, 2, numbers), (POINTS, q_id, 2, numbers - 1)]
+        several = [(n, request) for n in (need - 1, 0, need, need + 1, WORDS) for request in requests]
+        out.add("words lent", p, q, [request for _, request in several], [n for n, _ in several])
+    for fault in range(1, 9):
+        _, right = towns.sheet(rng, towns.grid, rng.randint(1, 5))
+        wrong = towns.faulty(rng, fault)
+        for p, q in ((wrong, right), (right, wrong)):
+            out.add("bad sheet, no word lent", p, q, [(FILTER, 1, 0, -1), (FILTER, 1, 0, 0)], [0, 0])
+    empty = reading.pack([], [], 3, rng.randint(1, 2))
+    _, some = towns.sheet(rng, towns.grid, 4)
+    out.add("no point in P, no word lent", empty, some, [(FILTER, ids_of(some)[0], 0, 0), (FILTER, ids_of(some)[0], 0, 2)], [0, 3])
+
+
 def refused(out, rng):
     """P's sheet, then Q's, then the id, then the size, then the lent numbers: two faults together get the earlier number. Empty sheets."""
     for p, q, first in towns.both_faulty(rng):
@@ -181,8 +212,10 @@ def cases():
     more_pairs(out, rng)
     large_pairs(out, rng)
     refused(out, rng)
+    of_forms(out, Chance("near of both forms"))
+    words_lent(out, Chance("words for near"))
     assert out.pairs >= 100
     numbers = (0, 1, 2, 3, 4, 5, 6, 7, 8, 20, 25)
-    assert all(out.seen[kind, number] >= 4 for kind in (POINTS, FILTER) for number in numbers) and out.seen[POINTS, 10] >= 8, out.seen
+    assert all(out.seen[kind, number] >= 4 for kind in (POINTS, FILTER) for number in numbers) and out.seen[POINTS, 10] >= 8 and out.seen[FILTER, 24] >= 8, out.seen
     assert all(out.seen[what] >= 8 for what in ("exactly enough lent", "some left over", "a tie", "fewer than asked", "sixteen", "kept otherwise than in table order", "a node skipped")), out.seen
     return out.cases

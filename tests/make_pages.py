@@ -1,11 +1,11 @@
 """The part `pages` of the tape: pairs of sheets with page requests over them: pairs, number, end mark, nodes opened; the question whether a chamber has
 at least t partners; and page requests of self joins, of one sheet each.
 
-A case, in words: its kind, the lengths of P's and Q's sheet, the number of requests, P's words, Q's words, and for each request the key's q id and p id,
-the size and the threshold; for each question a q id and a t; of a self join the length of one sheet, 0, the number of requests, its words, and for each request
-the key and the size. A negative word stands for the largest number that a call can be given. A line has the request, its number of refusal, the nodes opened,
-and the page whole: both editions, the threshold, the kind, the key, the number of pairs, the end mark, sixteen pairs with their sizes; or the question, its
-number of refusal, the count and the yes.
+A case, in words: its kind, the lengths of P's and Q's sheet, the number of requests, P's words, Q's words, and for each request the number of words lent, the
+key's q id and p id, the size and the threshold; for each question the words lent, a q id and a t; of a self join the length of one sheet, 0, the number of
+requests, its words, and for each request the words lent, the key and the size. A negative word stands for the largest number that a call can be given. A line
+has the request, its number of refusal, the nodes opened, and the page whole: both editions, the threshold, the kind, the key, the number of pairs, the end mark,
+sixteen pairs with their sizes; or the question, its number of refusal, the count and the yes; then what the words hold that were marked before.
 """
 import collections
 
@@ -13,44 +13,44 @@ import reading
 import towns
 import trees
 from chance import Chance
-from stored import OWN, PAGES, PARTNERS, Asked
+from stored import OWN, PAGES, PARTNERS, WORDS, Asked, by_turns, lent_told, marks, needed
 
 LARGEST_ID = 2 ** 32 - 1
 LARGEST = 2 ** 64 - 1
 PAST = reading.ID + 1
 
 
-def fields(rules, number, page, opened):
+def fields(rules, lent, number, page, opened, after):
     if number:
         page = rules.Page((0, 0), (0, 0), [], False)
     shown = page.pairs + [rules.UNUSED] * (16 - len(page.pairs))
     words = [number, opened, *page.editions, page.t, int(page.own), *page.key, len(page.pairs), int(page.end)] + [word for pair in shown for word in pair]
-    return " ".join(map(str, words))
+    return " ".join(map(str, words)) + lent_told(lent, after)
 
 
-def page_line(rules, p, q, key, size, t, listed):
-    return "page %d %d %d %d: %s" % (key + (size, t, fields(rules, *rules.page_call(p, q, key, size, t, listed))))
+def page_line(rules, p, q, key, size, t, listed, lent):
+    return "page %d %d %d %d: %s" % (key + (size, t, fields(rules, lent, *rules.page_call(p, q, key, size, t, listed, marks(lent)))))
 
 
-def own_line(rules, words, key, size, listed):
-    return "own %d %d %d: %s" % (key + (size, fields(rules, *rules.own_call(words, key, size, listed))))
+def own_line(rules, words, key, size, listed, lent):
+    return "own %d %d %d: %s" % (key + (size, fields(rules, lent, *rules.own_call(words, key, size, listed, marks(lent)))))
 
 
-def partners_line(rules, p, q, q_id, t, listed):
-    number, count, enough = rules.partners_call(p, q, q_id, t, listed)
-    return "partners %d %d: %d %d %d" % (q_id, t, number, count, enough)
+def partners_line(rules, p, q, q_id, t, listed, lent):
+    number, count, enough, after = rules.partners_call(p, q, q_id, t, listed, marks(lent))
+    return "partners %d %d: %d %d %d%s" % (q_id, t, number, count, enough, lent_told(lent, after))
 
 
 class Pages(Asked):
     name = "pages"
     kind = PAGES
 
-    def add(self, label, p, q, requests, listed=None):
-        requests = [request + (0,) * (4 - len(request)) for request in requests]
+    def add(self, label, p, q, requests, listed=None, lent=None):
+        requests = [(n,) + request + (0,) * (4 - len(request)) for n, request in zip(lent or by_turns(p, len(requests)), requests)]
         asked = []
-        for key_q, key_p, size, t in requests:
+        for n, key_q, key_p, size, t in requests:
             key_q, key_p, t = (LARGEST_ID if word < 0 else word for word in (key_q, key_p, t))
-            asked.append((page_line, p, q, (key_q, key_p), LARGEST if size < 0 else size, t, listed))
+            asked.append((page_line, p, q, (key_q, key_p), LARGEST if size < 0 else size, t, listed, n))
         for line in self.put(label, p, q, requests, asked):
             size, t = map(int, line.split(":")[0].split()[3:5])
             number, _, _, _, _, _, _, _, count, end = map(int, line.split(": ")[1].split()[:10])
@@ -61,11 +61,12 @@ class Pages(Asked):
                 self.seen["empty page"] += end and count == 0
                 self.seen["page of a t"] += t > 0 and count > 0
 
-    def own(self, label, sheet, requests, listed=None):
+    def own(self, label, sheet, requests, listed=None, lent=None):
+        requests = [(n,) + request for n, request in zip(lent or by_turns(sheet, len(requests)), requests)]
         asked = []
-        for key_q, key_p, size in requests:
+        for n, key_q, key_p, size in requests:
             key = tuple(LARGEST_ID if word < 0 else word for word in (key_q, key_p))
-            asked.append((own_line, sheet, key, LARGEST if size < 0 else size, listed))
+            asked.append((own_line, sheet, key, LARGEST if size < 0 else size, listed, n))
         for line in self.put(label, sheet, [], requests, asked, kind=OWN):
             size = int(line.split(":")[0].split()[3])
             number, _, _, _, _, _, _, _, count, end = map(int, line.split(": ")[1].split()[:10])
@@ -74,10 +75,11 @@ class Pages(Asked):
                 self.seen["own full last page"] += end and count == size
                 self.seen["own page amid"] += not end
 
-    def ask(self, label, p, q, questions, listed=None):
-        asked = [(partners_line, p, q) + tuple(LARGEST_ID if word < 0 else word for word in question) + (listed,) for question in questions]
+    def ask(self, label, p, q, questions, listed=None, lent=None):
+        questions = [(n,) + question for n, question in zip(lent or by_turns(p, len(questions)), questions)]
+        asked = [(partners_line, p, q) + tuple(LARGEST_ID if word < 0 else word for word in question) + (listed, n) for n, *question in questions]
         for line in self.put(label, p, q, questions, asked, kind=PARTNERS):
-            number, count, enough = map(int, line.split(": ")[1].split())
+            number, count, enough = map(int, line.split(": ")[1].split()[:3])
             self.seen["question", number] += 1
             if not number:
                 self.seen["yes" if enough else "no"] += 1
@@ -138,13 +140,15 @@ def documents_listing(out):
 
 
 def farthest(out):
-    """Two places as far apart as a sheet has them, on one spot, and a step from each: the sizes at both ends of their range."""
-    far = reading.COORDINATE
-    for one, other, size in (((-far, -far), (far, far), reading.DIAMETER), ((far, -far), (-far, far), reading.DIAMETER), ((far, far), (far, far), 0),
-                             ((-far, far), (far, 1 - far), reading.DIAMETER - 4 * far + 1), ((-far, 0), (far, 0), 4 * far * far), ((3, 4), (4, 4), 1)):
-        p, q = reading.pack([(8,) + one], [0], 3), reading.pack([(9,) + other], [0], 4)
-        assert reading.ring_list(reading.Sheet(p).points, reading.Sheet(q).points) == [(9, 8, size)]
-        out.add("one pair, size %d" % size, p, q, [(0, 0, 1), (0, 0, 16), (9, 7, 1), (9, 8, 1)])
+    """Two places as far apart as a sheet has them, on one spot, and a step from each: the sizes at both ends of their range, in both forms."""
+    for form, far in ((1, reading.COORDINATE), (2, reading.WIDE_COORDINATE)):
+        most = 8 * far * far
+        for one, other, size in (((-far, -far), (far, far), most), ((far, -far), (-far, far), most), ((far, far), (far, far), 0),
+                                 ((-far, far), (far, 1 - far), most - 4 * far + 1), ((-far, 0), (far, 0), 4 * far * far), ((3, 4), (4, 4), 1)):
+            p, q = reading.pack([(8,) + one], [0], 3, form), reading.pack([(9,) + other], [0], 4, form)
+            assert reading.ring_list(reading.Sheet(p).points, reading.Sheet(q).points) == [(9, 8, size)]
+            out.add("one pair, size %d" % size, p, q, [(0, 0, 1), (0, 0, 16), (9, 7, 1), (9, 8, 1)])
+    assert most == reading.DIAMETER
 
 
 def small_pairs(out, rng):
@@ -203,7 +207,7 @@ def refused(out, rng):
         out.add("an empty sheet", p, q, ENDS + OUTSIDE[:1])
 
 
-T_OUTSIDE = [(0, 0, 1, 1001), (0, 0, 16, -1), (0, 0, 0, 1001), (0, 0, 17, -1), (PAST, 0, 1, 1001), (PAST, 0, 0, -1), (0, 0, 1, 1000), (0, 0, 16, 999)]
+T_OUTSIDE = [(0, 0, 1, 60001), (0, 0, 16, -1), (0, 0, 0, 60001), (0, 0, 17, -1), (PAST, 0, 1, 60001), (PAST, 0, 0, -1), (0, 0, 1, 60000), (0, 0, 16, 59999), (0, 0, 16, 1001)]
 
 
 def thresholds(out, rng):
@@ -223,7 +227,7 @@ def thresholds(out, rng):
         out.add("%s, each t" % places.__name__, p, q, requests + rng.sample(T_OUTSIDE, 3), listed)
         ids = [point[0] for point in chambers.points]
         questions = [(q_id, t) for q_id in ids for t in sorted({max(1, many[q_id]), many[q_id] + 1})]
-        questions += [(q_id, t) for q_id in (rng.choice(ids), 0, rng.choice(ids) + 1, max(ids) + 1, reading.ID, -1, houses.points[0][0]) for t in (0, 1, 1000, 1001, -1)]
+        questions += [(q_id, t) for q_id in (rng.choice(ids), 0, rng.choice(ids) + 1, max(ids) + 1, reading.ID, -1, houses.points[0][0]) for t in (0, 1, 1001, 60000, 60001, -1)]
         out.ask("%s, partners" % places.__name__, p, q, questions, listed)
 
 
@@ -241,7 +245,7 @@ def refused_questions(out, rng):
     empty = reading.pack([], [], 3)
     _, some = towns.sheet(rng, towns.grid, 4)
     for p, q in ((empty, some), (some, empty), (empty, empty)):
-        out.ask("an empty sheet, partners", p, q, [(q_id, t) for q_id in [point[0] for point in reading.Sheet(q).points] + [0, 1] for t in (0, 1, 1001)])
+        out.ask("an empty sheet, partners", p, q, [(q_id, t) for q_id in [point[0] for point in reading.Sheet(q).points] + [0, 1] for t in (0, 1, 60001)])
 
 
 def self_joins(out, rng):
@@ -252,13 +256,14 @@ def self_joins(out, rng):
         sheet = reading.Sheet(words)
         listed = reading.self_list(sheet.points)
         requests = [request[:3] for request in followed(rng, listed, [1, 2, 3, 16] if k % 4 else [7, 15, 16])]
-        out.own("%s, one sheet with itself" % places.__name__, words, requests + some_keys(rng, sheet, sheet, listed, 4) + rng.sample(ENDS, 1), listed)
+        out.own("%s, one sheet with itself" % places.__name__, words, requests + some_keys(rng, sheet, sheet, listed, 4) + rng.sample(ENDS, 1), listed if k % 4 in (0, 3) else None)
     for number in range(1, 9):
         wrong = towns.faulty(rng, number)
         assert reading.own_call(wrong, (PAST, 0), 0)[0] == number
-        out.own("bad sheet, self join", wrong, [(0, 0, 1), (PAST, 0, 1), (0, 0, 0)])
+        out.own("bad sheet, self join", wrong, [(0, 0, 1), (PAST, 0, 1), (0, 0, 0), (-1, 0, 1), (PAST, PAST, 16)])
     _, some = towns.sheet(rng, towns.grid, 5)
-    for words in (some, reading.pack([(4, 2, 2)], [0], 3), reading.pack([], [], 3)):
+    together = reading.pack([(4, 2, 2), (6, 2, 2), (9, 5, 5)], [2, 0, 1], 3)
+    for words in (some, together, reading.pack([(4, 2, 2)], [0], 3), reading.pack([], [], 3)):
         out.own("keys and sizes of a self join", words, ENDS + OUTSIDE)
     points = [(number,) + place for number, place in zip(trees.ids(rng, 300, reading.ID), towns.land(rng, 300))]
     words = trees.sheet(points, trees.near(rng, points), reading.runs_of_sixteen(300), 33)
@@ -278,6 +283,54 @@ def large_pairs(out, rng):
     out.ask("1,000 points, partners", p, q, [(points[1][j][0], t) for j in last for t in (1, 5, 1000)], listed)
 
 
+def of_forms(out, rng):
+    """Sheets of form 2 to the ends of its range, with each other and with those of form 1, and alone; and one that needs more than sixteen words."""
+    for label, p, q in towns.of_forms(rng, 30, 11):
+        listed, requests = requests_of(rng, p, q, [1, 3, 16], 3)
+        many = collections.Counter(pair[0] for pair in listed)
+        most = max(many.values(), default=0)
+        out.add(label, p, q, requests + followed(rng, listed, [2, 16], most), listed)
+        out.ask(label + ", partners", p, q, [(point[0], t) for point in reading.Sheet(q).points[:3] for t in (1, max(1, many[point[0]]), many[point[0]] + 1)], listed)
+        listed = reading.self_list(reading.Sheet(p).points)
+        out.own(label + ", one sheet with itself", p, [request[:3] for request in followed(rng, listed, [2, 16])], listed)
+    p, q = towns.many(rng), towns.sheet(rng, towns.province, 5, form=2)[1]
+    listed, requests = requests_of(rng, p, q, [16], 2)
+    out.add("1,300 points of form 2", p, q, requests + [(0, 0, 16)], listed, [21] * len(requests) + [20])
+    ids = [point[0] for point in reading.Sheet(q).points]
+    out.ask("1,300 points of form 2, partners", p, q, [(q_id, 60000) for q_id in ids] + [(ids[0], 1)], listed, [21, 22, WORDS, 21, 21, 16])
+    last = reading.Sheet(p).points[-1][0]
+    out.own("1,300 points of form 2, self join", p, [(last, 0, 16), (last, 0, 16), (last, 0, 16)], [], [21, 22, 20])
+
+
+def words_lent(out, rng):
+    """One word too few, no word, exactly enough and more: every other number comes before 24, and the words past those needed stay. A page that filters nobody
+    leaves zeros too."""
+    for p, q in towns.few_words(rng):
+        need, q_id = needed(p), reading.Sheet(q).points[-1][0]
+        listed = reading.ring_list(reading.Sheet(p).points, reading.Sheet(q).points)
+        requests = [(0, 0, 16, 0), (0, 0, 16, 1), (reading.ID, 0, 1, 0), (PAST, 0, 1, 0), (0, 0, 0, 0), (0, 0, 1, 60001)]
+        several = [(n, request) for n in (need - 1, 0, need, need + 1, WORDS) for request in requests]
+        out.add("words lent", p, q, [request for _, request in several], listed, [n for n, _ in several])
+        several = [(n, question) for n in (need - 1, 0, need, WORDS) for question in ((q_id, 1), (q_id, 60001), (q_id + 1, 1))]
+        out.ask("words lent, partners", p, q, [question for _, question in several], listed, [n for n, _ in several])
+        several = [(n, request) for n in (need - 1, 0, need, need + 1) for request in ((0, 0, 16), (PAST, 0, 1), (0, 0, 17), (reading.ID, 0, 1))]
+        out.own("words lent, self join", p, [request for _, request in several], reading.self_list(reading.Sheet(p).points), [n for n, _ in several])
+    for number in range(1, 9):
+        _, right = towns.sheet(rng, towns.grid, rng.randint(1, 5))
+        wrong = towns.faulty(rng, number)
+        for p, q in ((wrong, right), (right, wrong)):
+            out.add("bad sheet, no word lent", p, q, [(0, 0, 1)], None, [0])
+            out.ask("bad sheet, no word lent", p, q, [(1, 1)], None, [0])
+        out.own("bad sheet, no word lent", wrong, [(0, 0, 1)], None, [0])
+    empty = reading.pack([], [], 3, rng.randint(1, 2))
+    _, some = towns.sheet(rng, towns.grid, 4)
+    q_id = reading.Sheet(some).points[0][0]
+    out.add("no point in P, no word lent", empty, some, [(0, 0, 16), (0, 0, 16)], [], [0, 2])
+    out.ask("no point in P, no word lent", empty, some, [(q_id, 1), (q_id, 1)], [], [0, 2])
+    out.own("no point, no word lent", empty, [(0, 0, 16), (0, 0, 16)], [], [0, 2])
+    out.add("no point in Q, words lent", some, empty, [(0, 0, 16)] * 3, [], [0, 1, 2])
+
+
 def cases():
     rng = Chance("pages")
     out = Pages()
@@ -291,10 +344,13 @@ def cases():
     refused_questions(out, rng)
     self_joins(out, rng)
     large_pairs(out, rng)
+    of_forms(out, Chance("pages of both forms"))
+    words_lent(out, Chance("words for pages"))
     assert out.pairs >= 100
     assert all(out.seen[number] >= 10 for number in range(11)), out.seen
-    assert all(out.seen[what] >= 10 for what in ("end mark", "no end mark", "full last page", "empty page", "page of a t", "yes", "no", 21)), out.seen
+    assert all(out.seen[what] >= 10 for what in ("end mark", "no end mark", "full last page", "empty page", "page of a t", "yes", "no", 21, 24)), out.seen
     assert all(out.seen["own", number] >= 2 for number in range(11)), out.seen
     assert all(out.seen[what] >= 10 for what in ("own full last page", "own page amid")), out.seen
-    assert all(out.seen["question", number] >= 2 for number in list(range(9)) + [20, 21]), out.seen
+    assert out.seen["own", 24] >= 2
+    assert all(out.seen["question", number] >= 2 for number in list(range(9)) + [20, 21, 24]), out.seen
     return out.cases

@@ -1,8 +1,9 @@
-"""The part `runs` of the tape: pairs of sheets with runs of leaves of Q over them: pairs, their number, nodes opened, slots not touched.
+"""The part `runs` of the tape: pairs of sheets with runs of leaves of Q over them: pairs, their number, nodes opened, slots and words not touched.
 
-A case, in words: its kind, the lengths of P's and Q's sheet, the number of runs, P's words, Q's words, and for each run the node and how many of 256 slots are
-lent. A negative word stands for the largest number that a call can be given. Each slot holds a mark before the call. A line has the node and the
-slots lent, the number of refusal, the number of pairs, the nodes opened, how many of the 256 slots still hold their mark, and the pairs with their sizes.
+A case, in words: its kind, the lengths of P's and Q's sheet, the number of runs, P's words, Q's words, and for each run the number of words lent, the node and
+how many of 256 slots are lent. A negative word stands for the largest number that a call can be given. Each slot holds a mark before the call. A line has the
+node and the slots lent, the number of refusal, the number of pairs, the nodes opened, how many of the 256 slots still hold their mark, the pairs with their
+sizes, and what the words hold that were marked before.
 """
 import math
 
@@ -11,31 +12,32 @@ import towns
 import trees
 from chance import Chance
 from check_reading import runs_are_the_list
-from stored import RUNS, Asked
+from stored import RUNS, WORDS, Asked, by_turns, lent_told, marks, needed
 
 LARGEST = 2 ** 64 - 1
 SLOTS = 256
-MARKS = [(4_000_000_000, k, 9_000_000_000_000) for k in range(SLOTS)]
+MARKS = [(4_000_000_000, k, 9_000_000_000_000_000_000) for k in range(SLOTS)]
 
 
 def number(word):
     return LARGEST if word < 0 else word
 
 
-def run_line(rules, p, q, leaf, lent):
-    refused, count, opened, slots = rules.run_call(p, q, leaf, MARKS[:lent])
+def run_line(rules, p, q, leaf, lent, words):
+    refused, count, opened, slots, after = rules.run_call(p, q, leaf, MARKS[:lent], marks(words))
     marked = sum(slot == mark for slot, mark in zip(slots + MARKS[lent:], MARKS))
     fields = [refused, count, opened, marked] + [word for pair in slots[:count] for word in pair]
-    return "run %d %d: %s" % (leaf, lent, " ".join(map(str, fields)))
+    return "run %d %d: %s%s" % (leaf, lent, " ".join(map(str, fields)), lent_told(words, after))
 
 
 class Runs(Asked):
     name = "runs"
     kind = RUNS
 
-    def add(self, label, p, q, requests):
-        lines = self.put(label, p, q, requests, [(run_line, p, q, number(leaf), number(lent)) for leaf, lent in requests])
-        for (leaf, lent), line in zip(requests, lines):
+    def add(self, label, p, q, requests, words=None):
+        requests = [(n,) + request for n, request in zip(words or by_turns(p, len(requests), 16), requests)]
+        lines = self.put(label, p, q, requests, [(run_line, p, q, number(leaf), number(lent), n) for n, leaf, lent in requests])
+        for (_, leaf, lent), line in zip(requests, lines):
             refused, count, _, marked = map(int, line.split(": ")[1].split()[:4])
             assert marked == SLOTS - count
             self.seen[refused] += 1
@@ -75,12 +77,13 @@ def documents_listing(out):
 
 
 def farthest(out):
-    """Two places as far apart as a sheet has them, and on one spot: the sizes at both ends of their range."""
-    far = reading.COORDINATE
-    for one, other, size in (((-far, -far), (far, far), reading.DIAMETER), ((far, -far), (-far, far), reading.DIAMETER), ((far, far), (far, far), 0)):
-        p, q = reading.pack([(8,) + one], [0], 3), reading.pack([(9,) + other], [0], 4)
-        assert reading.run_call(p, q, 0, MARKS[:1])[3] == [(9, 8, size)]
-        out.add("one pair, size %d" % size, p, q, [(0, 1), (0, 2), (0, 0)])
+    """Two places as far apart as a sheet has them, and on one spot: the sizes at both ends of their range, in both forms."""
+    for form, far in ((1, reading.COORDINATE), (2, reading.WIDE_COORDINATE)):
+        most = 8 * far * far
+        for one, other, size in (((-far, -far), (far, far), most), ((far, -far), (-far, far), most), ((far, far), (far, far), 0)):
+            p, q = reading.pack([(8,) + one], [0], 3, form), reading.pack([(9,) + other], [0], 4, form)
+            assert reading.run_call(p, q, 0, MARKS[:1])[3] == [(9, 8, size)]
+            out.add("one pair, size %d" % size, p, q, [(0, 1), (0, 2), (0, 0)])
 
 
 def small_pairs(out, rng):
@@ -146,6 +149,36 @@ def large_pairs(out, rng):
         out.add("1,000 points", p, q, [(rng.randint(0, 61), SLOTS), (rng.randint(0, 61), 200), (rng.randint(0, 61), 1), (m - 1, SLOTS), (m, SLOTS)])
 
 
+def of_forms(out, rng):
+    """Sheets of form 2 to the ends of its range, with each other and with those of form 1; and one that needs more than sixteen words for a chamber."""
+    for label, p, q in towns.of_forms(rng, 30, 12):
+        out.add(label, p, q, requests_of(rng, p, q, 3))
+    p, q = towns.many(rng), towns.sheet(rng, towns.province, 9, form=2)[1]
+    runs = runs_are_the_list(p, q)
+    leaf = rng.choice([leaf for leaf in runs if runs[leaf]])
+    enough = len(runs[leaf])
+    out.add("1,300 points of form 2", p, q, [(leaf, enough), (leaf, enough), (leaf, enough - 1), (leaf, enough), (leaf, 0)], [336, 337, 336, 335, 21])
+
+
+def words_lent(out, rng):
+    """One word too few, no word, exactly enough and more: 24 comes after 19 and before 16, and a run that is refused by 16 leaves the words as they were."""
+    for p, q in towns.few_words(rng):
+        need, runs, m = needed(p, 16), runs_are_the_list(p, q), q[-3]
+        leaf = max(runs, key=lambda leaf: len(runs[leaf]))
+        enough = len(runs[leaf])
+        assert 0 < enough <= SLOTS
+        several = [(n, request) for n in (need - 1, need // 16, 0, need, need + 1, WORDS) for request in ((leaf, enough), (leaf, enough - 1), (leaf, -1), (m, 0), (-1, SLOTS))]
+        out.add("words lent", p, q, [request for _, request in several], [n for n, _ in several])
+    for fault in range(1, 9):
+        _, right = towns.sheet(rng, towns.grid, rng.randint(1, 5))
+        wrong = towns.faulty(rng, fault)
+        for p, q in ((wrong, right), (right, wrong)):
+            out.add("bad sheet, no word lent", p, q, [(0, SLOTS), (0, 0)], [0, 0])
+    empty = reading.pack([], [], 3, rng.randint(1, 2))
+    _, some = towns.sheet(rng, towns.grid, 4)
+    out.add("no point in P, no word lent", empty, some, [(0, 0), (0, SLOTS), (some[-3], 0)], [0, 5, 0])
+
+
 def refused(out, rng):
     """P's sheet, then Q's, then the leaf, then the slots: two faults together get the earlier number. Empty sheets."""
     for p, q, first in towns.both_faulty(rng):
@@ -182,7 +215,9 @@ def cases():
     many_partners(out, rng)
     large_pairs(out, rng)
     refused(out, rng)
+    of_forms(out, Chance("runs of both forms"))
+    words_lent(out, Chance("words for runs"))
     assert out.pairs >= 100
-    assert all(out.seen[given] >= 8 for given in (0, 1, 2, 3, 4, 5, 6, 7, 8, 16, 19)), out.seen
+    assert all(out.seen[given] >= 8 for given in (0, 1, 2, 3, 4, 5, 6, 7, 8, 16, 19, 24)), out.seen
     assert all(out.seen[what] >= 8 for what in ("exactly enough", "no pair and no slot", "one chamber", "sixteen chambers", "slots left")), out.seen
     return out.cases

@@ -1,10 +1,11 @@
-"""The part `sheets` of the tape: sheets to open and point lists to pack, with the number that each must get.
+"""The part `sheets` of the tape: sheets to open and point lists to pack, with the number that each must get; and markers.
 
 A case, in words:
     OPEN, a length and that many words: a sheet to open
-    PACK, n (24, 24 and 16 bits, the lowest first), the numbers of point words and of order words, an edition, the length of the lent output, the point
+    PACK, a form, n (24, 24 and 16 bits, the lowest first), the numbers of point words and of order words, an edition, the length of the lent output, the point
        words and the order words: to pack. A packed sheet is printed whole and opened; of a refused one it is said whether each lent word is as it was
     POINT, a length, that many words and a position, where -1 stands for the largest that a call can be given: a point to read
+    MARK, x and y of one place and x and y of another: their marker, which is printed doubled
 """
 import collections
 import itertools
@@ -13,7 +14,7 @@ import reading
 import trees
 from chance import Chance
 from faults import BIG, SMALL, faults, node_word, put
-from stored import OPEN, PACK, POINT, Cases
+from stored import MARK, OPEN, PACK, POINT, Cases
 
 
 # ---------------------------------------------------------------- sheets
@@ -22,21 +23,21 @@ def points(rng, n, reach=20):
     return [(number, rng.randint(-reach, reach), rng.randint(-reach, reach)) for number in trees.ids(rng, n)]
 
 
-def packed(rng, n, reach=20, edition=None):
+def packed(rng, n, reach=20, edition=None, form=1):
     made = points(rng, n, reach)
-    return reading.pack(made, trees.shuffled(rng, n), edition or rng.randint(1, 1000))
+    return reading.pack(made, trees.shuffled(rng, n), edition or rng.randint(1, 1000), form)
 
 
-def uneven(rng, n, highest, reach=20):
+def uneven(rng, n, highest, reach=20, form=1):
     made = points(rng, n, reach)
-    return trees.sheet(made, trees.shuffled(rng, n), trees.uneven(rng, n, highest), rng.randint(1, 1000))
+    return trees.sheet(made, trees.shuffled(rng, n), trees.uneven(rng, n, highest), rng.randint(1, 1000), form)
 
 
-def shaped(rng, counts, reach=20):
+def shaped(rng, counts, reach=20, form=1):
     """A sheet over a tree given by the counts of each level, right or wrong."""
     n = sum(counts[0])
     made = points(rng, n, reach)
-    return trees.sheet(made, trees.shuffled(rng, n), trees.runs(counts), 5)
+    return trees.sheet(made, trees.shuffled(rng, n), trees.runs(counts), 5, form)
 
 
 def open_line(rules, words):
@@ -48,12 +49,17 @@ def point_line(rules, words, position):
     return "point %d: %s" % (position, "refused %d" % number if number else "%d %d %d" % point)
 
 
-def pack_line(rules, n, point_words, order, edition, lent):
-    number = rules.pack_number(n, point_words, order, edition, lent)
+def pack_line(rules, n, point_words, order, edition, lent, form):
+    number = rules.pack_number(n, point_words, order, edition, lent, form)
     if number:
         return "pack %d as it was" % number
-    words = rules.pack([tuple(point_words[3 * i:3 * i + 3]) for i in range(n)], order, edition)
+    words = rules.pack([tuple(point_words[3 * i:3 * i + 3]) for i in range(n)], order, edition, form)
     return "pack 0 open %d:%s" % (rules.open_number(words), "".join(" %d" % word for word in words))
+
+
+def mark_line(rules, a, b):
+    number, doubled = rules.mark_call(a, b)
+    return "mark %d %d %d %d: %s" % (*a, *b, "refused %d" % number if number else "%d %d" % doubled)
 
 
 class Sheets:
@@ -77,13 +83,19 @@ class Sheets:
         self.cases.add("point: " + label, [POINT, len(words)] + list(words) + [at], [(point_line, words, position)])
 
     def pack(self, label, given, expect=None):
-        n, point_words, order, edition, lent = given
-        number = reading.pack_number(*given)
+        """What is given ends with the form; form 1 where it does not."""
+        n, point_words, order, edition, lent, form = given if len(given) == 6 else given + (1,)
+        form = 2 ** 32 - 1 if form < 0 else form
+        number = reading.pack_number(n, point_words, order, edition, lent, form)
         assert expect is None or number == expect, (label, number, expect)
-        head = [PACK, n % 2 ** 24, n // 2 ** 24 % 2 ** 24, n // 2 ** 48, len(point_words), len(order), edition, lent]
-        self.cases.add("pack: " + label, head + list(point_words) + list(order), [(pack_line, *given)])
+        head = [PACK, form, n % 2 ** 24, n // 2 ** 24 % 2 ** 24, n // 2 ** 48, len(point_words), len(order), edition, lent]
+        self.cases.add("pack: " + label, head + list(point_words) + list(order), [(pack_line, n, point_words, order, edition, lent, form)])
         self.pack_seen[number] += 1
         self.packs += 1
+
+    def mark(self, label, a, b, expect):
+        assert reading.mark_call(a, b)[0] == expect, (label, a, b)
+        self.cases.add("mark: " + label, [MARK, *a, *b], [(mark_line, a, b)])
 
 
 def covering_nothing(rng, counts):
@@ -177,6 +189,44 @@ def wrong_sheets(out, rng):
         first = node_word(words, 1, 1)
         out.open("a run that leaves a gap", put(put(words, first, words[first] + 1), first + 1, 1), 7)
         out.open("a run that covers a place again", put(put(words, first, words[first] - 1), first + 1, 3), 7)
+
+
+def of_form_2(out, rng):
+    """Sheets past the limits of form 1: refused under form 1, and right under form 2. The limits of form 2, at their ends and one past them: 3 comes before 4,
+    so that a short sheet will do for its counts. Forms that are neither 1 nor 2."""
+    far, wide = reading.COORDINATE, reading.WIDE_COORDINATE
+    for n in (0, 1, 16, 17, 33):
+        out.open("form 2, n %d" % n, packed(rng, n, wide, form=2), 0)
+    for n in (1001, 1300):
+        out.open("form 2, n %d" % n, packed(rng, n, wide, form=2), 0)
+        out.open("form 1, n %d" % n, put(packed(rng, n), -1, 1), 3)
+    over = [[1] * 64] * 6 + [trees.parts(rng, 64, 16), [16]]
+    out.open("form 2, m 401", shaped(rng, over, form=2), 0)
+    out.open("form 2, uneven", uneven(rng, 300, 4, wide, form=2), 0)
+    for x, y in ((wide, 0), (0, -wide), (-wide, wide), (far + 1, -far - 1)):
+        out.open("form 2, a point at %d %d" % (x, y), reading.pack([(1, 0, 0), (2, x, y)], [1, 0], 1, 2), 0)
+        out.open("form 1, a point at %d %d" % (x, y), reading.pack([(1, 0, 0), (2, x, y)], [1, 0], 1, 1), 5)
+    for x, y in ((wide + 1, 0), (0, wide + 1), (-wide - 1, 0), (0, -wide - 1), (BIG, 0), (0, SMALL)):
+        out.open("form 2, a point at %d %d" % (x, y), reading.pack([(1, 0, 0), (2, x, y)], [1, 0], 1, 2), 5)
+    base = shaped(rng, [[3, 2, 4], [2, 1], [2]], wide, 2)
+    assert reading.open_number(base) == 0
+    for n, m, number in ((60000, 24000, 4), (60001, 24000, 3), (60000, 24001, 3), (60001, 3, 3), (9, 24001, 3), (9, 24000, 4), (60000, 6, 4)):
+        out.open("form 2, n %d and m %d, a short sheet" % (n, m), put(put(base, -4, n), -3, m), number)
+        out.open("form 2, n %d and m %d, the trailer alone" % (n, m), [5 * n + 7 * m, 7, n, m, 1, 2], number)
+        out.open("form 1, n %d and m %d, the trailer alone" % (n, m), [5 * n + 7 * m, 7, n, m, 1, 1], 3)
+    for edition, number in ((1, 0), (reading.EDITION, 0), (0, 3), (reading.EDITION + 1, 3)):
+        out.open("form 2, edition %d" % edition, put(base, -2, edition), number)
+    for form in (0, 3, -1, -2, BIG, SMALL):
+        out.open("form %d" % form, put(base, -1, form), 2)
+        out.open("form %d, n past its range" % form, put(put(base, -1, form), -4, 60001), 2)
+    out.open("form 1 of what is form 2's", put(base, -1, 1), 5)
+    small = shaped(rng, [[3, 2, 4], [2, 1], [2]])
+    out.open("form 2 of what is form 1's too", put(small, -1, 2), 0)
+    out.open("five words, the last 2", base[-5:], 1)
+    for number, label, change in faults(base):
+        out.open("form 2, " + label, change(base), number)
+    for at in (0, 1, -1):
+        out.point("form 2, position %d" % at, reading.pack([(7, -wide, wide), (8, wide, -wide)], [0, 1], 1, 2), at, 9 if at < 0 else 0)
 
 
 def single_faults(out, rng):
@@ -320,6 +370,52 @@ def wrong_packs(out, rng):
         out.pack("n %d, one point handed in" % n, (n, [1, 0, 0], [0], 1, 18), 18)
 
 
+def packs_of_forms(out, rng):
+    """Each form: 1 and 2 under its own limits, others refused by 2, after 18 and before 3."""
+    far, wide = reading.COORDINATE, reading.WIDE_COORDINATE
+    for n in (0, 1, 16, 17, 33, 1001, 1100):
+        out.pack("form 2, n %d" % n, given(rng, n, wide) + (2,), 0)
+    for _ in range(10):
+        n = rng.randint(0, 40)
+        out.pack("form 2, n %d" % n, given(rng, n, rng.choice([1, 20, wide])) + (2,), 0)
+    for x, y in ((wide, -wide), (-wide, wide), (far + 1, 0), (0, -far - 1)):
+        one = (2, [1, 0, 0, 9, x, y], [1, 0], 1, reading.packed_length(2))
+        out.pack("form 2, a point at %d %d" % (x, y), one + (2,), 0)
+        out.pack("form 1, a point at %d %d" % (x, y), one + (1,), 5)
+    for x, y in ((wide + 1, 0), (0, wide + 1), (-wide - 1, 0), (0, -wide - 1), (BIG, 0), (0, SMALL)):
+        out.pack("form 2, a point at %d %d" % (x, y), (2, [1, 0, 0, 9, x, y], [1, 0], 1, reading.packed_length(2), 2), 5)
+    base = given(rng, 5)
+    n, flat, order, edition, lent = base
+    for form in (0, 3, 4, 2 ** 31 - 1, -1):
+        out.pack("form %d" % form, base + (form,), 2)
+        out.pack("form %d, point words one short" % form, (n, flat[:-1], order, edition, lent, form), 18)
+        out.pack("form %d, edition 0" % form, (n, flat, order, 0, lent, form), 2)
+        out.pack("form %d, an id twice" % form, (n, put(flat, 3, flat[0]), order, edition, lent, form), 2)
+        out.pack("form %d, order twice" % form, (n, flat, put(order, 0, order[1]), edition, lent, form), 2)
+        out.pack("form %d, output one long" % form, (n, flat, order, edition, lent + 1, form), 2)
+    for number, label, change in pack_faults(base):
+        if "coordinate" not in label and label[:2] not in ("x ", "y "):
+            out.pack("form 2, " + label, change(base) + (2,), number)
+    for n in (2000, 2700):
+        out.pack("form 1, n %d" % n, (n, [word for k in range(n) for word in (k + 1, 0, 0)], list(range(n)), 1, 6, 1), 3)
+        out.pack("form 2, n %d, output six words" % n, (n, [word for k in range(n) for word in (k + 1, 0, 0)], list(range(n)), 1, 6, 2), 17)
+
+
+def markers(out, rng):
+    """Sums of every sign, whole halves and others, at the ends of the range and one past them, on each coordinate."""
+    far, wide = reading.COORDINATE, reading.WIDE_COORDINATE
+    for a, b in (((0, 0), (0, 0)), ((1, 2), (3, 4)), ((1, 2), (2, 4)), ((-1, 5), (1, -5)), ((-1, -2), (-3, -5)), ((far, -far), (far, -far)), ((far + 1, -far - 1), (0, 0)),
+                 ((wide, wide), (wide, wide)), ((-wide, -wide), (-wide, -wide)), ((wide, -wide), (-wide, wide)), ((wide, wide), (wide - 1, 1 - wide)), ((-wide, 0), (1 - wide, -1))):
+        out.mark("in range", a, b, 0)
+    for k in range(4):
+        for word in (wide + 1, -wide - 1, BIG, SMALL):
+            words = put([wide, -wide, 0, 7], k, word)
+            out.mark("out of range", tuple(words[:2]), tuple(words[2:]), 5)
+    for _ in range(20):
+        a, b = [(rng.randint(-wide, wide), rng.randint(-wide, wide)) for _ in range(2)]
+        out.mark("in range", a, b, 0)
+
+
 def cases():
     rng = Chance("sheets")
     out = Sheets()
@@ -331,8 +427,11 @@ def cases():
     points_read(out, Chance("points"))
     right_packs(out, Chance("packs"))
     wrong_packs(out, Chance("wrong packs"))
+    of_form_2(out, Chance("form 2"))
+    packs_of_forms(out, Chance("packs of both forms"))
+    markers(out, Chance("markers"))
     assert out.packs >= 100
-    assert all(out.pack_seen[number] >= 10 for number in (0, 18, 3, 5, 6, 17)), out.pack_seen
+    assert all(out.pack_seen[number] >= 10 for number in (0, 18, 2, 3, 5, 6, 17)), out.pack_seen
     assert out.opened >= 400
     assert all(out.seen[number] >= 10 for number in range(9)), out.seen
     return out.cases

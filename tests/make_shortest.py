@@ -1,32 +1,34 @@
 """The part `shortest` of the tape: pairs of sheets with requests for their shortest circles: number of refusal, number of pairs, pairs.
 
-A case, in words: its kind, the lengths of P's and Q's sheet, the number of requests, P's words, Q's words, and for each request k. A negative word
-stands for the largest number that a call can be given. A line has k, the number of refusal, the number of pairs, and sixteen pairs with their sizes.
+A case, in words: its kind, the lengths of P's and Q's sheet, the number of requests, P's words, Q's words, and for each request the number of words lent and k.
+A negative word stands for the largest number that a call can be given. A line has k, the number of refusal, the number of pairs, sixteen pairs with their
+sizes, and what the words hold that were marked before.
 """
 import reading
 import towns
 import trees
 from chance import Chance
-from stored import SHORTEST, Asked
+from stored import SHORTEST, WORDS, Asked, by_turns, lent_told, marks, needed
 
 LARGEST = 2 ** 64 - 1
 ALL = list(range(1, 17))
 OUTSIDE = [0, 17, 18, 2 ** 31 - 1, -1]
 
 
-def shortest_line(rules, p, q, k):
-    number, pairs = rules.shortest_call(p, q, k)
+def shortest_line(rules, p, q, k, lent):
+    number, pairs, after = rules.shortest_call(p, q, k, marks(lent))
     shown = pairs + [rules.UNUSED] * (16 - len(pairs))
     fields = [number, len(pairs)] + [word for pair in shown for word in pair]
-    return "shortest %d: %s" % (k, " ".join(map(str, fields)))
+    return "shortest %d: %s%s" % (k, " ".join(map(str, fields)), lent_told(lent, after))
 
 
 class Shortest(Asked):
     name = "shortest"
     kind = SHORTEST
 
-    def add(self, label, p, q, requests, listed=None):
-        lines = self.put(label, p, q, [[k] for k in requests], [(shortest_line, p, q, LARGEST if k < 0 else k) for k in requests])
+    def add(self, label, p, q, requests, listed=None, lent=None):
+        lent = lent or by_turns(p, len(requests))
+        lines = self.put(label, p, q, list(zip(lent, requests)), [(shortest_line, p, q, LARGEST if k < 0 else k, n) for n, k in zip(lent, requests)])
         for k, line in zip(requests, lines):
             number, count = map(int, line.split(": ")[1].split()[:2])
             self.seen[number] += 1
@@ -50,17 +52,18 @@ def listing(p, q):
 def documents_listing(out):
     p = [1, 0, 0, 2, 10, 0, 0, 1, 0, 1, 0, 0, 2, 0, 0, 10, 0, 17, 7, 2, 1, 7, 1]
     q = [5, 4, 0, 6, 16, 1, 0, 1, 0, 1, 0, 0, 2, 4, 0, 16, 1, 17, 7, 2, 1, 9, 1]
-    assert reading.shortest_call(p, q, 2) == (0, [(5, 1, 16), (5, 2, 36)])
+    assert reading.shortest_call(p, q, 2)[:2] == (0, [(5, 1, 16), (5, 2, 36)])
     out.add("the listing", p, q, ALL + OUTSIDE, listing(p, q))
 
 
 def farthest(out):
-    """Two places as far apart as a sheet has them, and on one spot: the sizes at both ends of their range."""
-    far = reading.COORDINATE
-    for one, other, size in (((-far, -far), (far, far), reading.DIAMETER), ((far, -far), (-far, far), reading.DIAMETER), ((far, far), (far, far), 0)):
-        p, q = reading.pack([(8,) + one], [0], 3), reading.pack([(9,) + other], [0], 4)
-        assert reading.shortest_call(p, q, 16) == (0, [(9, 8, size)])
-        out.add("one pair, size %d" % size, p, q, [1, 2, 16], listing(p, q))
+    """Two places as far apart as a sheet has them, and on one spot: the sizes at both ends of their range, in both forms."""
+    for form, far in ((1, reading.COORDINATE), (2, reading.WIDE_COORDINATE)):
+        most = 8 * far * far
+        for one, other, size in (((-far, -far), (far, far), most), ((far, -far), (-far, far), most), ((far, far), (far, far), 0)):
+            p, q = reading.pack([(8,) + one], [0], 3, form), reading.pack([(9,) + other], [0], 4, form)
+            assert reading.shortest_call(p, q, 16)[:2] == (0, [(9, 8, size)])
+            out.add("one pair, size %d" % size, p, q, [1, 2, 16], listing(p, q))
 
 
 def small_pairs(out, rng):
@@ -109,6 +112,31 @@ def large_pairs(out, rng):
         out.add("150 points", p, q, [1, 7, 16], listing(p, q))
 
 
+def of_forms(out, rng):
+    """Sheets of form 2 to the ends of its range, with each other and with those of form 1; and one that needs more than sixteen words."""
+    for label, p, q in towns.of_forms(rng, 30, 12):
+        out.add(label, p, q, [1, 16] + rng.sample(ALL[1:-1], 2), listing(p, q))
+    p, q = towns.many(rng), towns.sheet(rng, towns.province, 6, form=2)[1]
+    out.add("1,300 points of form 2", p, q, [1, 16, 16, 16], listing(p, q), [21, 22, WORDS, 20])
+
+
+def words_lent(out, rng):
+    """One word too few, no word, exactly enough and more: 24 comes after 10."""
+    for p, q in towns.few_words(rng):
+        need = needed(p)
+        several = [(n, k) for n in (need - 1, 0, need, need + 1, WORDS) for k in (1, 16, 0, 17, -1)]
+        out.add("words lent", p, q, [k for _, k in several], listing(p, q), [n for n, _ in several])
+    for number in range(1, 9):
+        _, right = towns.sheet(rng, towns.grid, rng.randint(1, 5))
+        wrong = towns.faulty(rng, number)
+        for p, q in ((wrong, right), (right, wrong)):
+            out.add("bad sheet, no word lent", p, q, [1, 17], None, [0, 0])
+    empty = reading.pack([], [], 3, rng.randint(1, 2))
+    _, some = towns.sheet(rng, towns.grid, 4)
+    out.add("no point in P, no word lent", empty, some, [1, 16, 16], [], [0, 0, 2])
+    out.add("no point in Q, words lent", some, empty, [1, 16, 16], [], [0, 1, 2])
+
+
 def refused(out, rng):
     """P's sheet, then Q's, then k: two faults together get the earlier number. Empty sheets."""
     for p, q, number in towns.both_faulty(rng):
@@ -142,7 +170,9 @@ def cases():
     one_size(out, rng)
     large_pairs(out, rng)
     refused(out, rng)
+    of_forms(out, Chance("shortest of both forms"))
+    words_lent(out, Chance("words for the shortest"))
     assert out.pairs >= 100
-    assert all(out.seen[number] >= 8 for number in (0, 1, 2, 3, 4, 5, 6, 7, 8, 10)), out.seen
+    assert all(out.seen[number] >= 8 for number in (0, 1, 2, 3, 4, 5, 6, 7, 8, 10, 24)), out.seen
     assert all(out.seen[what] >= 8 for what in ("shorter list", "exactly k", "none", "many pages", "tie at the end", "tie of one chamber at the end", "other by p id", "found late")), out.seen
     return out.cases

@@ -1,14 +1,14 @@
 """The part `views` of the tape: calls through views of the listing's two sheets, of sheets with one word changed, of parts of a sheet and of no words at all; the
 views claim counts that need not be their sheet's, and the answer is that of the words alone.
 
-A case, in words: its kind, the lengths of P's and Q's sheet, the number of requests, P's words, Q's words, and for each request the call, the numbers of points
-and of nodes that the view of P claims, those that the view of Q claims, two positions or ids, and a size. A count of -1 stands for the largest that there is. A
-line has the call and its answer: of the kept set and of the pairs and points the first and the last, and of the pairs and points the second; of the call for the
-nearest the four lent numbers after it, of which all are lent, or two.
+A case, in words: its kind, the lengths of P's and Q's sheet, the number of requests, P's words, Q's words, and for each request the number of words lent, the
+call, the numbers of points and of nodes that the view of P claims, those that the view of Q claims, two positions or ids, and a size. A count of -1 stands for
+the largest that there is. A line has the call and its answer: of the pairs and points the first, the second and the last; of the call for the nearest the four
+lent numbers after it, of which all are lent, or two; and what the words hold that were marked before.
 """
 import reading
 from make_listing_cases import P, Q, changed
-from stored import VIEWS, Asked
+from stored import VIEWS, WORDS, Asked, lent_told, marks
 
 OPEN, OPENED_POINT, POINT, FILTER, RING, PAGE, NEAREST, NEAREST_SHORT = range(1, 9)
 LARGEST = 2 ** 64 - 1
@@ -24,53 +24,57 @@ def shown(listed, unused):
     return " ".join(str(word) for k in (0, 1, 15) for word in whole[k])
 
 
+def no_words(line):
+    """Of a call that takes no words, with no word lent."""
+    return line + lent_told(0, [])
+
+
 def open_line(rules, p):
     number = rules.open_number(p)
-    return "open %d %d %d %d" % ((number, 0, 0, 0) if number else (0, len(p), p[-4], p[-3]))
+    return no_words("open %d %d %d %d" % ((number, 0, 0, 0) if number else (0, len(p), p[-4], p[-3])))
 
 
 def point_line(rules, p, position):
     number, point = rules.point_call(p, position)
-    return "point refused %d" % number if number else "point %d %d %d" % tuple(point)
+    return no_words("point refused %d" % number if number else "point %d %d %d" % tuple(point))
 
 
 def opened_point_line(rules, p, position):
     return point_line(rules, [] if rules.open_number(p) else p, position)
 
 
-def filter_line(rules, p, q, j):
-    number, kept, opened = rules.filter_call(p, q, j)
-    words = rules.kept_words(kept)
-    return "filter %d %d %d %d %d" % (number, words[0], words[15], len(kept), opened)
+def filter_line(rules, p, q, j, words):
+    number, kept, opened, after = rules.filter_call(p, q, j, marks(words))
+    return "filter %d %d %d%s" % (number, len(kept), opened, lent_told(words, after))
 
 
 def ring_line(rules, p, q, j, i):
     number, answer, opened = rules.ring_call(p, q, j, i)
-    return "ring refused %d" % number if number else "ring %s, opened %d" % (" ".join(map(str, answer)), opened)
+    return no_words("ring refused %d" % number if number else "ring %s, opened %d" % (" ".join(map(str, answer)), opened))
 
 
-def page_line(rules, p, q, key, size):
-    number, page, opened = rules.page_call(p, q, key, size)
+def page_line(rules, p, q, key, size, words):
+    number, page, opened, after = rules.page_call(p, q, key, size, words=marks(words))
     pairs, end = ([], False) if number else (page.pairs, page.end)
-    return "page %d %d %d%s %s" % (number, opened, len(pairs), " end" * end, shown(pairs, rules.UNUSED))
+    return "page %d %d %d%s %s%s" % (number, opened, len(pairs), " end" * end, shown(pairs, rules.UNUSED), lent_told(words, after))
 
 
 def nearest_line(rules, p, q, q_id, size, lent):
     number, found, after = rules.nearest_call(p, q, q_id, size, LENT[:lent])
-    return "nearest %d %d %s, lent %s" % (number, len(found), shown(found, (0, 0)), " ".join(map(str, after + LENT[lent:])))
+    return no_words("nearest %d %d %s numbers %s" % (number, len(found), shown(found, (0, 0)), " ".join(map(str, after + LENT[lent:]))))
 
 
 class Views(Asked):
     name = "views"
     kind = VIEWS
 
-    def add(self, label, call, asked, p, q=(), claims=(SO, SO), a=0, b=0, size=0):
-        words = [call] + [-1 if count == LARGEST else count for claim in claims for count in claim] + [a, b, size]
-        self.put(label, list(p), list(q), [words], [asked])
+    def add(self, label, call, asked, p, q=(), claims=(SO, SO), a=0, b=0, size=0, words=0):
+        request = [words, call] + [-1 if count == LARGEST else count for claim in claims for count in claim] + [a, b, size]
+        self.put(label, list(p), list(q), [request], [asked])
 
 
 def opened(out):
-    for at, word in ((None, 0), (22, 2), (19, 1001), (17, 18), (0, 0), (6, 1), (10, 1), (15, 11)):
+    for at, word in ((None, 0), (22, 2), (22, 3), (19, 1001), (17, 18), (0, 0), (6, 1), (10, 1), (15, 11)):
         p = P if at is None else changed(P, at, word)
         out.add("opened", OPEN, (open_line, p), p)
         out.add("opened", OPENED_POINT, (opened_point_line, p, 1), p, a=1)
@@ -83,8 +87,8 @@ def points(out, claim):
         out.add("point", POINT, (point_line, p, position), p, claims=(claim, SO), a=position)
 
 
-def filtered(out, p, q, claims, j):
-    out.add("filter walk", FILTER, (filter_line, p, q, j), p, q, claims, j)
+def filtered(out, p, q, claims, j, words=1):
+    out.add("filter walk", FILTER, (filter_line, p, q, j, words), p, q, claims, j, words=words)
 
 
 def walked(out, p, q, claims, j, i):
@@ -93,14 +97,16 @@ def walked(out, p, q, claims, j, i):
 
 def walks(out, claims):
     for j in range(3):
-        filtered(out, P, Q, claims, j)
+        for words in (0, 1, 2, WORDS):
+            filtered(out, P, Q, claims, j, words)
         for i in range(3):
             walked(out, P, Q, claims, j, i)
 
 
 def pages(out, claims):
     for p, key, size in ((P, (0, 0), 2), (P, (5, 2), 2), (P, (6, 2), 2), (P, (5, 3), 2), (P, (0, 2000000001), 0), (P, (0, 0), 0), (P, (0, 0), 17), ([], (0, 2000000001), 0)):
-        out.add("page", PAGE, (page_line, p, Q, key, size), p, Q, claims, *key, size)
+        for words in (0, 1, 2):
+            out.add("page", PAGE, (page_line, p, Q, key, size, words), p, Q, claims, *key, size, words)
 
 
 def nearest(out, claims):
@@ -126,6 +132,11 @@ def cases():
     for ask in (walks, pages, nearest):
         for claims in both:
             ask(out, claims)
-    for p, q in ((changed(P, 22, 2), changed(Q, 19, 1001)), (P, changed(Q, 19, 1001)), (changed(P, 15, 11), changed(Q, 22, 2)), (P, Q)):
+    for p, q in ((changed(P, 22, 3), changed(Q, 19, 1001)), (P, changed(Q, 19, 1001)), (changed(P, 15, 11), changed(Q, 22, 3)), (P, Q)):
         refused(out, p, q)
+    # of form 2, one of them or both
+    for p, q in ((changed(P, 22, 2), Q), (P, changed(Q, 22, 2)), (changed(P, 22, 2), changed(Q, 22, 2))):
+        filtered(out, p, q, (SO, SO), 0)
+        walked(out, p, q, (SO, SO), 0, 1)
+        out.add("page", PAGE, (page_line, p, q, (0, 0), 16, 1), p, q, (SO, SO), 0, 0, 16, 1)
     return out.cases

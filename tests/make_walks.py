@@ -1,14 +1,15 @@
 """The part `walks` of the tape: pairs of sheets with both walks over them: kept words, numbers of bits, hits, nodes opened.
 
-A case, in words: its kind, the lengths of P's and Q's sheet, the numbers of filter walks and of ring walks asked, P's words, Q's words, a position j of Q for
-each filter walk, and positions j of Q and i of P for each ring walk. A position of -1 stands for the largest that a call can be given.
+A case, in words: its kind, the lengths of P's and Q's sheet, the numbers of filter walks and of ring walks asked, P's words, Q's words, the number of words
+lent and a position j of Q for each filter walk, and positions j of Q and i of P for each ring walk. A position of -1 stands for the largest that a call can be
+given. Each word that can be lent holds a mark before the call, and the line of a filter walk ends with what they hold after it.
 """
 import reading
 import towns
 import trees
 from chance import Chance
 from check_reading import walks_mean_the_rule
-from stored import WALKS, Asked
+from stored import WALKS, WORDS, Asked, by_turns, lent_told, marks, needed
 
 LARGEST = 2 ** 64 - 1
 
@@ -17,10 +18,9 @@ def position(word):
     return LARGEST if word < 0 else word
 
 
-def filter_line(rules, p, q, j):
-    number, kept, opened = rules.filter_call(p, q, j)
-    words = " ".join("%x" % word for word in rules.kept_words(kept))
-    return "filter %d: %d %d %d %s" % (j, number, len(kept), opened, words)
+def filter_line(rules, p, q, j, lent):
+    number, kept, opened, after = rules.filter_call(p, q, j, marks(lent))
+    return "filter %d: %d %d %d%s" % (j, number, len(kept), opened, lent_told(lent, after))
 
 
 def ring_line(rules, p, q, j, i):
@@ -33,12 +33,14 @@ class Walks(Asked):
     name = "walks"
     kind = WALKS
 
-    def add(self, label, p, q, filters, rings):
-        words = [self.kind, len(p), len(q), len(filters), len(rings)] + p + q + list(filters) + [word for pair in rings for word in pair]
-        asked = [(filter_line, p, q, position(j)) for j in filters] + [(ring_line, p, q, position(j), position(i)) for j, i in rings]
+    def add(self, label, p, q, filters, rings, lent=None):
+        lent = lent or by_turns(p, len(filters))
+        words = [self.kind, len(p), len(q), len(filters), len(rings)] + p + q
+        words += [word for request in list(zip(lent, filters)) + list(rings) for word in request]
+        asked = [(filter_line, p, q, position(j), n) for n, j in zip(lent, filters)] + [(ring_line, p, q, position(j), position(i)) for j, i in rings]
         for line in self.cases.add(label, words, asked):
             kind, said = line.split()[0], line.split(": ")[1].split()
-            self.seen[" ".join([kind] + said[:1 if said[0] in ("0", "9", "clear") else 2])] += 1
+            self.seen[" ".join([kind] + said[:1 if said[0] in ("0", "9", "24", "clear") else 2])] += 1
             if said[0] == "side":
                 self.seen["named %s" % said[3]] += 1
         self.pairs += 1
@@ -128,6 +130,37 @@ def many_kept(out, rng):
     out.add("more than 256 kept", p, q, range(len(middle)), [(j, i) for j in range(len(middle)) for i in rng.sample(range(len(places)), 3)])
 
 
+def of_forms(out, rng):
+    """Sheets of form 2 to the ends of its range, with each other and with those of form 1; and one that needs more than sixteen words."""
+    for label, p, q in towns.of_forms(rng, 36, 9):
+        np, nq = p[-4], q[-4]
+        walks_mean_the_rule(p, q)
+        out.add(label, p, q, range(nq), rng.sample([(j, i) for j in range(nq) for i in range(np)], min(np * nq, 20)))
+    p, q = towns.many(rng), towns.sheet(rng, towns.province, 6, form=2)[1]
+    kept = [reading.filter_walk(reading.Sheet(p), reading.Sheet(q).place(j))[0] for j in range(6)]
+    assert any(i >= 1024 for some in kept for i in some)
+    filters = [(n, j) for j in range(6) for n in (21, 22)]
+    out.add("1,300 points of form 2", p, q, [j for _, j in filters] + [0, 0], [(j, i) for j in range(6) for i in kept[j][-4:]], [n for n, _ in filters] + [20, 16])
+    out.add("1,300 points of form 2 in Q", q, p, [0, 650, 1299, 1300], [(1299, 0), (1299, 5), (1300, 0)])
+
+
+def words_lent(out, rng):
+    """One word too few, no word, exactly enough and more, with positions in range and not: the sheets' numbers and 9 come before 24, and the words past those
+    needed stay."""
+    for p, q in towns.few_words(rng):
+        need, nq = needed(p), q[-4]
+        requests = [(n, j) for n in (need - 1, 0, need, need + 1, WORDS) for j in (0, nq - 1, nq, -1)]
+        out.add("words lent", p, q, [j for _, j in requests], [], [n for n, _ in requests])
+    for number in range(1, 9):
+        _, right = towns.sheet(rng, towns.grid, rng.randint(1, 5))
+        wrong = towns.faulty(rng, number)
+        out.add("P refused, no word lent", wrong, right, [0, -1], [], [0, 0])
+        out.add("Q refused, no word lent", right, wrong, [0, -1], [], [0, 0])
+    empty = reading.pack([], [], 3, rng.randint(1, 2))
+    _, some = towns.sheet(rng, towns.grid, 4)
+    out.add("no point in P, no word lent", empty, some, [0, 3, 4, 0], [], [0, 0, 0, 3])
+
+
 def refused(out, rng):
     """A bad sheet, P's before Q's, and a position not below n: the earlier number each time. Empty sheets."""
     for p, q, number in towns.both_faulty(rng):
@@ -160,10 +193,12 @@ def cases():
     large_pairs(out, rng)
     refused(out, rng)
     many_kept(out, rng)
+    of_forms(out, Chance("walks of both forms"))
+    words_lent(out, Chance("words for walks"))
     assert out.pairs >= 300
     for answer in ("clear", "point 0", "point 1", "side 0", "side 1"):
         assert out.seen["ring " + answer] >= 50, (answer, out.seen)
     for side in range(4):
         assert out.seen["named %d" % side] >= 50, (side, out.seen)
-    assert out.seen["ring refused 9"] >= 10 and out.seen["filter 9"] >= 10
+    assert out.seen["ring refused 9"] >= 10 and out.seen["filter 9"] >= 10 and out.seen["filter 24"] >= 10
     return out.cases

@@ -14,8 +14,16 @@ NODES = 400
 LEVEL = 7
 COVERED = 16
 SIZE = 16
-THRESHOLD = 1_000
-DIAMETER = 8_000_000_000_000
+# "Request 5's threshold goes to 60,000", "Refusal 15's size limit becomes 8,000,000,000,000,000,000 for every page"
+THRESHOLD = 60_000
+DIAMETER = 8_000_000_000_000_000_000
+
+# "Form number 2: the same words, with up to 60,000 points, 24,000 nodes and coordinates from -1,000,000,000 to 1,000,000,000. Form 1 sheets open as before
+# under their own limits."
+WIDE_POINTS = 60_000
+WIDE_NODES = 24_000
+WIDE_COORDINATE = 1_000_000_000
+LIMITS = {1: (POINTS, NODES, COORDINATE), 2: (WIDE_POINTS, WIDE_NODES, WIDE_COORDINATE)}
 
 
 # ---------------------------------------------------------------- the sheet
@@ -25,7 +33,7 @@ class Sheet:
 
     def __init__(self, words):
         span, root, n, m, edition, form = words[-6:]
-        self.n, self.m, self.edition = n, m, edition
+        self.n, self.m, self.edition, self.form = n, m, edition, form
         self.points = [tuple(words[3 * i:3 * i + 3]) for i in range(n)]
         self.order = words[3 * n:4 * n]
         self.rank = words[4 * n:5 * n]
@@ -35,14 +43,14 @@ class Sheet:
         return self.points[i][1:]
 
 
-# "Ids strictly ascending, 1 to 2,000,000,000; x and y from -1,000,000 to 1,000,000."
-def points_right(points):
+# "Ids strictly ascending, 1 to 2,000,000,000; x and y from -1,000,000 to 1,000,000." Those of form 2 have limits of their own.
+def points_right(points, most):
     for k, (number, x, y) in enumerate(points):
         if number < 1 or number > ID:
             return False
         if k > 0 and points[k - 1][0] >= number:
             return False
-        if x < -COORDINATE or x > COORDINATE or y < -COORDINATE or y > COORDINATE:
+        if x < -most or x > most or y < -most or y > most:
             return False
     return True
 
@@ -120,18 +128,19 @@ def open_number(words):
     if len(words) < 6:
         return 1
     span, root, n, m, edition, form = words[-6:]
-    # 2: form number not 1
-    if form != 1:
+    # 2: "for a form other than 1 or 2"
+    if form not in LIMITS:
         return 2
+    most_points, most_nodes, most = LIMITS[form]
     # 3: n, m or edition out of range. "n is 0 to 1,000, m 0 to 400, edition 1 to 1,000,000,000."
-    if n < 0 or n > POINTS or m < 0 or m > NODES or edition < 1 or edition > EDITION:
+    if n < 0 or n > most_points or m < 0 or m > most_nodes or edition < 1 or edition > EDITION:
         return 3
     # 4: span, root word or length wrong. "span 5n+7m (words back to the start), root (7 words back, or 0 when m is 0)"; "exactly span+6 words"
     if span != 5 * n + 7 * m or root != (0 if m == 0 else 7) or len(words) != span + 6:
         return 4
     sheet = Sheet(words)
     # 5: an id or coordinate breaks its rule
-    if not points_right(sheet.points):
+    if not points_right(sheet.points, most):
         return 5
     # 6: order and rank not as stated
     if not order_right(n, sheet.order, sheet.rank):
@@ -163,13 +172,13 @@ def with_boxes(points, order, runs):
     return nodes
 
 
-def sheet_words(points, order, nodes, edition):
+def sheet_words(points, order, nodes, edition, form=1):
     """The words of a sheet, its nodes given whole."""
     n, m = len(points), len(nodes)
     words = [word for point in points for word in point]
     words += list(order) + ranks(order)
     words += [word for node in nodes for word in node]
-    return words + [5 * n + 7 * m, 7 if m else 0, n, m, edition, 1]
+    return words + [5 * n + 7 * m, 7 if m else 0, n, m, edition, form]
 
 
 # "It makes nodes of 16, the last of a level taking the rest, until one node is left."
@@ -190,16 +199,20 @@ def packed_length(n):
     return 5 * n + 7 * len(runs_of_sixteen(n)) + 6
 
 
-def pack_number(n, point_words, order, edition, out_length):
-    """The number of the first refusal of `pack`: "Pack checks 18, 3, 5, 6, 17." """
+def pack_number(n, point_words, order, edition, out_length, form=1):
+    """The number of the first refusal of `pack`: "Pack checks 18, 3, 5, 6, 17." "pack is told the form" """
     # 18: point words not 3n, or order list not n long
     if len(point_words) != 3 * n or len(order) != n:
         return 18
+    # 2: "for a form other than 1 or 2, in pack after 18"
+    if form not in LIMITS:
+        return 2
+    most_points, most_nodes, most = LIMITS[form]
     # 3: n, m or edition out of range; m is what the packer makes of n
-    if n > POINTS or len(runs_of_sixteen(n)) > NODES or edition < 1 or edition > EDITION:
+    if n > most_points or len(runs_of_sixteen(n)) > most_nodes or edition < 1 or edition > EDITION:
         return 3
     # 5: an id or coordinate breaks its rule
-    if not points_right([tuple(point_words[3 * i:3 * i + 3]) for i in range(n)]):
+    if not points_right([tuple(point_words[3 * i:3 * i + 3]) for i in range(n)], most):
         return 5
     # 6: order not as stated: each position stands at one place
     if sorted(order) != list(range(n)):
@@ -210,10 +223,10 @@ def pack_number(n, point_words, order, edition, out_length):
     return 0
 
 
-def pack(points, order, edition):
+def pack(points, order, edition, form=1):
     """The words that `pack` writes, of points (id, x, y)."""
     nodes = with_boxes(points, order, runs_of_sixteen(len(points)))
-    return sheet_words(points, order, nodes, edition)
+    return sheet_words(points, order, nodes, edition, form)
 
 
 # ---------------------------------------------------------------- the ring rule
@@ -341,12 +354,44 @@ def filter_walk(sheet, q):
     return sorted(kept), opened
 
 
-# "The kept set is one bit a position in sixteen 64-bit words (position i is bit i mod 64, counted from the lowest, of word i div 64)"
-def kept_words(kept):
-    words = [0] * 16
+# "The kept set is one bit a position [..] (position i is bit i mod 64, counted from the lowest, of word i div 64)"
+def kept_words(kept, count):
+    """The kept set on so many words."""
+    words = [0] * count
     for i in kept:
         words[i // 64] |= 1 << (i % 64)
     return words
+
+
+# ---------------------------------------------------------------- lent words
+
+# words enough for any call
+ENOUGH = [7] * 15_008
+
+
+# "Kept bits move to a lent slice of at least as many 64-bit words as the points need, sixteen times as many for a leaf run"
+def words_for(sheet, chambers=1):
+    """How many words the points of a sheet need."""
+    return chambers * -(-sheet.n // 64)
+
+
+# 24: "bit slice too short, after all others but 16 and 25"
+def too_short(words, sheet, chambers=1):
+    return len(words) < words_for(sheet, chambers)
+
+
+# "a filter walk leaves its kept set there"; "none touches words past them"
+def with_kept(words, sheet, kept):
+    """The lent words after the answer of a filter walk."""
+    count = words_for(sheet)
+    return kept_words(kept, count) + words[count:]
+
+
+# "any other call zeros"
+def with_zeros(words, sheet, chambers=1):
+    """The lent words after the answer of any other call."""
+    count = words_for(sheet, chambers)
+    return [0] * count + words[count:]
 
 
 # ---------------------------------------------------------------- the ring walk
@@ -422,17 +467,19 @@ def pair_walk(p, q, j, i):
 # ---------------------------------------------------------------- the calls open to callers
 
 # "A walk, page request or point reader open to callers checks its sheets first .. 1 to 8 for P, then for Q." "Walks name their points by position."
-# 9: "a position not below its sheet's n"
-def filter_call(p_words, q_words, j):
-    """(number, kept positions, opened) of a filter walk of position j of Q over P."""
+# 9: "a position not below its sheet's n". A refusal "leaves lent memory [..] as they stood"
+def filter_call(p_words, q_words, j, words=ENOUGH):
+    """(number, kept positions, opened, the lent words from now on) of a filter walk of position j of Q over P."""
     number = open_number(p_words) or open_number(q_words)
     if number:
-        return number, [], 0
+        return number, [], 0, words
     p, q = Sheet(p_words), Sheet(q_words)
     if j >= q.n:
-        return 9, [], 0
+        return 9, [], 0, words
+    if too_short(words, p):
+        return 24, [], 0, words
     kept, opened = filter_walk(p, q.place(j))
-    return 0, kept, opened
+    return 0, kept, opened, with_kept(words, p, kept)
 
 
 def ring_call(p_words, q_words, j, i):
@@ -523,24 +570,26 @@ def page_opened_of(p, q, key, size, t):
 
 
 # 9: "key out of range", each 0 to 2,000,000,000; 10: size out of range, 1 to 16; "21 t outside 0 to 1,000 [..] after 10 for a page"
-def page_call(p_words, q_words, key, size, t=0, pairs=None):
-    """(number, page, opened) of a page request. `pairs` is the list of ring pairs, made anew where it is not handed in."""
+def page_call(p_words, q_words, key, size, t=0, pairs=None, words=ENOUGH):
+    """(number, page, opened, the lent words from now on) of a page request. `pairs` is the list of ring pairs, made anew where it is not handed in."""
     number = open_number(p_words) or open_number(q_words)
     if number:
-        return number, None, 0
+        return number, None, 0, words
     if key[0] < 0 or key[0] > ID or key[1] < 0 or key[1] > ID:
-        return 9, None, 0
+        return 9, None, 0, words
     if size < 1 or size > SIZE:
-        return 10, None, 0
+        return 10, None, 0, words
     if t < 0 or t > THRESHOLD:
-        return 21, None, 0
+        return 21, None, 0, words
     p, q = Sheet(p_words), Sheet(q_words)
+    if too_short(words, p):
+        return 24, None, 0, words
     if pairs is None:
         pairs = ring_list(p.points, q.points)
     page = page_of(pairs, (p.edition, q.edition), key, size, t)
     opened, found = page_opened_of(p, q, key, size, t) if t > 0 else page_opened(p, q, key, size)
     assert found == page.pairs
-    return 0, page, opened
+    return 0, page, opened, with_zeros(words, p)
 
 
 # ---------------------------------------------------------------- one kind of asset only
@@ -591,44 +640,48 @@ def self_opened(sheet, key, size):
 
 
 # "with one edition in both fields and t 0"; 1 to 8 of the sheet, then 9, then 10
-def own_call(words, key, size, pairs=None):
-    """(number, page, opened) of a page request of a self join. `pairs` is its list, made anew where it is not handed in."""
-    number = open_number(words)
+def own_call(s_words, key, size, pairs=None, words=ENOUGH):
+    """(number, page, opened, the lent words from now on) of a page request of a self join. `pairs` is its list, made anew where it is not handed in."""
+    number = open_number(s_words)
     if number:
-        return number, None, 0
+        return number, None, 0, words
     if not (0 <= key[0] <= ID and 0 <= key[1] <= ID):
-        return 9, None, 0
+        return 9, None, 0, words
     if not 1 <= size <= SIZE:
-        return 10, None, 0
-    sheet = Sheet(words)
+        return 10, None, 0, words
+    sheet = Sheet(s_words)
+    if too_short(words, sheet):
+        return 24, None, 0, words
     if pairs is None:
         pairs = self_list(sheet.points)
     page = page_of(pairs, (sheet.edition, sheet.edition), key, size)
     page.own = True
     opened, found = self_opened(sheet, key, size)
     assert found == page.pairs
-    return 0, page, opened
+    return 0, page, opened, with_zeros(words, sheet)
 
 
 # ---------------------------------------------------------------- whether a chamber has at least t partners
 
 # "For one q id and a t, give the smaller of t and the number of its pairs in the list, and a yes exactly when that is t." "20 unknown q id (single question
 # only); 21 t outside 0 to 1,000, or 0 in the single question", after "1 to 8 for P, then for Q"
-def partners_call(p_words, q_words, q_id, t, pairs=None):
-    """(number, count, yes) of the single question. `pairs` as above."""
+def partners_call(p_words, q_words, q_id, t, pairs=None, words=ENOUGH):
+    """(number, count, yes, the lent words from now on) of the single question. `pairs` as above."""
     number = open_number(p_words) or open_number(q_words)
     if number:
-        return number, 0, False
+        return number, 0, False, words
     p, q = Sheet(p_words), Sheet(q_words)
     if not any(point[0] == q_id for point in q.points):
-        return 20, 0, False
+        return 20, 0, False, words
     if t < 1 or t > THRESHOLD:
-        return 21, 0, False
+        return 21, 0, False, words
+    if too_short(words, p):
+        return 24, 0, False, words
     if pairs is None:
         pairs = ring_list(p.points, q.points)
     many = len([pair for pair in pairs if pair[0] == q_id])
     count = min(t, many)
-    return 0, count, count == t
+    return 0, count, count == t, with_zeros(words, p)
 
 
 # ---------------------------------------------------------------- one run per leaf
@@ -699,20 +752,22 @@ def leaf_opened(p, q, leaf):
 
 # "in a lent slice of pairs; the rest of the slice isn't touched." "Refusals: 19 no such leaf, then 16 exactly when the pairs outnumber the slots", after
 # "1 to 8 for P, then for Q". A refusal "leaves lent memory [..] as they stood"
-def run_call(p_words, q_words, leaf, slots):
-    """(number, how many pairs, opened, the slots from now on) of a run."""
+def run_call(p_words, q_words, leaf, slots, words=ENOUGH):
+    """(number, how many pairs, opened, the slots and the lent words from now on) of a run."""
     number = open_number(p_words) or open_number(q_words)
     if number:
-        return number, 0, 0, slots
+        return number, 0, 0, slots, words
     p, q = Sheet(p_words), Sheet(q_words)
     if leaf >= q.m or q.nodes[leaf][0] != 0:
-        return 19, 0, 0, slots
+        return 19, 0, 0, slots, words
+    if too_short(words, p, 16):
+        return 24, 0, 0, slots, words
     run = leaf_list(p, q, leaf)
     if len(run) > len(slots):
-        return 16, 0, 0, slots
+        return 16, 0, 0, slots, words
     opened, found = leaf_opened(p, q, leaf)
     assert found == run
-    return 0, len(run), opened, run + slots[len(run):]
+    return 0, len(run), opened, run + slots[len(run):], with_zeros(words, p, 16)
 
 
 # ---------------------------------------------------------------- the shortest circles
@@ -724,15 +779,18 @@ def shortest_of(pairs, k):
 
 
 # "k from 1 to 16", "Refusals: 10 for k", after "1 to 8 for P, then for Q"
-def shortest_call(p_words, q_words, k):
-    """(number, pairs) of a request for the shortest circles."""
+def shortest_call(p_words, q_words, k, words=ENOUGH):
+    """(number, pairs, the lent words from now on) of a request for the shortest circles."""
     number = open_number(p_words) or open_number(q_words)
     if number:
-        return number, []
+        return number, [], words
     if k < 1 or k > SIZE:
-        return 10, []
-    pairs = ring_list(Sheet(p_words).points, Sheet(q_words).points)
-    return 0, shortest_of(pairs, k)
+        return 10, [], words
+    p, q = Sheet(p_words), Sheet(q_words)
+    if too_short(words, p):
+        return 24, [], words
+    pairs = ring_list(p.points, q.points)
+    return 0, shortest_of(pairs, k), with_zeros(words, p)
 
 
 # ---------------------------------------------------------------- nearest first
@@ -818,8 +876,8 @@ def near_filter(sheet, q):
 
 # "Waiting boxes and points stand in a lent slice of at least n + m entries, the first n + m zero after an answer, the rest untouched." "Refusals: 20, 10
 # (the filter has no size), then 25 slice shorter than that", after "1 to 8 for P, then for Q"
-def near_number(p_words, q_words, q_id, size, lent):
-    """The number of the first refusal that applies, or 0; `size` is None for the filter."""
+def near_number(p_words, q_words, q_id, size, lent, words):
+    """The number of the first refusal that applies, or 0; `size` is None for the filter, and `words` for the other."""
     number = open_number(p_words) or open_number(q_words)
     if number:
         return number
@@ -830,6 +888,9 @@ def near_number(p_words, q_words, q_id, size, lent):
     # 10: size out of range, 1 to 16
     if size is not None and (size < 1 or size > SIZE):
         return 10
+    # 24: bit slice too short, before 25
+    if words is not None and too_short(words, p):
+        return 24
     # 25: slice shorter than n + m
     if len(lent) < p.n + p.m:
         return 25
@@ -846,21 +907,32 @@ def place_of(q, q_id):
 
 def nearest_call(p_words, q_words, q_id, size, lent):
     """(number, [(id, squared distance)], the lent numbers from now on)."""
-    number = near_number(p_words, q_words, q_id, size, lent)
+    number = near_number(p_words, q_words, q_id, size, lent, None)
     if number:
         return number, [], lent
     p, place = Sheet(p_words), place_of(Sheet(q_words), q_id)
     return 0, [(p.points[i][0], squared_to_point(place, p.place(i))) for i in nearest_points(p, place, size)], wiped(p, lent)
 
 
-def near_filter_call(p_words, q_words, q_id, lent):
-    """(number, kept positions, opened, the lent numbers from now on)."""
-    number = near_number(p_words, q_words, q_id, None, lent)
+def near_filter_call(p_words, q_words, q_id, lent, words=ENOUGH):
+    """(number, kept positions, opened, the lent numbers and the lent words from now on)."""
+    number = near_number(p_words, q_words, q_id, None, lent, words)
     if number:
-        return number, [], 0, lent
+        return number, [], 0, lent, words
     p, place = Sheet(p_words), place_of(Sheet(q_words), q_id)
     kept, opened = near_filter(p, place)
-    return 0, kept, opened, wiped(p, lent)
+    return 0, kept, opened, wiped(p, lent), with_kept(words, p, kept)
+
+
+# ---------------------------------------------------------------- the map marker
+
+# "The map marker of two places [..]: doubled, each is exactly the sum of the two coordinates." 5: a coordinate breaks its rule; "the marker takes the wider
+# coordinates"
+def mark_call(a, b):
+    """(number, both numbers of the marker, doubled)."""
+    if any(abs(word) > WIDE_COORDINATE for word in a + b):
+        return 5, (0, 0)
+    return 0, (a[0] + b[0], a[1] + b[1])
 
 
 # ---------------------------------------------------------------- the book
@@ -872,7 +944,8 @@ class Book:
         self.editions, self.t, self.own, self.held, self.closed = editions, t, own, 0, False
 
 
-# 3: edition out of range; "21 t outside 0 to 1,000 [..] after [..] 3 for begin"; "begin gives 3 for a self join of two editions, 21 with a t"
+# 3: edition out of range; "21 t outside 0 to 1,000 [..] after [..] 3 for begin", to 60,000 since request 9; "begin gives 3 for a self join of two editions,
+# 21 with a t"
 def begin(editions, t=0, own=False):
     if any(edition < 1 or edition > EDITION for edition in editions):
         return 3, None
@@ -917,7 +990,7 @@ def take(book, slots, page, page_count=None):
     if page.key != next_key(book, slots)[1]:
         return 14
     # 15: over 16 pairs; an id outside 1 to 2,000,000,000; pairs not ascending strictly after the key; no pair and no end mark; "15 is also given when a size
-    # lies outside 0 to 8,000,000,000,000"
+    # lies outside" its limit
     if count > SIZE:
         return 15
     last = page.key

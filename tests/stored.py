@@ -10,10 +10,44 @@ TOP = os.path.join(os.path.dirname(os.path.abspath(__file__)), "..")
 
 # The kinds of cases on the tape, as crates/trial knows them: a 0 ends it, and 6 is the program's own, for the ring walks of a case of walks.
 RULES, OPEN, POINT, PACK, WALKS = range(1, 6)
-PAGES, PARTNERS, OWN, RUNS, SHORTEST, NEAR, VIEWS = range(7, 14)
+PAGES, PARTNERS, OWN, RUNS, SHORTEST, NEAR, VIEWS, MARK = range(7, 15)
 
-# of the kinds that are asked of two sheets: the words of a request
-WIDTH = {PAGES: 4, PARTNERS: 2, OWN: 3, RUNS: 2, SHORTEST: 1, NEAR: 4, VIEWS: 8}
+# of the kinds that are asked of two sheets: the words of a request, of which the first says how many words for kept bits are lent
+WIDTH = {PAGES: 5, PARTNERS: 3, OWN: 4, RUNS: 3, SHORTEST: 2, NEAR: 5, VIEWS: 9}
+
+# How many words for kept bits the program has, of which some are lent; what number k of those that can be lent holds before a call.
+WORDS = 512
+FIRST_MARK = 0xA5A5A5A500000000
+
+
+def marks(count):
+    return [FIRST_MARK + k for k in range(count)]
+
+
+def told(numbers):
+    """What is printed of numbers after a call: how many are 0 from the first on, how many hold their mark up to the last, and those between."""
+    zeros = next((k for k, number in enumerate(numbers) if number), len(numbers))
+    end = len(numbers)
+    while end > zeros and numbers[end - 1] == FIRST_MARK + end - 1:
+        end -= 1
+    return " ".join(["%d %d" % (zeros, len(numbers) - end)] + ["%x" % number for number in numbers[zeros:end]])
+
+
+def lent_told(lent, after):
+    """The end of a line: how many words are lent, and what all hold after the call."""
+    return " lent %d %s" % (lent, told(after + marks(WORDS)[lent:]))
+
+
+def needed(p, chambers=1):
+    """How many words P needs, as its trailer says; none where it has no right one."""
+    n = p[-4] if len(p) >= 6 else 0
+    return chambers * -(-n // 64) if 0 <= n <= reading.WIDE_POINTS else 0
+
+
+def by_turns(p, count, chambers=1):
+    """How many words are lent with each of so many requests: exactly enough, one more, and all, in turn."""
+    need = needed(p, chambers)
+    return [min((need, need + 1, WORDS)[k % 3], WORDS) for k in range(count)]
 
 
 def split(tape):
@@ -24,13 +58,15 @@ def split(tape):
         kind = words[at]
         if kind == RULES:
             end = at + 1
+        elif kind == MARK:
+            end = at + 5
         elif kind == PACK:
-            end = at + 8 + sum(words[at + 4:at + 6])
+            end = at + 9 + sum(words[at + 5:at + 7])
         elif kind in (OPEN, POINT):
             end = at + 2 + words[at + 1] + (kind == POINT)
         elif kind == WALKS:
             p, q, filters, rings = words[at + 1:at + 5]
-            end = at + 5 + p + q + filters + 2 * rings
+            end = at + 5 + p + q + 2 * filters + 2 * rings
         else:
             p, q, count = words[at + 1:at + 4]
             end = at + 4 + p + q + WIDTH[kind] * count

@@ -55,23 +55,23 @@ def stored(name):
 # ---------------------------------------------------------------- the two programs, read from the rules
 
 def packing(given):
-    if len(given) < 8 or len(given) % 4 or len(given) > 4 * 4002:
+    if len(given) < 12 or len(given) % 4 or len(given) > 4 * 240_003:
         return b"refused input\n"
-    n, edition, *rest = unpacked(given)
-    n, edition = (v if v >= 0 else 2 ** 32 for v in (n, edition))
+    form, n, edition, *rest = unpacked(given)
+    form, n, edition = (v if v >= 0 else 2 ** 32 for v in (form, n, edition))
     points, order = rest[:3 * n], rest[3 * n:]
-    number = reading.pack_number(n, points, order, edition, reading.packed_length(n) if n <= reading.POINTS else 0)
+    number = reading.pack_number(n, points, order, edition, reading.packed_length(n) if n <= 60_000 else 0, form)
     if number:
         return b"refused %d\n" % number
-    return packed(reading.pack([tuple(points[3 * i:3 * i + 3]) for i in range(n)], order, edition))
+    return packed(reading.pack([tuple(points[3 * i:3 * i + 3]) for i in range(n)], order, edition, form))
 
 
 def opening(given):
-    if len(given) % 4 or len(given) > 4 * 7806:
+    if len(given) % 4 or len(given) > 4 * 468_006:
         return b"refused input\n"
     words = unpacked(given)
     number = reading.open_number(words)
-    return b"refused %d\n" % number if number else b"opens %d %d %d\n" % tuple(words[-4:-1])
+    return b"refused %d\n" % number if number else b"opens %d %d %d %d\n" % tuple(words[-4:])
 
 
 def read_programs(name, given):
@@ -110,11 +110,14 @@ class Folder(unittest.TestCase):
 
 
 class FromCsv(Folder):
-    def there_and_back(self, text, edition=5):
+    def there_and_back(self, text, edition=5, form=1):
         source, out = self.file("a.csv", text), os.path.join(self.folder, "a.sheet")
         status, told, said = called(sheet, "make", source, "--edition", str(edition), "--out", out)
         self.assertEqual((status, said), (0, ""))
-        self.assertIn("edition %d" % edition, told)
+        self.assertIn("edition %d, form %d" % (edition, form), told)
+        with open(out, "rb") as f:
+            self.assertEqual(unpacked(f.read())[-1], form)
+        self.assertIn("edition %d, form %d" % (edition, form), called(sheet, "why", out)[1])
         status, told, said = called(sheet, "csv", out)
         self.assertEqual((status, said), (0, ""))
         return told
@@ -142,14 +145,22 @@ class FromCsv(Folder):
         text = "id,x,y\n" + "".join("%d,%d,%d\n" % (3 * k + 1, k % 31 - 15, k * k % 1999) for k in range(1000))
         self.assertEqual(self.there_and_back(text, 1_000_000_000), text)
 
+    def test_form_2_where_the_points_need_it(self):
+        text = "id,x,y\n" + "".join("%d,%d,%d\n" % (3 * k + 1, k % 31 - 15, k * k % 1999) for k in range(1001))
+        self.assertEqual(self.there_and_back(text, form=2), text)
+        for row in ("1,1000001,0", "1,0,-1000001", "1,-1000000000,1000000000"):
+            self.assertEqual(self.there_and_back("id,x,y\n%s\n2,5,5\n" % row, form=2), "id,x,y\n%s\n2,5,5\n" % row)
+        # bytes that a refusal begins with
+        self.assertEqual(self.there_and_back("id,x,y\n1969645938,6579571,0\n", form=2), "id,x,y\n1969645938,6579571,0\n")
+
     def test_faults_are_told_with_their_line(self):
-        long = "".join("%d,0,0\n" % k for k in range(1, 1002))
+        long = "".join("%d,0,0\n" % k for k in range(1, 60_002))
         for text, told in [
             ("id,x,y\n1,2,3\n4,5,6\n1,7,8\n", "line 4: the id 1 stands in line 2 already"),
             ("1,2,3\n0,5,6\n", "line 2: the id 0 is not from 1 to 2000000000"),
             ("1,2,3\n2000000001,5,6\n", "line 2: the id 2000000001 is not from 1 to 2000000000"),
-            ("1,1000001,3\n", "line 1: the x 1000001 is not from -1000000 to 1000000"),
-            ("id,x,y\n\n1,3,-1000001\n", "line 3: the y -1000001 is not from -1000000 to 1000000"),
+            ("1,1000000001,3\n", "line 1: the x 1000000001 is not from -1000000000 to 1000000000"),
+            ("id,x,y\n\n1,3,-1000000001\n", "line 3: the y -1000000001 is not from -1000000000 to 1000000000"),
             ("id,x,y\n1,two,3\n", "line 2: the x 'two' is no whole number"),
             ("1,2.5,3\n", "line 1: the x '2.5' is no whole number"),
             ("1,1_000,3\n", "line 1: the x '1_000' is no whole number"),
@@ -157,8 +168,8 @@ class FromCsv(Folder):
             ("1,2,3\nid,x,y\n", "line 2: the id 'id' is no whole number"),
             ("1,2,3\n4,5\n", "line 2: 2 fields where id,x,y are three"),
             ("1,2,3,4\n", "line 1: 4 fields where id,x,y are three"),
-            (long, "line 1001: over 1000 rows"),
-            ("id,x,y\n" + long, "line 1002: over 1000 rows"),
+            (long, "line 60001: over 60000 rows"),
+            ("id,x,y\n" + long, "line 60002: over 60000 rows"),
         ]:
             source, out = self.file("a.csv", text), os.path.join(self.folder, "none.sheet")
             status, printed, said = called(sheet, "make", source, "--edition", "1", "--out", out)
@@ -197,7 +208,7 @@ def damaged():
         return other
 
     return [
-        (1, words[-5:]), (1, []), (2, with_word(-1, 2)), (3, with_word(-2, 0)), (3, with_word(-4, 1001)), (4, with_word(-6, words[-6] + 1)), (4, [0] + words),
+        (1, words[-5:]), (1, []), (2, with_word(-1, 3)), (2, with_word(-1, 0)), (3, with_word(-2, 0)), (3, with_word(-4, 1001)), (4, with_word(-6, words[-6] + 1)), (4, [0] + words),
         (4, with_word(-5, 0)), (5, with_word(1, 1_000_001)), (5, with_word(3, words[0])), (6, with_word(3 * n, words[3 * n + 1])), (6, with_word(4 * n, n)),
         (7, with_word(5 * n, 1)), (7, with_word(5 * n + 2, 17)), (8, with_word(5 * n + 3, words[5 * n + 3] - 1)), (8, with_word(5 * n + 7 * m - 1, 1_000_000)),
     ]
@@ -208,7 +219,7 @@ class Why(Folder):
         for name, edition in MADE.items():
             status, told, said = called(sheet, "why", os.path.join(TOWN, name + ".sheet"))
             self.assertEqual((status, said), (0, ""))
-            self.assertTrue(told.endswith("points, %d nodes, edition %d\n" % (unpacked(stored(name + ".sheet"))[-3], edition)))
+            self.assertTrue(told.endswith("points, %d nodes, edition %d, form 1\n" % (unpacked(stored(name + ".sheet"))[-3], edition)))
 
     def test_each_number_in_words(self):
         self.assertEqual({number for number, _ in damaged()}, set(sheet.WHY))
@@ -220,10 +231,10 @@ class Why(Folder):
             self.assertEqual((status, told, said), (1, "", "tools/sheet: %s is refused by %d: %s\n" % (path, number, sheet.WHY[number])))
 
     def test_no_words(self):
-        for data in (b"abc", bytes(31_228)):
+        for data in (b"abc", bytes(1_872_028)):
             path = self.file("bad.sheet", data)
             status, told, _ = called(sheet, "why", path)
-            self.assertEqual((status, told), (1, "%s is refused: a sheet is a number of 4-byte words, and at most 31,224 bytes\n" % path))
+            self.assertEqual((status, told), (1, "%s is refused: a sheet is a number of 4-byte words, and at most 1,872,024 bytes\n" % path))
 
 
 class Town(Folder):
@@ -269,18 +280,49 @@ def odd_inputs():
     """Inputs of both programs at their edges."""
     rows = [(1, 0, 0), (2, 10, 0)]
     flat = [v for row in rows for v in row]
-    for words in ([2, 7] + flat + [0, 1], [2, 7] + flat + [1, 0], [2, 7] + flat + [0, 0], [2, 7] + flat + [0, 2], [2, 7] + flat + [0], [2, 7] + flat + [0, 1, 1], [3, 7] + flat + [0, 1],
-                  [2, 0] + flat + [0, 1], [2, -1] + flat + [0, 1], [2, 1_000_000_001] + flat + [0, 1], [-2, 7] + flat + [0, 1], [0, 7], [-1, 7], [-2 ** 31, 7], [2 ** 31 - 1, 7], [1, 7, 5, 0, 1_000_001, 0],
-                  [1, 7, 0, 0, 0, 0], [1, 7, 2_000_000_000, -1_000_000, 1_000_000, 0], [2, 7, 2, 0, 0, 2, 0, 0, 0, 1], [1001, 7] + [0] * 3998, [1000, 7] + [0] * 4000):
-        yield packed(words)
-    for n in (15, 16, 17, 256, 257, 1000):
-        yield packed([n, 9] + [v for k in range(n) for v in (k + 1, k * 7 % 100, -k)] + list(range(n))[::-1])
-    for length in (0, 3, 4, 7, 8, 9, 23, 24, 25, 16_007, 16_008, 16_009, 16_012, 31_220, 31_223, 31_224, 31_225, 31_228, 70_000):
+    for form in (1, 2):
+        for words in ([0, 1], [1, 0], [0, 0], [0, 2], [0], [0, 1, 1]):
+            yield packed([form, 2, 7] + flat + words)
+        for words in ([3, 7], [2, 0], [2, -1], [2, 1_000_000_001], [-2, 7]):
+            yield packed([form] + words + flat + [0, 1])
+        for words in ([0, 7], [-1, 7], [-2 ** 31, 7], [2 ** 31 - 1, 7], [1, 7, 0, 0, 0, 0], [1, 7, 2_000_000_000, -1_000_000, 1_000_000, 0], [2, 7, 2, 0, 0, 2, 0, 0, 0, 1]):
+            yield packed([form] + words)
+        for x in (1_000_000, 1_000_001, 1_000_000_000, 1_000_000_001):
+            yield packed([form, 1, 7, 5, 0, x, 0])
+            yield packed([form, 1, 7, 5, -x, 0, 0])
+        for n, left in ((1000, 4000), (1001, 3998), (1001, 4004), (60_000, 240_000), (60_001, 239_999), (80_000, 240_000), (80_001, 240_000)):
+            yield packed([form, n, 7] + [0] * left)
+        for n in (15, 16, 17, 256, 257, 1000, 1001, 4096, 4097):
+            yield packed([form, n, 9] + [v for k in range(n) for v in (k + 1, k * 7 % 100, -k)] + list(range(n))[::-1])
+    for form in (0, 3, -1, -2 ** 31, 2 ** 31 - 1):
+        for words in ([2, 7] + flat + [0, 1], [2, 7] + flat + [0], [2, 0] + flat + [0, 0], [0, 7]):
+            yield packed([form] + words)
+    yield packed([2, 7] + flat + [0, 1])
+    for length in (0, 3, 4, 7, 8, 11, 12, 13, 23, 24, 25, 31_224, 70_000, 960_008, 960_011, 960_012, 960_013, 960_016):
+        yield bytes(length)
+    for length in (1_872_020, 1_872_023, 1_872_024, 1_872_025, 1_872_028, 2_000_000):
         yield bytes(length)
     for _, words in damaged():
         yield packed(words)
+        yield packed(words[:-1] + [2])
     for name in MADE:
         yield stored(name + ".sheet")
+
+
+def province(leaves):
+    """The words of a sheet of form 2 with as many points as it may have, over so many leaves."""
+    n, runs, first = 60_000, [], 0
+    points = [(30_000 * k + 7, 1_000 * (k * 7_919 % 2_000_001 - 1_000_000), 1_000 * (k * 104_729 % 2_000_001 - 1_000_000)) for k in range(n)]
+    order = [k * 7 % n for k in range(1, n)] + [0]
+    for k in range(leaves):
+        runs.append((0, first, n // leaves + (k < n % leaves)))
+        first += runs[-1][2]
+    level, first, count = 1, 0, leaves
+    while count > 1:
+        here = len(runs)
+        runs += [(level, first + k, min(16, count - k)) for k in range(0, count, 16)]
+        level, first, count = level + 1, here, len(runs) - here
+    return reading.sheet_words(points, order, reading.with_boxes(points, order, runs), 9, 2)
 
 
 class Whole(unittest.TestCase):
@@ -288,6 +330,21 @@ class Whole(unittest.TestCase):
         for given in odd_inputs():
             for name in ("packing", "opening"):
                 self.assertEqual(sheet.kit.run(name, given), read_programs(name, given), "%s on %d bytes" % (name, len(given)))
+
+    def test_largest_sheets(self):
+        words = province(3_750)
+        n = words[-4]
+        given = packed([2, n, 9] + words[:4 * n])
+        made = sheet.kit.run("packing", given)
+        self.assertEqual(made, packed(words))
+        self.assertEqual(sheet.kit.run("opening", made), b"opens 60000 4001 9 2\n")
+        self.assertEqual(sheet.kit.run("opening", packed(words[:-1] + [1])), b"refused 3\n")
+        words = province(22_498)
+        self.assertEqual(len(words), 468_006)
+        self.assertEqual(sheet.kit.run("opening", packed(words)), b"opens 60000 24000 9 2\n")
+        words[5 * n + 3] += 1
+        self.assertEqual(sheet.kit.run("opening", packed(words)), b"refused 8\n")
+        self.assertEqual(sheet.kit.run("opening", packed(province(22_499))), b"refused input\n")
 
     def test_commands(self):
         names = [os.path.join("examples", "town", name) for name in ("pumps.sheet", "chambers.sheet")]

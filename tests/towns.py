@@ -1,4 +1,6 @@
 """Pairs of sheets for the walks and the pages: points where the rules are tight, over trees of every shape."""
+import math
+
 import reading
 import trees
 from faults import faults
@@ -21,9 +23,8 @@ def circle(rng, n):
     return [(0, 0) if rng.random() < 0.1 else rng.choice(round_it) for _ in range(n)]
 
 
-def corner(rng, n):
+def corner(rng, n, far=reading.COORDINATE):
     """At the corners of the range, and one step inside."""
-    far = reading.COORDINATE
     return [(rng.choice([-1, 1]) * (far - rng.randint(0, 1)), rng.choice([-1, 1]) * (far - rng.randint(0, 1))) for _ in range(n)]
 
 
@@ -37,11 +38,30 @@ def town(rng, n):
     return [(rng.randint(-40, 40), rng.randint(-40, 40)) for _ in range(n)]
 
 
-def land(rng, n):
-    return [(rng.randint(-reading.COORDINATE, reading.COORDINATE), rng.randint(-reading.COORDINATE, reading.COORDINATE)) for _ in range(n)]
+def land(rng, n, far=reading.COORDINATE):
+    return [(rng.randint(-far, far), rng.randint(-far, far)) for _ in range(n)]
 
 
 PLACES = [grid, line, circle, corner, spots, town, land]
+
+
+def ends(rng, n):
+    """At the corners of form 2's range, and one step inside."""
+    return corner(rng, n, reading.WIDE_COORDINATE)
+
+
+def province(rng, n):
+    return land(rng, n, reading.WIDE_COORDINATE)
+
+
+def wheel(rng, n):
+    """On one circle as large as form 2's range, its centre among them now and then."""
+    places = circle(rng, n)
+    radius = max(1, max(math.isqrt(x * x + y * y) for x, y in places))
+    return [(x * (reading.WIDE_COORDINATE // radius), y * (reading.WIDE_COORDINATE // radius)) for x, y in places]
+
+
+WIDE_PLACES = [ends, province, wheel]
 
 
 def tree(rng, n):
@@ -57,12 +77,34 @@ def tree(rng, n):
     return "packed by 16", reading.runs_of_sixteen(n)
 
 
-def sheet(rng, places, n, edition=None):
+def sheet(rng, places, n, edition=None, form=1):
     """The name of the tree, and the words of a sheet of n points."""
     points = [(number,) + place for number, place in zip(trees.ids(rng, n), places(rng, n))]
     order = trees.near(rng, points) if rng.random() < 0.6 else trees.shuffled(rng, n)
     name, shape = tree(rng, n)
-    return name, trees.sheet(points, order, shape, edition or rng.randint(1, 1000))
+    return name, trees.sheet(points, order, shape, edition or rng.randint(1, 1000), form)
+
+
+def of_forms(rng, count, most):
+    """So many pairs of sheets, of at most so many points each, of which one is of form 2 at least and fills its range: a label, P and Q."""
+    for k in range(count):
+        forms = ((2, 2), (2, 1), (1, 2))[k % 3]
+        places = WIDE_PLACES[k // 3 % len(WIDE_PLACES)]
+        p, q = [sheet(rng, places if form == 2 else rng.choice(PLACES), rng.randint(1, most), form=form)[1] for form in forms]
+        yield "%s, forms %d and %d" % (places.__name__, *forms), p, q
+
+
+def many(rng, n=1300):
+    """A sheet of form 2 of more points than form 1 has, packed by 16: they need more than sixteen words."""
+    points = [(number,) + place for number, place in zip(trees.ids(rng, n, reading.ID), province(rng, n))]
+    return trees.sheet(points, trees.near(rng, points), reading.runs_of_sixteen(n), 44, 2)
+
+
+def few_words(rng):
+    """Sheets whose points fill the last word that they need, or have it alone: for each P and Q."""
+    for n in (1, 2, 63, 64, 65, 128, 129):
+        form = rng.randint(1, 2)
+        yield sheet(rng, rng.choice([town, land]), n, form=form)[1], sheet(rng, town, rng.randint(2, 4))[1]
 
 
 def faulty(rng, number):

@@ -46,9 +46,9 @@ def singles(n, highest):
     return runs([[1] * n] * highest + [[n]])
 
 
-def sheet(points, order, shape, edition):
+def sheet(points, order, shape, edition, form=1):
     """The words of a sheet over a tree of the given (level, first, count)."""
-    return reading.sheet_words(points, order, reading.with_boxes(points, order, shape), edition)
+    return reading.sheet_words(points, order, reading.with_boxes(points, order, shape), edition, form)
 
 
 def ids(rng, n, most=None):

@@ -5,7 +5,7 @@ import types
 HERE = os.path.dirname(os.path.abspath(__file__))
 
 FIVE_THEN_SIX = '''    # 5: an id or coordinate breaks its rule
-    if not points_right(sheet.points):
+    if not points_right(sheet.points, most):
         return 5
     # 6: order and rank not as stated
     if not order_right(n, sheet.order, sheet.rank):
@@ -13,7 +13,7 @@ FIVE_THEN_SIX = '''    # 5: an id or coordinate breaks its rule
 '''
 SIX_THEN_FIVE = '''    if not order_right(n, sheet.order, sheet.rank):
         return 6
-    if not points_right(sheet.points):
+    if not points_right(sheet.points, most):
         return 5
 '''
 SIX_THEN_SEVENTEEN = '''    if sorted(order) != list(range(n)):
@@ -31,11 +31,11 @@ FIRST_OF_TWO = "    answer, opened = ring_walk(q, 1, a, b, j)\n    if answer != 
 OTHER_FIRST = "    answer, opened = ring_walk(p, 0, a, b, i)\n    if answer != CLEAR:\n        return answer, opened\n    answer, more = ring_walk(q, 1, a, b, j)\n"
 SHEETS_OF_PAGE = '''handed in."""
     number = open_number(p_words) or open_number(q_words)'''
-KEY_THEN_SIZE = '''        return 9, None, 0
+KEY_THEN_SIZE = '''        return 9, None, 0, words
     if size < 1 or size > SIZE:
-        return 10, None, 0
+        return 10, None, 0, words
     if t < 0 or t > THRESHOLD:
-        return 21, None, 0
+        return 21, None, 0, words
     p, q'''
 AFTER_KEY = "            if len(partners) >= t and key_of(pair) > key:\n"
 WALKED_WHOLE = '''            answer, more = pair_walk(p, q, j, i)
@@ -43,15 +43,26 @@ WALKED_WHOLE = '''            answer, more = pair_walk(p, q, j, i)
             if answer == CLEAR:
                 partners.append('''
 KNOWN_THEN_T = '''    if not any(point[0] == q_id for point in q.points):
-        return 20, 0, False
+        return 20, 0, False, words
     if t < 1 or t > THRESHOLD:
-        return 21, 0, False
+        return 21, 0, False, words
 '''
 T_THEN_KNOWN = '''    if t < 1 or t > THRESHOLD:
-        return 21, 0, False
+        return 21, 0, False, words
     if not any(point[0] == q_id for point in q.points):
-        return 20, 0, False
+        return 20, 0, False, words
 '''
+
+FORM_OF_OPEN = '''    # 2: "for a form other than 1 or 2"
+    if form not in LIMITS:
+        return 2
+'''
+FORM_OF_PACK = '''    # 2: "for a form other than 1 or 2, in pack after 18"
+    if form not in LIMITS:
+        return 2
+'''
+NOT_18 = "    if len(point_words) != 3 * n or len(order) != n:\n        return 18\n"
+LIMITS_OF_PACK = "    most_points, most_nodes, most = LIMITS[form]\n    # 3: n, m or edition out of range; m is"
 
 SHEETS = [
     ("POINTS = 1_000", "POINTS = 999"),
@@ -66,8 +77,35 @@ SHEETS = [
     ("ID = 2_000_000_000", "ID = 2_000_000_001"),
     ("EDITION = 1_000_000_000", "EDITION = 999_999_999"),
     ("EDITION = 1_000_000_000", "EDITION = 1_000_000_001"),
-    ("COORDINATE = 1_000_000", "COORDINATE = 999_999"),
-    ("COORDINATE = 1_000_000", "COORDINATE = 1_000_001"),
+    ("\nCOORDINATE = 1_000_000\n", "\nCOORDINATE = 999_999\n"),
+    ("\nCOORDINATE = 1_000_000\n", "\nCOORDINATE = 1_000_001\n"),
+    # the limits of form 2; form 1 under those of form 2, and form 2 under those of form 1; a third form, as form 2 or as form 1
+    ("WIDE_POINTS = 60_000", "WIDE_POINTS = 59_999"),
+    ("WIDE_POINTS = 60_000", "WIDE_POINTS = 60_001"),
+    ("WIDE_NODES = 24_000", "WIDE_NODES = 23_999"),
+    ("WIDE_NODES = 24_000", "WIDE_NODES = 24_001"),
+    ("WIDE_COORDINATE = 1_000_000_000", "WIDE_COORDINATE = 999_999_999"),
+    ("WIDE_COORDINATE = 1_000_000_000", "WIDE_COORDINATE = 1_000_000_001"),
+    ("{1: (POINTS, NODES, COORDINATE)", "{1: (WIDE_POINTS, WIDE_NODES, WIDE_COORDINATE)"),
+    ("2: (WIDE_POINTS, WIDE_NODES, WIDE_COORDINATE)}", "2: (POINTS, NODES, COORDINATE)}"),
+    ("2: (WIDE_POINTS, WIDE_NODES, WIDE_COORDINATE)}", "2: (POINTS, WIDE_NODES, WIDE_COORDINATE)}"),
+    ("2: (WIDE_POINTS, WIDE_NODES, WIDE_COORDINATE)}", "2: (WIDE_POINTS, NODES, WIDE_COORDINATE)}"),
+    ("2: (WIDE_POINTS, WIDE_NODES, WIDE_COORDINATE)}", "2: (WIDE_POINTS, WIDE_NODES, COORDINATE)}"),
+    (FORM_OF_OPEN, "    if form < 1:\n        return 2\n    form = min(form, 2)\n"),
+    (FORM_OF_OPEN, FORM_OF_OPEN.replace("form not in LIMITS", "form != 1")),
+    # 2 of pack: before 18; after 3; not at all; pack knows form 1 alone; its limits, whatever the form; every sheet is packed as form 1
+    (NOT_18, "    if form not in LIMITS:\n        return 2\n" + NOT_18),
+    (FORM_OF_PACK, FORM_OF_PACK.replace("return 2", "return 3 if edition < 1 or edition > EDITION else 2")),
+    (FORM_OF_PACK, "    form = form if form in LIMITS else 1\n"),
+    (FORM_OF_PACK, FORM_OF_PACK.replace("form not in LIMITS", "form != 1")),
+    (LIMITS_OF_PACK, LIMITS_OF_PACK.replace("LIMITS[form]", "LIMITS[1]")),
+    (LIMITS_OF_PACK, LIMITS_OF_PACK.replace("LIMITS[form]", "LIMITS[2]")),
+    ("    return sheet_words(points, order, nodes, edition, form)\n", "    return sheet_words(points, order, nodes, edition)\n"),
+    # the marker: of form 1's range; of a range without its ends; one place alone is looked at; halves in whole numbers
+    ("abs(word) > WIDE_COORDINATE", "abs(word) > COORDINATE"),
+    ("abs(word) > WIDE_COORDINATE", "abs(word) >= WIDE_COORDINATE"),
+    ("abs(word) > WIDE_COORDINATE for word in a + b", "abs(word) > WIDE_COORDINATE for word in a"),
+    ("    return 0, (a[0] + b[0], a[1] + b[1])\n", "    return 0, ((a[0] + b[0]) // 2 * 2, (a[1] + b[1]) // 2 * 2)\n"),
     ("if number < 1 or number > ID:", "if number < 0 or number > ID:"),
     ("points[k - 1][0] >= number", "points[k - 1][0] > number"),
     ("if word < 0 or word > n - 1:", "if word < 0 or word > n:"),
@@ -80,8 +118,7 @@ SHEETS = [
     (" or root != (0 if m == 0 else 7)", ""),
     (" or len(words) != span + 6:", ":"),
     ("if span != 5 * n + 7 * m or", "if"),
-    ("if form != 1:", "if form < 1:"),
-    ("m < 0 or m > NODES or edition < 1", "m < 0 or m > NODES or edition < 0"),
+    ("m < 0 or m > most_nodes or edition < 1", "m < 0 or m > most_nodes or edition < 0"),
     (FIVE_THEN_SIX, SIX_THEN_FIVE),
     (SIX_THEN_SEVENTEEN, SEVENTEEN_THEN_SIX),
     ("        if len(runs) - here == 1:\n            break\n", "        if len(runs) - here <= 2:\n            break\n"),
@@ -114,7 +151,49 @@ SKIPS = [
     (CORNERS_BEHIND, "return behind(q, p, (box[0] if p[0] < q[0] else box[2], box[1] if p[1] < q[1] else box[3])) and"),
 ]
 
-WALKS = [
+ENOUGH_LENT = "    return len(words) < words_for(sheet, chambers)\n"
+WORDS_NEEDED = "    return chambers * -(-sheet.n // 64)\n"
+KEPT_LEFT = "    return kept_words(kept, count) + words[count:]\n"
+ZEROS_LEFT = "    return [0] * count + words[count:]\n"
+
+# of every call that filters: exactly enough words are too few; one too few is enough; no number of them is; as many as whole words are filled; one more than
+# that; sixteen always, as before
+LENT = [
+    (ENOUGH_LENT, ENOUGH_LENT.replace("<", "<=")),
+    (ENOUGH_LENT, ENOUGH_LENT.replace("len(words)", "len(words) + 1")),
+    (ENOUGH_LENT, "    return False\n"),
+    (WORDS_NEEDED, "    return chambers * (sheet.n // 64)\n"),
+    (WORDS_NEEDED, "    return chambers * (sheet.n // 64 + 1)\n"),
+    (WORDS_NEEDED, "    return chambers * 16\n"),
+]
+
+# of a filter walk: zeros are left; what stood there is kept too; words past those needed are touched; nothing is left
+LEFT = LENT + [
+    (KEPT_LEFT, "    return [0] * count + words[count:]\n"),
+    (KEPT_LEFT, "    return [one | other for one, other in zip(kept_words(kept, count), words)] + words[count:]\n"),
+    (KEPT_LEFT, "    return kept_words(kept, len(words))\n"),
+    (KEPT_LEFT, "    return words\n"),
+]
+
+# of any other call: the words are as they were; words past those needed are touched; the last of those needed is as it was
+ZEROS = LENT + [
+    (ZEROS_LEFT, "    return words\n"),
+    (ZEROS_LEFT, "    return [0] * len(words)\n"),
+    (ZEROS_LEFT, "    return [0] * (count - 1) + words[max(0, count - 1):]\n"),
+]
+
+NINE_THEN_SHORT = '''    if j >= q.n:
+        return 9, [], 0, words
+    if too_short(words, p):
+        return 24, [], 0, words
+'''
+
+WALKS = LEFT + [
+    # 24: before 9; before the sheets' numbers; a refused walk clears the words
+    (NINE_THEN_SHORT, NINE_THEN_SHORT.replace("return 9", "return 24 if too_short(words, p) else 9")),
+    ("        return number, [], 0, words\n", "        return number if words else 24, [], 0, words\n"),
+    (NINE_THEN_SHORT, NINE_THEN_SHORT.replace("24, [], 0, words", "24, [], 0, [0] * len(words)")),
+    (NINE_THEN_SHORT, NINE_THEN_SHORT.replace("9, [], 0, words", "9, [], 0, [0] * len(words)")),
     # "Letting a side that touches the circle block" [V7]
     ("        if all(product(a, b, corner) < 0 for corner", "        if all(product(a, b, corner) <= 0 for corner"),
     # "Halving the centre in whole numbers" [V8]
@@ -164,7 +243,26 @@ SIZES = [
     (SQUARED, "q[1] ** 2 + q[2] ** 2"),
 ]
 
-PAGES = SIZES + [
+PAGE_SHORT = "    if too_short(words, p):\n        return 24, None, 0, words\n"
+OWN_SHORT = "    if too_short(words, sheet):\n        return 24, None, 0, words\n"
+PARTNERS_SHORT = "    if too_short(words, p):\n        return 24, 0, False, words\n"
+
+PAGES = SIZES + ZEROS + [
+    # 24: before 21, 10, 9 and 20; before the sheets' numbers; not for a self join, not for the question; a refused request clears the words
+    (KEY_THEN_SIZE, KEY_THEN_SIZE.replace("return 21", "return 24 if too_short(words, Sheet(p_words)) else 21")),
+    (KEY_THEN_SIZE, KEY_THEN_SIZE.replace("return 10", "return 24 if too_short(words, Sheet(p_words)) else 10")),
+    (KEY_THEN_SIZE, KEY_THEN_SIZE.replace("return 9", "return 24 if too_short(words, Sheet(p_words)) else 9")),
+    (KNOWN_THEN_T, KNOWN_THEN_T.replace("return 21", "return 24 if too_short(words, p) else 21")),
+    (KNOWN_THEN_T, KNOWN_THEN_T.replace("return 20", "return 24 if too_short(words, p) else 20")),
+    (SHEETS_OF_PAGE, SHEETS_OF_PAGE + " if words else 24"),
+    (PAGE_SHORT, ""),
+    (OWN_SHORT, ""),
+    (PARTNERS_SHORT, ""),
+    (PAGE_SHORT, PAGE_SHORT.replace("0, words", "0, [0] * len(words)")),
+    # a page that filters nobody leaves the words as they were; those of Q are asked for, and not those of P
+    ("    return 0, page, opened, with_zeros(words, p)\n", "    return 0, page, opened, with_zeros(words, p) if opened else words\n"),
+    (PAGE_SHORT, PAGE_SHORT.replace("(words, p)", "(words, q)")),
+    (PARTNERS_SHORT, PARTNERS_SHORT.replace("(words, p)", "(words, q)")),
     # unused pairs that are not zeros [P6]
     ("UNUSED = (0, 0, 0)", "UNUSED = (0, 0, 1)"),
     # "Setting the end mark only when the page is not full" [V11]
@@ -202,20 +300,25 @@ PAGES = SIZES + [
     ("                    return opened, found\n                found.append(pair)\n    return opened, found\n\n\n# 9:", "                    continue\n                found.append(pair)\n    return opened, found\n\n\n# 9:"),
     ("                found.append(pair)\n    return opened, found\n\n\n# 9:", "                found.append(pair)\n        if len(found) == size:\n            return opened, found\n    return opened, found\n\n\n# 9:"),
     # 21: its bounds; before 10; not for a page; 0 is a t of the question too; 20 after 21; not at all [T8, T9, T10]
-    ("THRESHOLD = 1_000", "THRESHOLD = 999"),
-    ("THRESHOLD = 1_000", "THRESHOLD = 1_001"),
+    ("THRESHOLD = 60_000", "THRESHOLD = 59_999"),
+    ("THRESHOLD = 60_000", "THRESHOLD = 60_001"),
+    ("THRESHOLD = 60_000", "THRESHOLD = 1_000"),
     (KEY_THEN_SIZE, KEY_THEN_SIZE.replace("return 10", "return 10 if 0 <= t <= THRESHOLD else 21")),
     (KEY_THEN_SIZE, KEY_THEN_SIZE.replace("return 21", "t = 0 if t < 0 else THRESHOLD #")),
     ("    if t < 1 or t > THRESHOLD:", "    if t < 0 or t > THRESHOLD:"),
     (KNOWN_THEN_T, T_THEN_KNOWN),
     (KNOWN_THEN_T, KNOWN_THEN_T.replace("any(point[0] == q_id", "any(point[0] >= q_id")),
-    (KNOWN_THEN_T, T_THEN_KNOWN.replace("return 20, 0, False", "pass")),
+    (KNOWN_THEN_T, T_THEN_KNOWN.replace("return 20, 0, False, words", "pass")),
     # the question: the number of all pairs; the kept partners; a yes only beyond t; a count of the pump house's pairs [T1, T2]
     ("    count = min(t, many)\n", "    count = many\n"),
-    ("    return 0, count, count == t\n", "    return 0, count, many > t\n"),
+    ("    return 0, count, count == t, ", "    return 0, count, many > t, "),
     ("in pairs if pair[0] == q_id])", "in pairs if pair[1] == q_id])"),
     ("of the single question. `pairs` as above.\"\"\"\n    number = open_number(p_words) or open_number(q_words)", "of the single question. `pairs` as above.\"\"\"\n    number = open_number(q_words) or open_number(p_words)"),
 ]
+
+OWN_KEY = "    if not (0 <= key[0] <= ID and 0 <= key[1] <= ID):\n        return 9, None, 0, words\n"
+OWN_SIZE = "    if not 1 <= size <= SIZE:\n        return 10, None, 0, words\n"
+OWN_SHEET = "    number = open_number(s_words)\n    if number:\n        return number, None, 0, words\n"
 
 # of a self join: pairs both ways; higher id first; a record with itself; blocked by an end's copy, as before request 3; not blocked by records of lower id than both
 # [J1, J3]
@@ -236,20 +339,37 @@ PAGES += [
     # its page: another kind; a t; 9 after 10; the sheet after the key [J5]
     ("    page.own = True\n", "    page.own = False\n"),
     ("    page.own = True\n", "    page.own, page.t = True, 1\n"),
-    ("    if not (0 <= key[0] <= ID and 0 <= key[1] <= ID):\n        return 9, None, 0\n", "    if not (0 <= key[0] <= ID and 0 <= key[1] <= ID):\n        return 9 if 1 <= size <= SIZE else 10, None, 0\n"),
-    ("    number = open_number(words)\n    if number:\n        return number, None, 0\n    if not", "    number = open_number(words)\n    if number:\n        return number if 0 <= key[0] <= ID else 9, None, 0\n    if not"),
+    (OWN_KEY, OWN_KEY.replace("return 9", "return 9 if 1 <= size <= SIZE else 10")),
+    (OWN_SHEET, OWN_SHEET.replace("return number", "return number if 0 <= key[0] <= ID else 9")),
     ("    if not 1 <= size <= SIZE:", "    if not 1 <= size < SIZE:"),
+    # 24 of a self join: before 9 and 10; before the sheet's number
+    (OWN_KEY, OWN_KEY.replace("return 9", "return 24 if too_short(words, Sheet(s_words)) else 9")),
+    (OWN_SIZE, OWN_SIZE.replace("return 10", "return 24 if too_short(words, Sheet(s_words)) else 10")),
+    (OWN_SHEET, OWN_SHEET.replace("return number", "return number if words else 24")),
 ]
 
 SHEETS_OF_RUN = '''of a run."""
     number = open_number(p_words) or open_number(q_words)'''
-NO_LEAF = "    if leaf >= q.m or q.nodes[leaf][0] != 0:\n        return 19, 0, 0, slots\n"
-OUTNUMBERED = "    if len(run) > len(slots):\n        return 16, 0, 0, slots\n"
+NO_LEAF = "    if leaf >= q.m or q.nodes[leaf][0] != 0:\n        return 19, 0, 0, slots, words\n"
+RUN_SHORT = "    if too_short(words, p, 16):\n        return 24, 0, 0, slots, words\n"
+RUN_MADE = "    run = leaf_list(p, q, leaf)\n"
+OUTNUMBERED = "    if len(run) > len(slots):\n        return 16, 0, 0, slots, words\n"
 BOX_SKIPPED = "        return all(skips_box(c, box) for c in range(len(chambers)))\n"
 POINT_KEPT = "            if not skips_point(c, sheet.place(position)):\n"
 RING_WALKED = "            opened += more\n            if answer == CLEAR:\n                found.append(pair_of(p.points, q.points, j, partner))\n    return opened, found\n"
 
-RUNS = SIZES + [
+RUNS = SIZES + ZEROS + [
+    # 24: after 16; before 19; before the sheets' numbers; as many words as for one chamber; as many as the leaf has chambers; those of Q
+    (RUN_SHORT + RUN_MADE + OUTNUMBERED, RUN_MADE + OUTNUMBERED + RUN_SHORT),
+    (NO_LEAF, NO_LEAF.replace("return 19", "return 24 if too_short(words, p, 16) else 19")),
+    (SHEETS_OF_RUN, SHEETS_OF_RUN + " if words else 24"),
+    (RUN_SHORT, RUN_SHORT.replace(", p, 16", ", p")),
+    (RUN_SHORT, RUN_SHORT.replace(", p, 16", ", p, q.nodes[leaf][2]")),
+    (RUN_SHORT, RUN_SHORT.replace(", p, 16", ", q, 16")),
+    # the words after a run: zeros for one chamber alone; zeros after 16, after 24
+    ("with_zeros(words, p, 16)", "with_zeros(words, p)"),
+    (OUTNUMBERED, OUTNUMBERED.replace("slots, words", "slots, with_zeros(words, p, 16)")),
+    (RUN_SHORT, RUN_SHORT.replace("slots, words", "slots, [0] * len(words)")),
     # the symmetric rule: the other chambers do not rule out; not for boxes; not for points [L4]
     ("        return pumps + others\n", "        return pumps\n"),
     ("any(drops_box(chambers[c], place, box) for place in ruling(c))", "any(drops_box(chambers[c], place, box) for place in [sheet.place(i) for i in kept[c]])"),
@@ -279,7 +399,7 @@ RUNS = SIZES + [
     # the numbers: Q's before P's; Q's not at all; the leaf's before the sheets'
     (SHEETS_OF_RUN, SHEETS_OF_RUN.replace("(p_words)", "(words)").replace("(q_words)", "(p_words)").replace("(words)", "(q_words)")),
     (SHEETS_OF_RUN, SHEETS_OF_RUN.replace(" or open_number(q_words)", "")),
-    (SHEETS_OF_RUN, SHEETS_OF_RUN + "\n    if leaf >= 400:\n        return 19, 0, 0, slots"),
+    (SHEETS_OF_RUN, SHEETS_OF_RUN + "\n    if leaf >= 400:\n        return 19, 0, 0, slots, words"),
     # 19 only past the table; not for its length; 16 before it [L8]
     (NO_LEAF, NO_LEAF.replace(" or q.nodes[leaf][0] != 0", "")),
     (NO_LEAF, NO_LEAF.replace("leaf >= q.m or", "leaf > q.m or")),
@@ -297,9 +417,15 @@ RUNS = SIZES + [
 BY_SIZE = "    return sorted(pairs, key=lambda pair: (pair[2], pair[0], pair[1]))[:k]\n"
 SHEETS_OF_SHORTEST = '''shortest circles."""
     number = open_number(p_words) or open_number(q_words)'''
-SIXTEEN_MOST = "    if k < 1 or k > SIZE:\n        return 10, []\n"
+SIXTEEN_MOST = "    if k < 1 or k > SIZE:\n        return 10, [], words\n"
+SHORTEST_SHORT = "    if too_short(words, p):\n        return 24, [], words\n"
 
-SHORTEST = SIZES + [
+SHORTEST = SIZES + ZEROS + [
+    # 24: before 10; before the sheets' numbers; of the words that Q needs; the words cleared
+    (SIXTEEN_MOST, SIXTEEN_MOST.replace("return 10", "return 24 if too_short(words, Sheet(p_words)) else 10")),
+    (SHEETS_OF_SHORTEST, SHEETS_OF_SHORTEST + " if words else 24"),
+    (SHORTEST_SHORT, SHORTEST_SHORT.replace("(words, p)", "(words, q)")),
+    (SHORTEST_SHORT, SHORTEST_SHORT.replace("[], words", "[], [0] * len(words)")),
     # ties by p id and then q id; by q id alone, the last p id first; the last ids first; as they come in a list the other way round [H2]
     (BY_SIZE, BY_SIZE.replace("pair[0], pair[1])", "pair[1], pair[0])")),
     (BY_SIZE, BY_SIZE.replace("pair[0], pair[1])", "pair[0], -pair[1])")),
@@ -318,14 +444,14 @@ SHORTEST = SIZES + [
     # one more; one fewer; refused where the list is shorter [H4]
     (BY_SIZE, BY_SIZE.replace("[:k]", "[:k + 1]")),
     (BY_SIZE, BY_SIZE.replace("[:k]", "[:max(1, k - 1)]")),
-    ("    return 0, shortest_of(pairs, k)\n", "    return (0, shortest_of(pairs, k)) if len(pairs) >= k else (10, [])\n"),
+    ("    return 0, shortest_of(pairs, k), with_zeros(words, p)\n", "    return (0, shortest_of(pairs, k), with_zeros(words, p)) if len(pairs) >= k else (10, [], words)\n"),
     # the numbers: 0 is taken; 17 is; 16 is not; Q's before P's; Q's not at all; that of k before the sheets' [H3, H5]
     (SIXTEEN_MOST, SIXTEEN_MOST.replace("k < 1", "k < 0")),
     (SIXTEEN_MOST, SIXTEEN_MOST.replace("> SIZE", "> SIZE + 1")),
     (SIXTEEN_MOST, SIXTEEN_MOST.replace("> SIZE", "> SIZE - 1")),
     (SHEETS_OF_SHORTEST, SHEETS_OF_SHORTEST.replace("(p_words)", "(words)").replace("(q_words)", "(p_words)").replace("(words)", "(q_words)")),
     (SHEETS_OF_SHORTEST, SHEETS_OF_SHORTEST.replace(" or open_number(q_words)", "")),
-    (SHEETS_OF_SHORTEST, SHEETS_OF_SHORTEST.replace("    number =", "    if k < 1 or k > SIZE + 0:\n        return 10, []\n    number =")),
+    (SHEETS_OF_SHORTEST, SHEETS_OF_SHORTEST.replace("    number =", "    if k < 1 or k > SIZE + 0:\n        return 10, [], words\n    number =")),
     # unused pairs that are not zeros
     ("UNUSED = (0, 0, 0)", "UNUSED = (0, 0, 1)"),
 ]
@@ -333,9 +459,18 @@ SHORTEST = SIZES + [
 TAKEN_OUT = "        nearest = min(waiting)\n"
 NO_CHAMBER = "    if q_id not in [point[0] for point in q.points]:\n        return 20\n"
 NO_SIZE = "    if size is not None and (size < 1 or size > SIZE):\n        return 10\n"
+WORDS_SHORT = "    # 24: bit slice too short, before 25\n    if words is not None and too_short(words, p):\n        return 24\n"
+SHORT_TOLD = "    # 25: slice shorter than n + m\n"
 TOO_SHORT = "    if len(lent) < p.n + p.m:\n        return 25\n"
 
-NEAR = [
+NEAR = LEFT + [
+    # 24: after 25; before 20; before the sheets' numbers; asked for the pump houses too; a refused filter clears the words, the numbers
+    (WORDS_SHORT + SHORT_TOLD + TOO_SHORT, TOO_SHORT + WORDS_SHORT),
+    (NO_CHAMBER, NO_CHAMBER.replace("return 20", "return 24 if words is not None and too_short(words, p) else 20")),
+    ("for the other.\"\"\"\n    number = open_number(p_words) or open_number(q_words)\n    if number:\n        return number\n", "for the other.\"\"\"\n    number = open_number(p_words) or open_number(q_words)\n    if number:\n        return 24 if words == [] else number\n"),
+    (WORDS_SHORT, WORDS_SHORT.replace("words is not None and too_short(words, p)", "too_short(words or [], p)")),
+    ("        return number, [], 0, lent, words\n", "        return number, [], 0, lent, [0] * len(words)\n"),
+    ("        return number, [], 0, lent, words\n", "        return number, [], 0, [0] * len(lent), words\n"),
     # points before boxes on a tie; the higher node or position first; those that wait longest, or shortest, first [G2]
     ("BOX, POINT = 0, 1", "BOX, POINT = 1, 0"),
     (TAKEN_OUT, "        nearest = min(waiting, key=lambda one: (one[0], one[1], -one[2]))\n"),
@@ -355,7 +490,7 @@ NEAR = [
     # the numbers: 20 last, 10 before it, 25 before 10; exactly enough is too short; n alone, m alone; sizes 0 and 17 [G9, G10]
     (NO_CHAMBER, "    if q_id < q.points[0][0] or q_id > q.points[-1][0]:\n        return 20\n"),
     (NO_CHAMBER + "    # 10: size out of range, 1 to 16\n" + NO_SIZE, NO_SIZE + NO_CHAMBER),
-    (NO_SIZE + "    # 25: slice shorter than n + m\n" + TOO_SHORT, TOO_SHORT + NO_SIZE),
+    (NO_SIZE + WORDS_SHORT + SHORT_TOLD + TOO_SHORT, TOO_SHORT + NO_SIZE + WORDS_SHORT),
     (NO_SIZE, NO_SIZE.replace("size < 1", "size < 0")),
     (NO_SIZE, NO_SIZE.replace("size > SIZE", "size > SIZE + 1")),
     (TOO_SHORT, TOO_SHORT.replace("<", "<=")),
@@ -365,13 +500,14 @@ NEAR = [
     ("    return [0] * (p.n + p.m) + lent[p.n + p.m:]", "    return [0] * len(lent)"),
     ("    return [0] * (p.n + p.m) + lent[p.n + p.m:]", "    return [0] * p.n + lent[p.n:]"),
     ("    return [0] * (p.n + p.m) + lent[p.n + p.m:]", "    return lent"),
-    ("None for the filter.\"\"\"\n    number = open_number(p_words) or open_number(q_words)", "None for the filter.\"\"\"\n    number = open_number(q_words) or open_number(p_words)"),
+    ("for the other.\"\"\"\n    number = open_number(p_words) or open_number(q_words)", "for the other.\"\"\"\n    number = open_number(q_words) or open_number(p_words)"),
     # whether a box contains a kept point's place is never asked here: such a box is no farther than the point, so it was taken out before
 ] + SKIPS[:5]
 
 BOOK = [
-    ("DIAMETER = 8_000_000_000_000", "DIAMETER = 7_999_999_999_999"),
-    ("DIAMETER = 8_000_000_000_000", "DIAMETER = 8_000_000_000_001"),
+    ("DIAMETER = 8_000_000_000_000_000_000", "DIAMETER = 7_999_999_999_999_999_999"),
+    ("DIAMETER = 8_000_000_000_000_000_000", "DIAMETER = 8_000_000_000_000_000_001"),
+    ("DIAMETER = 8_000_000_000_000_000_000", "DIAMETER = 8_000_000_000_000"),
     # 0 is no size; no size is looked at; only the first; those past the count too [Z3]
     ("        if pair[2] < 0 or", "        if pair[2] <= 0 or"),
     ("        if pair[2] < 0 or pair[2] > DIAMETER:", "        if False:"),
@@ -397,8 +533,9 @@ BOOK = [
     ("    if own and t > 0:\n        return 21, None\n", "    if own and t > 1:\n        return 21, None\n"),
     # 21 of begin: before 3; its bound [T10]
     ("    if any(edition < 1 or edition > EDITION for edition in editions):\n        return 3, None\n", "    if t > THRESHOLD:\n        return 21, None\n    if any(edition < 1 or edition > EDITION for edition in editions):\n        return 3, None\n"),
-    ("THRESHOLD = 1_000", "THRESHOLD = 999"),
-    ("THRESHOLD = 1_000", "THRESHOLD = 1_001"),
+    ("THRESHOLD = 60_000", "THRESHOLD = 59_999"),
+    ("THRESHOLD = 60_000", "THRESHOLD = 60_001"),
+    ("THRESHOLD = 60_000", "THRESHOLD = 1_000"),
 ]
 
 STEP = 100

@@ -1,6 +1,7 @@
 /*
  * An order book over C: opens two sheets, follows the pages of their ring pairs into a book whose slots this program keeps, and prints the orders.
  * On the way the first page is lost and the second comes twice. Neither does harm: the book asks for its next key again, and refuses what it has.
+ * A page is made on words that this program lends, a bit for each pump house: RING_WORDS of their number.
  *
  *     tools/c-example        builds and runs this file, and compares what it prints with expected.txt
  */
@@ -13,6 +14,9 @@
 /* id, x, y of each point | order | rank | nodes | span, root, n, m, edition, form */
 static const int32_t pumps[] = {1, 0, 0, 2, 10, 0, /**/ 0, 1, /**/ 0, 1, /**/ 0, 0, 2, 0, 0, 10, 0, /**/ 17, 7, 2, 1, 7, 1};
 static const int32_t chambers[] = {5, 4, 0, 6, 16, 1, /**/ 0, 1, /**/ 0, 1, /**/ 0, 0, 2, 4, 0, 16, 1, /**/ 17, 7, 2, 1, 9, 1};
+
+/* the words lent for pages: as many as a sheet of form 1 may need */
+static uint64_t kept[RING_WORDS(1000)];
 
 static int refused(const char *what, uint32_t number) {
     if (number != 0) printf("%s: refused %u\n", what, number);
@@ -29,13 +33,14 @@ static RingPoint by_id(const int32_t *words, size_t len, uint32_t id) {
 
 /* Follows the pages into the slots until the book is closed; the book, which is still open if a call was refused. */
 static RingBook follow(RingBook book, RingPair *slots, size_t room) {
-    for (int request = 1; !book.closed; request++) {
+    for (int turn = 1; !book.closed; turn++) {
         RingNext next = ring_book_next_key(book, slots, room);
         if (refused("next key", next.number)) return book;
-        RingPaged asked = ring_page(pumps, LEN(pumps), chambers, LEN(chambers), (RingRequest){next.key, 2, book.source.terms.threshold});
+        RingRequest request = {next.key, 2, book.source.terms.threshold};
+        RingPaged asked = ring_page(pumps, LEN(pumps), chambers, LEN(chambers), request, kept, LEN(kept));
         if (refused("page", asked.number)) return book;
-        printf("request %d, after (%u, %u): ", request, next.key.q, next.key.p);
-        if (request == 1) {
+        printf("request %d, after (%u, %u): ", turn, next.key.q, next.key.p);
+        if (turn == 1) {
             printf("lost on the way, %zu held\n", book.held);
             continue;
         }
@@ -43,7 +48,7 @@ static RingBook follow(RingBook book, RingPair *slots, size_t room) {
         if (refused("take", taken.number)) return book;
         book = taken.book;
         printf("%zu pair%s, %zu held%s\n", asked.page.count, asked.page.count == 1 ? "" : "s", book.held, book.closed ? ", closed" : "");
-        if (request == 2) {
+        if (turn == 2) {
             taken = ring_book_take(book, slots, room, asked.page);
             printf("the same page again: refused %u, %zu held\n", taken.number, taken.book.held);
             book = taken.book;
@@ -66,7 +71,7 @@ int main(void) {
     if (refused("pump houses", p.number) || refused("chambers", q.number)) return 1;
     printf("%zu pump houses, %zu chambers\n", p.n, q.n);
 
-    RingSource source = {(uint32_t)pumps[p.len - 2], (uint32_t)chambers[q.len - 2], {0, false}};
+    RingSource source = {p.edition, q.edition, {0, false}};
     RingBegun begun = ring_book_begin(source);
     if (refused("begin", begun.number)) return 1;
     printf("a book of editions %u and %u\n", begun.book.source.p_edition, begun.book.source.q_edition);

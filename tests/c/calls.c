@@ -1,22 +1,62 @@
 /*
- * Every call of ring.h with random and damaged inputs: null with length 0, wrong lengths, extreme numbers, words changed at random.
- * Answers are held to a plain second reading of the rules: the numbers of open up to 6, of pack, next key and take; the list, by trying every pair against
- * every record; the shortest pairs, the nearest pump houses and a leaf's run likewise; what walks keep, what stops them, and the nodes opened, of pages and runs
- * too, by plain walks; the marker, doubled. Lent memory is held to a copy made before the call, with guards on both sides.
+ * Every call of ring.h with random and damaged inputs: null with length 0, wrong lengths, extreme numbers, words changed at random, sheets of both forms.
+ * Answers are held to a plain second reading of the rules: the numbers of open, pack, next key and take; the list, by trying every pair against every
+ * record; the shortest pairs, the nearest pump houses and a leaf's run likewise; what walks keep, what stops them, and the nodes opened, of pages and runs
+ * too, by plain walks; the marker, doubled.
+ * Lent memory is held to a copy made before the call, with marks on both sides: what an answer is to leave there is put into the copy, and nothing for a refusal.
+ * Last two sheets of 60,000 points, held to the same reading.
  * Prints one line, and ends with 1 where an answer differs or a number of refusal never came up.
  */
 #include <stdio.h>
 #include <string.h>
 
+#include "province.h"
 #include "ring.h"
 
 #define TIMES 10000
-#define MOST 6000
-#define GUARD 0x5ead5eed
+/* the points and the words of a random sheet, at most */
+#define MANY 1300
+#define MOST 8192
+/* the points and the nodes of any sheet that is packed here */
+#define LARGEST PROVINCE_POINTS
+#define NODES 4001
+/* how much is watched on both sides of what is lent */
+#define PAST 64
 
-/* the numbers of refusal: 0 to 20, and 25 */
+/* the numbers of refusal: 0 to 22, 24, 25 and 31 */
 #define LAST 31
-#define A_NUMBER(k) ((k) <= 22 || (k) == 25 || (k) == 31)
+#define A_NUMBER(k) ((k) <= 22 || (k) == 24 || (k) == 25 || (k) == 31)
+
+/* counts have 64 bits: a field, or a whole struct, has so many bytes */
+#define FIELD(type, field, bytes) typedef char type##_##field[sizeof ((type *)0)->field == (bytes) ? 1 : -1]
+#define STRUCT(type, bytes) typedef char type##_bytes[sizeof(type) == (bytes) ? 1 : -1]
+FIELD(RingPair, size, 8);
+FIELD(RingRequest, size, 8);
+FIELD(RingPage, count, 8);
+FIELD(RingBook, held, 8);
+FIELD(RingHead, len, 8);
+FIELD(RingHead, n, 8);
+FIELD(RingHead, m, 8);
+FIELD(RingFiltered, count, 8);
+FIELD(RingFiltered, opened, 8);
+FIELD(RingWalked, at, 8);
+FIELD(RingWalked, opened, 8);
+FIELD(RingPaged, opened, 8);
+FIELD(RingPartners, count, 8);
+FIELD(RingShortlist, count, 8);
+FIELD(RingNear, distance, 8);
+FIELD(RingFound, count, 8);
+FIELD(RingRun, count, 8);
+FIELD(RingRun, opened, 8);
+FIELD(RingPoint, x, 4);
+FIELD(RingPoint, y, 4);
+FIELD(RingTerms, threshold, 4);
+STRUCT(RingPair, 16);
+STRUCT(RingHead, 40);
+STRUCT(RingFiltered, 24);
+STRUCT(RingWalked, 32);
+STRUCT(RingPaged, 312);
+STRUCT(RingRun, 24);
 
 static uint64_t seed = 88172645463325252ull;
 static unsigned long calls, wrong, first_wrong, seen[LAST + 1], named[4];
@@ -36,7 +76,9 @@ static int32_t between(int32_t low, int32_t high) { return (int32_t)(low + (int6
 
 /* a number that some rule may stumble on */
 static uint32_t wild(void) {
-    static const uint32_t edges[] = {0, 1, 2, 3, 7, 15, 16, 17, 400, 401, 1000, 1001, 1000000, 1000001, 0xfff0bdc0, 0xfff0bdbf, 1000000000, 1000000001, 2000000000, 2000000001, 0x7fffffff, 0x80000000, 0xffffffff};
+    static const uint32_t edges[] = {
+        0, 1, 2, 3, 7, 15, 16, 17, 400, 401, 1000, 1001, 24000, 24001, 60000, 60001, 1000000, 1000001, 1000000000, 1000000001, 2000000000, 2000000001,
+        0xfff0bdc0, 0xfff0bdbf, 0xc4653600, 0xc46535ff, 0x7fffffff, 0x80000000, 0xffffffff};
     return below(3) ? edges[below(sizeof edges / sizeof edges[0])] : (uint32_t)chance();
 }
 
@@ -48,24 +90,29 @@ static void saw(uint32_t number) {
     if (number <= LAST) seen[number]++;
 }
 
-/* ---- sheets: words between guards, and a copy of all */
+/* ---- sheets: words with others on both sides, and a copy of all */
 
 typedef struct {
-    int32_t before[4], words[MOST], after[4];
+    int32_t *words, *was;
     size_t len;
 } Sheet;
 
-static Sheet P, Q, P_was, Q_was;
+static int32_t rooms[4][MOST + 2 * PAST];
+static Sheet P = {rooms[0] + PAST, rooms[1] + PAST, 0}, Q = {rooms[2] + PAST, rooms[3] + PAST, 0};
 
 static const int32_t *at(const Sheet *s) { return s->len ? s->words : NULL; }
 
-static void guard(Sheet *s) {
-    for (int k = 0; k < 4; k++) s->before[k] = s->after[k] = GUARD;
+static size_t watched(const Sheet *s) { return (s->len + 2 * PAST) * sizeof s->words[0]; }
+
+static void save(void) {
+    memcpy(P.was - PAST, P.words - PAST, watched(&P));
+    memcpy(Q.was - PAST, Q.words - PAST, watched(&Q));
 }
 
-static void save(void) { P_was = P, Q_was = Q; }
-
-static void hold_saved(void) { HOLD(memcmp(&P, &P_was, sizeof P) == 0 && memcmp(&Q, &Q_was, sizeof Q) == 0); }
+static void hold_saved(void) {
+    HOLD(memcmp(P.words - PAST, P.was - PAST, watched(&P)) == 0);
+    HOLD(memcmp(Q.words - PAST, Q.was - PAST, watched(&Q)) == 0);
+}
 
 static size_t nodes_for(size_t n) {
     size_t m = 0, level = n;
@@ -75,28 +122,55 @@ static size_t nodes_for(size_t n) {
 
 static size_t length_for(size_t n) { return 5 * n + 7 * nodes_for(n) + 6; }
 
-static void make_points(int32_t *w, size_t n) {
-    int32_t id = (int32_t)below(9), span = below(2) ? 6 : 1000000;
+/* points for a sheet of a form: close together, all over its map, or at few coordinates, the edges of the map among them */
+static void make_points(int32_t *w, size_t n, uint32_t form) {
+    int32_t id = (int32_t)below(9), reach = form == 2 && below(2) ? 1000000000 : 1000000, span = below(2) ? 6 : reach;
+    int32_t steps = below(4) ? 0 : 1 + (int32_t)below(4);
     for (size_t i = 0; i < n; i++) {
         id += 1 + (int32_t)below(below(2) ? 3 : 1000000);
-        w[3 * i] = id, w[3 * i + 1] = between(-span, span), w[3 * i + 2] = between(-span, span);
+        w[3 * i] = id;
+        for (size_t k = 1; k < 3; k++) w[3 * i + k] = steps ? (int32_t)((int64_t)reach * between(-steps, steps) / steps) : between(-span, span);
     }
 }
 
-static void make_order(int32_t *o, size_t n) {
+/* any order, or one that gives small boxes */
+static void make_order(const int32_t *points, int32_t *o, size_t n) {
+    if (below(6) == 0) {
+        province_tile(points, o, n);
+        return;
+    }
     for (size_t i = 0; i < n; i++) {
         size_t k = below(i + 1);
         o[i] = o[k], o[k] = (int32_t)i;
     }
 }
 
-/* a sheet that opens */
-static void make_sheet(Sheet *s, size_t n) {
-    static int32_t points[3000], order[1000];
-    make_points(points, n), make_order(order, n);
+static int32_t some_points[3 * MANY], some_order[MANY];
+
+static void pack_some(Sheet *s, size_t n, uint32_t form) {
     s->len = length_for(n);
-    HOLD(ring_pack(n, points, 3 * n, order, n, 1 + (uint32_t)below(1000000000), s->words, s->len) == 0);
+    HOLD(ring_pack(form, n, some_points, 3 * n, some_order, n, 1 + (uint32_t)below(1000000000), s->words, s->len) == 0);
 }
+
+/* a sheet of a form that opens */
+static void make_form(Sheet *s, size_t n, uint32_t form) {
+    make_points(some_points, n, form), make_order(some_points, some_order, n);
+    pack_some(s, n, form);
+}
+
+/* one with a leaf in a corner of the map, and all others at the edge opposite: there the squared distance of doubled coordinates may be over 2^64 */
+static void make_far(Sheet *s) {
+    size_t n = 48 + below(16);
+    for (size_t i = 0; i < n; i++) {
+        int32_t *a = some_points + 3 * i;
+        a[0] = 1 + (int32_t)i, a[1] = i % 2 ? 1000000000 : -1000000000, a[2] = i % 2 ? 250000000 * between(-4, 4) : -1000000000;
+    }
+    province_tile(some_points, some_order, n);
+    pack_some(s, n, 2);
+}
+
+/* of either form */
+static void make_sheet(Sheet *s, size_t n) { make_form(s, n, n > 1000 || below(2) ? 2 : 1); }
 
 /* a word, the length or all is changed, or nothing */
 static void damage(Sheet *s) {
@@ -107,21 +181,31 @@ static void damage(Sheet *s) {
     if (way == 2) s->len = s->len + below(20) - (s->len > 9 ? 9 : 0);
     if (way == 3 || way == 4) s->words[s->len - 1 - below(6)] = (int32_t)wild();
     if (way >= 5 && way < 9) s->words[below(s->len)] = (int32_t)wild();
-    if (way >= 9 && way < 12) s->words[below(s->len)] += between(-1, 1);
+    if (way >= 9 && way < 12) {
+        int32_t *word = s->words + below(s->len);
+        *word = (int32_t)((uint32_t)*word + (uint32_t)between(-1, 1));
+    }
     if (way == 12)
         for (size_t i = 0; i < s->len; i++) s->words[i] = (int32_t)wild();
 }
 
-static size_t some_n(size_t most) { return below(40) ? below(most) : below(8) ? below(60) : 999 + below(2); }
+static size_t some_n(size_t most) { return below(40) ? below(most) : below(8) ? below(200) : below(2) ? 999 + below(3) : MANY - below(2); }
 
 /* ---- the rules, read again */
 
 static bool in(int64_t low, int64_t x, int64_t high) { return low <= x && x <= high; }
 
-static bool points_ok(const int32_t *w, size_t n) {
+/* the most points and nodes, and the farthest coordinate, of form 1 and of form 2 */
+typedef struct {
+    int64_t points, nodes, reach;
+} Limits;
+
+static Limits limits_of(int64_t form) { return form == 2 ? (Limits){60000, 24000, 1000000000} : (Limits){1000, 400, 1000000}; }
+
+static bool points_ok(const int32_t *w, size_t n, int64_t reach) {
     for (size_t i = 0; i < n; i++) {
         if (!in(i ? (int64_t)w[3 * i - 3] + 1 : 1, w[3 * i], 2000000000)) return false;
-        if (!in(-1000000, w[3 * i + 1], 1000000) || !in(-1000000, w[3 * i + 2], 1000000)) return false;
+        if (!in(-reach, w[3 * i + 1], reach) || !in(-reach, w[3 * i + 2], reach)) return false;
     }
     return true;
 }
@@ -133,8 +217,8 @@ static bool ranks_ok(const int32_t *o, const int32_t *r, size_t n) {
 }
 
 static bool order_ok(const int32_t *o, size_t n) {
-    static bool there[1000];
-    memset(there, 0, sizeof there);
+    static bool there[LARGEST];
+    memset(there, 0, n);
     for (size_t i = 0; i < n; i++) {
         if (!in(0, o[i], (int64_t)n - 1) || there[o[i]]) return false;
         there[o[i]] = true;
@@ -142,22 +226,60 @@ static bool order_ok(const int32_t *o, size_t n) {
     return true;
 }
 
-/* the number of open as far as 6; 0 where it is 0, 7 or 8 */
+/* level after level from 0, none above 7: each covers all of the one below with no gap, by runs of 1 to 16, until one has a single node, which is the last */
+static bool nodes_ok(const int32_t *nodes, size_t n, size_t m) {
+    size_t v = 0, first = 0, last = n;
+    for (int32_t level = 0; n && level <= 7; level++) {
+        size_t head = v, next = first;
+        for (; v < m && nodes[7 * v] == level; v++) {
+            if (nodes[7 * v + 1] != (int32_t)next || !in(1, nodes[7 * v + 2], 16)) return false;
+            next += (size_t)nodes[7 * v + 2];
+        }
+        if (next != last) return false;
+        if (v - head == 1) return v == m;
+        first = head, last = v;
+    }
+    return n == 0 && m == 0;
+}
+
+/* each box is the tightest around what its node covers */
+static bool boxes_ok(const int32_t *w, size_t n, size_t m) {
+    const int32_t *order = w + 3 * n, *nodes = w + 5 * n;
+    for (size_t v = 0; v < m; v++) {
+        const int32_t *node = nodes + 7 * v;
+        int32_t box[4] = {INT32_MAX, INT32_MAX, INT32_MIN, INT32_MIN};
+        for (int32_t c = node[1]; c < node[1] + node[2]; c++) {
+            const int32_t *low = node[0] ? nodes + 7 * c + 3 : w + 3 * order[c] + 1, *high = node[0] ? low + 2 : low;
+            for (size_t k = 0; k < 2; k++) {
+                if (low[k] < box[k]) box[k] = low[k];
+                if (high[k] > box[2 + k]) box[2 + k] = high[k];
+            }
+        }
+        if (memcmp(box, node + 3, sizeof box) != 0) return false;
+    }
+    return true;
+}
+
 static uint32_t open_no(const int32_t *w, size_t len) {
     if (len < 6) return 1;
     const int32_t *t = w + len - 6;
     int64_t n = t[2], m = t[3];
-    if (t[5] != 1) return 2;
-    if (!in(0, n, 1000) || !in(0, m, 400) || !in(1, t[4], 1000000000)) return 3;
+    Limits most = limits_of(t[5]);
+    if (!in(1, t[5], 2)) return 2;
+    if (!in(0, n, most.points) || !in(0, m, most.nodes) || !in(1, t[4], 1000000000)) return 3;
     if (t[0] != 5 * n + 7 * m || t[1] != (m ? 7 : 0) || (int64_t)len != 5 * n + 7 * m + 6) return 4;
-    if (!points_ok(w, (size_t)n)) return 5;
-    return ranks_ok(w + 3 * n, w + 4 * n, (size_t)n) ? 0 : 6;
+    if (!points_ok(w, (size_t)n, most.reach)) return 5;
+    if (!ranks_ok(w + 3 * n, w + 4 * n, (size_t)n)) return 6;
+    if (!nodes_ok(w + 5 * n, (size_t)n, (size_t)m)) return 7;
+    return boxes_ok(w, (size_t)n, (size_t)m) ? 0 : 8;
 }
 
-static uint32_t pack_no(size_t n, const int32_t *points, size_t points_len, const int32_t *order, size_t order_len, uint32_t edition, size_t out_len) {
+static uint32_t pack_no(uint32_t form, size_t n, const int32_t *points, size_t points_len, const int32_t *order, size_t order_len, uint32_t edition, size_t out_len) {
+    Limits most = limits_of(form);
     if (n > SIZE_MAX / 3 || points_len != 3 * n || order_len != n) return 18;
-    if (n > 1000 || !in(1, edition, 1000000000)) return 3;
-    if (!points_ok(points, n)) return 5;
+    if (!in(1, form, 2)) return 2;
+    if (n > (size_t)most.points || !in(1, edition, 1000000000)) return 3;
+    if (!points_ok(points, n, most.reach)) return 5;
     if (!order_ok(order, n)) return 6;
     return out_len == length_for(n) ? 0 : 17;
 }
@@ -216,7 +338,7 @@ static bool page_bad(const RingPage *g) {
     RingKey last = g->key;
     for (size_t k = 0; k < g->count; k++) {
         RingPair v = g->pairs[k];
-        if (!id_ok(v.q) || !id_ok(v.p) || v.size > 8000000000000 || !after(last, v)) return true;
+        if (!id_ok(v.q) || !id_ok(v.p) || v.size > 8000000000000000000 || !after(last, v)) return true;
         last.q = v.q, last.p = v.p;
     }
     return g->count == 0 && !g->end;
@@ -253,37 +375,66 @@ static bool skips(const int32_t *q, const int32_t *box, const int32_t *x) {
     return !one_spot(q, x) && !(in(box[0], x[1], box[2]) && in(box[1], x[2], box[3]));
 }
 
-static uint64_t square(int64_t x) { return (uint64_t)(x * x); }
+/* of a difference of doubled coordinates: 16 * 10^18 at most, which is too much for a signed number */
+static uint64_t square(int64_t x) {
+    uint64_t u = (uint64_t)(x < 0 ? -x : x);
+    return u * u;
+}
 
 /* how far x is outside of low to high */
 static int64_t beside(int64_t low, int64_t x, int64_t high) { return x < low ? low - x : x > high ? x - high : 0; }
 
+/* a kept set of P: its positions in the order in which they came, and whether each position is one; and the one that skipped last, which is tried first */
+typedef struct {
+    size_t count, last;
+    uint32_t at[LARGEST];
+    bool is[LARGEST];
+} Kept;
+
+static void keep_none(Kept *kept) {
+    kept->count = kept->last = 0;
+    memset(kept->is, 0, count_of(&P));
+}
+
+static void keep(Kept *kept, size_t i) { kept->at[kept->count++] = (uint32_t)i, kept->is[i] = true; }
+
+/* for q, a kept one skips the box, or where there is none, the spot */
+static bool skipped(Kept *kept, const int32_t *q, const int32_t *box, const int32_t *spot) {
+    for (size_t k = 0; k <= kept->count && kept->count; k++) {
+        size_t c = k ? kept->count - k : kept->last;
+        const int32_t *p = P.words + 3 * (size_t)kept->at[c];
+        if (box ? skips(q, box, p) : blocks(q, spot, p)) {
+            kept->last = c;
+            return true;
+        }
+    }
+    return false;
+}
+
 /* the filter walk for q over P from node v on, which passes over one position, or none; the nodes opened */
-static uint64_t filter_from(const int32_t *q, size_t over, size_t v, bool *kept) {
+static uint64_t filter_from(const int32_t *q, size_t over, size_t v, Kept *kept) {
     const int32_t *node = node_of(&P, v);
     uint64_t opened = 1;
-    for (size_t i = 0; i < count_of(&P); i++)
-        if (kept[i] && skips(q, node + 3, P.words + 3 * i)) return 0;
+    if (skipped(kept, q, node + 3, NULL)) return 0;
     for (int32_t c = node[1]; c < node[1] + node[2]; c++)
         if (node[0]) opened += filter_from(q, over, (size_t)c, kept);
         else {
             size_t x = stands(&P, c);
-            bool out = x == over;
-            for (size_t i = 0; i < count_of(&P); i++) out |= kept[i] && blocks(q, P.words + 3 * x, P.words + 3 * i);
-            kept[x] = !out;
+            if (x != over && !skipped(kept, q, NULL, P.words + 3 * x)) keep(kept, x);
         }
     return opened;
 }
 
-static uint64_t filtered(const int32_t *q, size_t over, bool *kept) {
-    memset(kept, 0, 1000 * sizeof *kept);
+static uint64_t filtered(const int32_t *q, size_t over, Kept *kept) {
+    keep_none(kept);
     return nodes_of(&P) ? filter_from(q, over, nodes_of(&P) - 1, kept) : 0;
 }
 
-/* twice the centre is farther from the doubled box than the ends are from each other */
+/* twice the centre is farther from the doubled box than the ends are from each other: each axis by itself, as the sum of the two may be over 2^64 */
 static bool far_off(const int32_t *a, const int32_t *b, const int32_t *box) {
-    uint64_t x = square(beside(2 * (int64_t)box[0], (int64_t)a[1] + b[1], 2 * (int64_t)box[2]));
-    return x + square(beside(2 * (int64_t)box[1], (int64_t)a[2] + b[2], 2 * (int64_t)box[3])) > size_of(a, b).size;
+    uint64_t size = size_of(a, b).size, x = square(beside(2 * (int64_t)box[0], (int64_t)a[1] + b[1], 2 * (int64_t)box[2]));
+    uint64_t y = square(beside(2 * (int64_t)box[1], (int64_t)a[2] + b[2], 2 * (int64_t)box[3]));
+    return x > size || y > size - x;
 }
 
 /* the ring walk for a, b from node v of a sheet on, of which one position is an end: whether it is stopped, and in w by what, and the nodes opened */
@@ -319,7 +470,7 @@ static RingWalked walked(const int32_t *q, const int32_t *p, size_t j, size_t i,
 /* the nodes opened for a page: of each q from the key's on the filter's, and those of its kept partners after the key, up to the first pair beyond the size; of the
    list of a t, those of all its kept partners */
 static uint64_t page_opened(RingKey key, size_t size, uint32_t t, bool own) {
-    static bool kept[1000];
+    static Kept kept;
     const Sheet *s = own ? &P : &Q;
     uint64_t opened = 0;
     size_t found = 0;
@@ -327,11 +478,11 @@ static uint64_t page_opened(RingKey key, size_t size, uint32_t t, bool own) {
         const int32_t *q = s->words + 3 * j;
         size_t many = 0, later = 0;
         if ((uint32_t)q[0] < key.q) continue;
-        opened += filtered(q, own ? j : SIZE_MAX, kept);
+        opened += filtered(q, own ? j : SIZE_MAX, &kept);
         for (size_t i = own ? j + 1 : 0; i < count_of(&P) && (t || found + later <= size); i++) {
             const int32_t *p = P.words + 3 * i;
             bool follows = after(key, size_of(q, p));
-            if (!kept[i] || !(t || follows)) continue;
+            if (!kept.is[i] || !(t || follows)) continue;
             RingWalked w = walked(q, p, j, i, own);
             opened += w.opened;
             if (w.kind == RING_CLEAR) many++, later += follows;
@@ -341,6 +492,36 @@ static uint64_t page_opened(RingKey key, size_t size, uint32_t t, bool own) {
     return opened;
 }
 
+/* ---- words lent for kept sets, with others on both sides; and what they are to hold after the call */
+
+static uint64_t words[16 * 938 + 40 + 2 * PAST], words_due[16 * 938 + 40 + 2 * PAST];
+static size_t words_len;
+
+static uint64_t *bits(void) { return words_len ? words + PAST : NULL; }
+
+static size_t words_for(size_t n) { return n / 64 + (n % 64 != 0); }
+
+/* so many words are lent, whatever they hold */
+static void lend_words(size_t len) {
+    words_len = len;
+    for (size_t k = 0; k < len + 2 * PAST; k++) words[k] = words_due[k] = chance();
+}
+
+/* as many as the points of P need, or so many times as many; fewer, one fewer, or more. The number of refusal, where it was 0 */
+static uint32_t lend(uint32_t number, size_t times) {
+    size_t need = number ? below(25) : times * words_for(count_of(&P)), way = below(8);
+    lend_words(way == 0 && need ? need - 1 : way == 1 ? below(need + 1) : way == 2 ? need + 1 + below(40) : need);
+    return number ? number : words_len < need ? 24 : 0;
+}
+
+/* what an answer leaves: a kept set, or zeros where there is none */
+static void leave(size_t times, const Kept *kept) {
+    memset(words_due + PAST, 0, times * words_for(count_of(&P)) * sizeof words[0]);
+    for (size_t k = 0; kept && k < kept->count; k++) words_due[PAST + kept->at[k] / 64] |= (uint64_t)1 << kept->at[k] % 64;
+}
+
+static void hold_lent(void) { HOLD(memcmp(words, words_due, (words_len + 2 * PAST) * sizeof words[0]) == 0); }
+
 /* ---- the calls */
 
 static void try_open(void) {
@@ -349,22 +530,21 @@ static void try_open(void) {
     save();
     RingHead r = ring_open(at(&P), P.len);
     saw(r.number), hold_saved();
-    uint32_t number = open_no(P.words, P.len);
-    HOLD(number ? r.number == number : r.number == 0 || r.number == 7 || r.number == 8);
-    if (r.number) HOLD(r.len == 0 && r.n == 0 && r.m == 0);
-    else HOLD(r.len == P.len && r.n == count_of(&P) && r.m == nodes_of(&P));
+    HOLD(r.number == open_no(P.words, P.len));
+    if (r.number) HOLD(r.len == 0 && r.n == 0 && r.m == 0 && r.edition == 0 && r.form == 0);
+    else HOLD(r.len == P.len && r.n == count_of(&P) && r.m == nodes_of(&P) && r.edition == (uint32_t)P.words[P.len - 2] && r.form == (uint32_t)P.words[P.len - 1]);
 }
 
 /* what is handed to the packer */
 static struct {
     size_t n, points_len, order_len;
-    uint32_t edition;
-    int32_t points[MOST], order[MOST];
+    uint32_t form, edition;
+    int32_t points[3 * 1400], order[1400];
 } in_hand, was_in_hand;
 
 /* one thing wrong with it, or nothing; own is how many points there are */
 static void spoil(size_t own) {
-    size_t way = below(16);
+    size_t way = below(18);
     if (way == 0) in_hand.points_len = below(3 * own + 3);
     if (way == 1) in_hand.order_len = below(own + 3);
     if (way == 2) in_hand.edition = wild();
@@ -375,26 +555,36 @@ static void spoil(size_t own) {
     if (way == 7) in_hand.n = wild_size();
     if (way == 8) in_hand.n = in_hand.points_len = in_hand.order_len = P.len = 0;
     if (way == 9) in_hand.n = in_hand.order_len = 1001 + below(400), in_hand.points_len = 3 * in_hand.n;
+    if (way == 10) in_hand.form = below(2) ? 3 - in_hand.form : wild();
+}
+
+/* P is what was packed: it opens, and has these points, this order, nodes of 16, this edition and form */
+static void hold_packed(uint32_t form, size_t n, const int32_t *points, const int32_t *order, uint32_t edition) {
+    HOLD(open_no(P.words, P.len) == 0 && count_of(&P) == n && nodes_of(&P) == nodes_for(n));
+    HOLD(memcmp(P.words, points, 3 * n * 4) == 0 && memcmp(P.words + 3 * n, order, n * 4) == 0);
+    HOLD(P.words[P.len - 2] == (int32_t)edition && P.words[P.len - 1] == (int32_t)form);
+    for (size_t v = 0; v + 1 < nodes_of(&P); v++) {
+        const int32_t *node = P.words + 5 * n + 7 * v;
+        HOLD(node[2] == 16 || node[7] != node[0]);
+    }
 }
 
 static void try_pack(void) {
     size_t n = some_n(40);
-    in_hand.n = in_hand.order_len = n, in_hand.points_len = 3 * n, in_hand.edition = 1 + (uint32_t)below(1000000000);
-    make_points(in_hand.points, n), make_order(in_hand.order, n);
+    in_hand.n = in_hand.order_len = n, in_hand.points_len = 3 * n, in_hand.edition = 1 + (uint32_t)below(1000000000), in_hand.form = 1 + (uint32_t)below(2);
+    make_points(in_hand.points, n, in_hand.form), make_order(in_hand.points, in_hand.order, n);
     P.len = length_for(n);
     for (size_t i = 0; i < P.len; i++) P.words[i] = (int32_t)chance();
     spoil(n), spoil(n);
     was_in_hand = in_hand, save();
     const int32_t *points = in_hand.points_len ? in_hand.points : NULL, *order = in_hand.order_len ? in_hand.order : NULL;
-    uint32_t r = ring_pack(in_hand.n, points, in_hand.points_len, order, in_hand.order_len, in_hand.edition, P.len ? P.words : NULL, P.len);
+    uint32_t r = ring_pack(in_hand.form, in_hand.n, points, in_hand.points_len, order, in_hand.order_len, in_hand.edition, P.len ? P.words : NULL, P.len);
     saw(r);
-    HOLD(r == pack_no(in_hand.n, points, in_hand.points_len, order, in_hand.order_len, in_hand.edition, P.len));
+    HOLD(r == pack_no(in_hand.form, in_hand.n, points, in_hand.points_len, order, in_hand.order_len, in_hand.edition, P.len));
     HOLD(memcmp(&in_hand, &was_in_hand, sizeof in_hand) == 0);
-    n = in_hand.n;
     if (r == 0) {
-        HOLD(memcmp(P.words, in_hand.points, 3 * n * 4) == 0 && memcmp(P.words + 3 * n, in_hand.order, n * 4) == 0);
-        HOLD(P.words[P.len - 2] == (int32_t)in_hand.edition && ring_open(P.words, P.len).number == 0);
-        memcpy(P.words, P_was.words, P.len * 4);
+        hold_packed(in_hand.form, in_hand.n, in_hand.points, in_hand.order, in_hand.edition);
+        memcpy(P.words, P.was, P.len * 4);
     }
     hold_saved();
 }
@@ -403,7 +593,7 @@ static void try_point(void) {
     make_sheet(&P, some_n(20));
     if (below(3) == 0) damage(&P);
     save();
-    uint32_t number = ring_open(at(&P), P.len).number;
+    uint32_t number = open_no(P.words, P.len);
     size_t n = number ? 0 : count_of(&P), i = below(3) ? below(n + 2) : wild_size();
     RingPoint r = ring_point(at(&P), P.len, i);
     saw(r.number), hold_saved();
@@ -418,32 +608,30 @@ static uint32_t two_sheets(size_t most, size_t *j, size_t *i) {
     if (below(4) == 0) damage(&P);
     if (below(4) == 0) damage(&Q);
     save();
-    uint32_t p = ring_open(at(&P), P.len).number, q = ring_open(at(&Q), Q.len).number;
+    uint32_t p = open_no(P.words, P.len), q = open_no(Q.words, Q.len);
     *j = below(8) ? below(q ? 9 : count_of(&Q) + 1) : wild_size();
     *i = below(8) ? below(p ? 9 : count_of(&P) + 1) : wild_size();
     return p ? p : q;
 }
 
 static void try_filter(void) {
-    static bool expected[1000];
-    size_t j, i, set = 0;
+    static Kept expected;
+    size_t j, i;
+    uint64_t opened = 0;
     uint32_t number = two_sheets(14, &j, &i);
-    RingFiltered r = ring_filter_walk(at(&P), P.len, at(&Q), Q.len, j);
-    saw(r.number), hold_saved();
-    HOLD(r.number == (number ? number : j < count_of(&Q) ? 0 : 9));
-    for (i = 0; i < 1024; i++) {
-        bool kept = r.bits[i / 64] >> i % 64 & 1;
-        set += kept;
-        if (r.number || i >= count_of(&P)) HOLD(!kept);
-        else if (!kept && i < 60) HOLD(!is_pair(j, i));
-    }
-    HOLD(r.count == set && r.opened == (r.number ? 0 : filtered(Q.words + 3 * j, SIZE_MAX, expected)));
-    for (i = 0; !r.number && i < count_of(&P); i++) HOLD(expected[i] == (bool)(r.bits[i / 64] >> i % 64 & 1));
+    if (!number && j >= count_of(&Q)) number = 9;
+    number = lend(number, 1);
+    if (!number) opened = filtered(Q.words + 3 * j, SIZE_MAX, &expected), leave(1, &expected);
+    RingFiltered r = ring_filter_walk(at(&P), P.len, at(&Q), Q.len, j, bits(), words_len);
+    saw(r.number), hold_saved(), hold_lent();
+    HOLD(r.number == number && r.count == (number ? 0 : expected.count) && r.opened == opened);
+    for (i = 0; !number && i < count_of(&P); i++) HOLD(expected.is[i] || !is_pair(j, i));
 }
 
 static void try_pair(void) {
     size_t j, i;
-    uint32_t number = two_sheets(14, &j, &i);
+    uint32_t number = two_sheets(80, &j, &i);
+    if (below(8) == 0) make_far(&P), make_far(&Q), save(), number = 0, j = below(count_of(&Q)), i = below(count_of(&P));
     RingWalked r = ring_pair_walk(at(&P), P.len, at(&Q), Q.len, j, i);
     saw(r.number), hold_saved();
     HOLD(r.number == (number ? number : j < count_of(&Q) && i < count_of(&P) ? 0 : 9));
@@ -478,13 +666,15 @@ static RingPage page_of(RingKey key, size_t size, uint32_t t) {
     memset(&g, 0, sizeof g);
     g.source.p_edition = (uint32_t)P.words[P.len - 2], g.source.q_edition = (uint32_t)Q.words[Q.len - 2], g.source.terms.threshold = t;
     g.key = key, g.end = true;
-    for (size_t j = 0; j < count_of(&Q) && g.end; j++)
+    for (size_t j = 0; j < count_of(&Q) && g.end; j++) {
+        if ((uint32_t)Q.words[3 * j] < key.q) continue;
         for (size_t i = 0; i < count_of(&P) && g.end; i++) {
             RingPair v = pair_of(j, i);
             if (!after(key, v) || !is_pair(j, i) || (t && partners_of(j) < t)) continue;
             if (g.count < size) g.pairs[g.count++] = v;
             else g.end = false;
         }
+    }
     return g;
 }
 
@@ -494,7 +684,7 @@ static bool same_page(const RingPage *a, const RingPage *b) {
 }
 
 /* a threshold: few, or anything */
-static uint32_t some_threshold(void) { return below(3) == 0 ? 0 : below(6) ? (uint32_t)below(6) : below(2) ? 999 + (uint32_t)below(3) : wild(); }
+static uint32_t some_threshold(void) { return below(3) == 0 ? 0 : below(6) ? (uint32_t)below(6) : below(2) ? 59999 + (uint32_t)below(3) : wild(); }
 
 static void try_page(void) {
     uint32_t t = some_threshold();
@@ -505,9 +695,11 @@ static void try_page(void) {
     if (!number && j < count_of(&Q) && i < count_of(&P)) key.q = (uint32_t)Q.words[3 * j] + (uint32_t)below(2), key.p = (uint32_t)P.words[3 * i];
     if (below(6) == 0) key.q = wild();
     if (below(6) == 0) key.p = wild();
-    if (!number) number = key.q > 2000000000 || key.p > 2000000000 ? 9 : size < 1 || size > 16 ? 10 : t > 1000 ? 21 : 0;
-    RingPaged r = ring_page(at(&P), P.len, at(&Q), Q.len, (RingRequest){key, size, t});
-    saw(r.number), hold_saved();
+    if (!number) number = key.q > 2000000000 || key.p > 2000000000 ? 9 : size < 1 || size > 16 ? 10 : t > 60000 ? 21 : 0;
+    number = lend(number, 1);
+    if (!number) leave(1, NULL);
+    RingPaged r = ring_page(at(&P), P.len, at(&Q), Q.len, (RingRequest){key, size, t}, bits(), words_len);
+    saw(r.number), hold_saved(), hold_lent();
     HOLD(r.number == number && r.opened == (number ? 0 : page_opened(key, size, t, false)));
     if (r.number) memset(&expected, 0, sizeof expected);
     else expected = page_of(key, size, t);
@@ -520,7 +712,8 @@ static RingPage own_of(RingKey key, size_t size) {
     memset(&g, 0, sizeof g);
     g.source.p_edition = g.source.q_edition = (uint32_t)P.words[P.len - 2], g.source.terms.own = true;
     g.key = key, g.end = true;
-    for (size_t j = 0; j < count_of(&P) && g.end; j++)
+    for (size_t j = 0; j < count_of(&P) && g.end; j++) {
+        if ((uint32_t)P.words[3 * j] < key.q) continue;
         for (size_t i = j + 1; i < count_of(&P) && g.end; i++) {
             const int32_t *a = P.words + 3 * j, *b = P.words + 3 * i;
             RingPair v = size_of(a, b);
@@ -530,6 +723,7 @@ static RingPage own_of(RingKey key, size_t size) {
             if (g.count < size) g.pairs[g.count++] = v;
             else g.end = false;
         }
+    }
     return g;
 }
 
@@ -538,13 +732,15 @@ static void try_own(void) {
     RingKey key = {0, 0};
     RingPage expected;
     two_sheets(40, &j, &i);
-    uint32_t number = ring_open(at(&P), P.len).number;
+    uint32_t number = open_no(P.words, P.len);
     if (!number && i < count_of(&P) && below(2)) key.q = (uint32_t)P.words[3 * i], key.p = key.q + (uint32_t)below(3);
     if (below(6) == 0) key.q = wild();
     if (below(6) == 0) key.p = wild();
     if (!number) number = key.q > 2000000000 || key.p > 2000000000 ? 9 : size < 1 || size > 16 ? 10 : 0;
-    RingPaged r = ring_own_page(at(&P), P.len, key, size);
-    saw(r.number), hold_saved();
+    number = lend(number, 1);
+    if (!number) leave(1, NULL);
+    RingPaged r = ring_own_page(at(&P), P.len, key, size, bits(), words_len);
+    saw(r.number), hold_saved(), hold_lent();
     HOLD(r.number == number && r.opened == (number ? 0 : page_opened(key, size, 0, true)));
     if (r.number) memset(&expected, 0, sizeof expected);
     else expected = own_of(key, size);
@@ -574,10 +770,11 @@ static void try_shortest(void) {
     RingPair expected[16];
     uint32_t number = two_sheets(14, &j, &i);
     if (!number) number = k < 1 || k > 16 ? 10 : 0;
+    number = lend(number, 1);
     memset(expected, 0, sizeof expected);
-    if (!number) count = shortest_of(k, expected);
-    RingShortlist r = ring_shortest(at(&P), P.len, at(&Q), Q.len, k);
-    saw(r.number), hold_saved();
+    if (!number) count = shortest_of(k, expected), leave(1, NULL);
+    RingShortlist r = ring_shortest(at(&P), P.len, at(&Q), Q.len, k, bits(), words_len);
+    saw(r.number), hold_saved(), hold_lent();
     HOLD(r.number == number && r.count == count && memcmp(r.pairs, expected, sizeof expected) == 0);
 }
 
@@ -590,10 +787,12 @@ static void try_partners(void) {
         known = false;
         for (size_t k = 0; k < count_of(&Q); k++)
             if ((uint32_t)Q.words[3 * k] == id) known = true, many = partners_of(k);
-        number = !known ? 20 : t < 1 || t > 1000 ? 21 : 0;
+        number = !known ? 20 : t < 1 || t > 60000 ? 21 : 0;
     }
-    RingPartners r = ring_partners(at(&P), P.len, at(&Q), Q.len, id, t);
-    saw(r.number), hold_saved();
+    number = lend(number, 1);
+    if (!number) leave(1, NULL);
+    RingPartners r = ring_partners(at(&P), P.len, at(&Q), Q.len, id, t, bits(), words_len);
+    saw(r.number), hold_saved(), hold_lent();
     HOLD(r.number == number);
     HOLD(r.count == (number ? 0 : many < t ? many : t) && r.enough == (!number && many >= t));
 }
@@ -604,7 +803,7 @@ static void try_begin(void) {
     RingSource s = {some_edition(), some_edition(), {some_threshold(), below(2)}}, none = {0, 0, {0, false}};
     if (below(2)) s.q_edition = s.p_edition;
     bool ok = in(1, s.p_edition, 1000000000) && in(1, s.q_edition, 1000000000) && !(s.terms.own && s.p_edition != s.q_edition);
-    uint32_t number = !ok ? 3 : s.terms.threshold > (s.terms.own ? 0 : 1000) ? 21 : 0;
+    uint32_t number = !ok ? 3 : s.terms.threshold > (s.terms.own ? 0 : 60000) ? 21 : 0;
     RingBook begun = {0, false, number ? none : s};
     RingBegun r = ring_book_begin(s);
     saw(r.number);
@@ -647,7 +846,7 @@ static RingPage make_page(const RingBook *b, size_t len) {
         if (below(2)) v.p++;
         else v.q += 1 + (uint32_t)below(3), v.p = 1 + (uint32_t)below(9);
         if (v.q == 0) v.q = 1;
-        v.size = below(4) ? below(1000) : 8000000000000 - below(2);
+        v.size = below(4) ? below(1000) : 8000000000000000000 - below(2);
         g.pairs[k] = v;
     }
     return g;
@@ -666,7 +865,7 @@ static void spoil_page(RingPage *g) {
     case 7: g->pairs[1] = g->pairs[0]; break;
     case 8: g->count = 0; break;
     case 9: g->key.p = wild(); break;
-    case 10: g->pairs[below(3)].size = 8000000000001; break;
+    case 10: g->pairs[below(3)].size = 8000000000000000001; break;
     case 11: g->pairs[below(16)].size = wild_size(); break;
     case 12: g->source.terms.threshold++; break;
     case 13: g->source.terms.threshold = wild(); break;
@@ -691,11 +890,11 @@ static void try_take(void) {
     HOLD(memcmp(room, room_was, sizeof room) == 0);
 }
 
-static int32_t some_coordinate(void) { return below(4) ? between(-1000000, 1000000) : (int32_t)wild(); }
+static int32_t some_coordinate(void) { return below(4) ? between(-1000000000, 1000000000) : below(2) ? 1000000000 * between(-1, 1) : (int32_t)wild(); }
 
 static void try_marker(void) {
-    int32_t ax = some_coordinate(), ay = some_coordinate(), bx = below(4) ? some_coordinate() : -(ax + 1) + 1, by = some_coordinate();
-    bool ok = in(-1000000, ax, 1000000) && in(-1000000, ay, 1000000) && in(-1000000, bx, 1000000) && in(-1000000, by, 1000000);
+    int32_t ax = some_coordinate(), ay = some_coordinate(), bx = below(4) || ax == INT32_MIN ? some_coordinate() : -ax, by = some_coordinate();
+    bool ok = in(-1000000000, ax, 1000000000) && in(-1000000000, ay, 1000000000) && in(-1000000000, bx, 1000000000) && in(-1000000000, by, 1000000000);
     double zero = 0.0;
     RingMarker r = ring_marker(ax, ay, bx, by);
     saw(r.number);
@@ -710,7 +909,7 @@ static void try_marker(void) {
 /* the chambers of a leaf, and what one walk of P keeps for each */
 static struct {
     size_t chambers, at[16];
-    bool kept[16][1000];
+    Kept kept[16];
     uint64_t opened;
 } leaf;
 
@@ -720,54 +919,52 @@ static const int32_t *chamber(size_t k) { return Q.words + 3 * leaf.at[k]; }
 static bool ruled_out(size_t k, const int32_t *box, const int32_t *spot) {
     for (size_t h = 0; h < leaf.chambers; h++)
         if (h != k && (box ? skips(chamber(k), box, chamber(h)) : blocks(chamber(k), spot, chamber(h)))) return true;
-    for (size_t i = 0; i < count_of(&P); i++) {
-        const int32_t *p = P.words + 3 * i;
-        if (leaf.kept[k][i] && (box ? skips(chamber(k), box, p) : blocks(chamber(k), spot, p))) return true;
-    }
-    return false;
+    return skipped(&leaf.kept[k], chamber(k), box, spot);
 }
 
 static void walk_node(size_t v) {
     const int32_t *node = node_of(&P, v);
-    size_t skipped = 0;
-    for (size_t k = 0; k < leaf.chambers; k++) skipped += ruled_out(k, node + 3, 0);
-    if (skipped == leaf.chambers) return;
+    size_t out = 0;
+    for (size_t k = 0; k < leaf.chambers; k++) out += ruled_out(k, node + 3, NULL);
+    if (out == leaf.chambers) return;
     leaf.opened++;
     for (int32_t c = node[1]; c < node[1] + node[2]; c++)
         if (node[0]) walk_node((size_t)c);
         else
-            for (size_t k = 0, i = stands(&P, c); k < leaf.chambers; k++) leaf.kept[k][i] = !ruled_out(k, 0, P.words + 3 * i);
+            for (size_t k = 0, i = stands(&P, c); k < leaf.chambers; k++)
+                if (!ruled_out(k, NULL, P.words + 3 * i)) keep(&leaf.kept[k], i);
 }
 
 /* leaf v of Q: its pairs by place, then p id, and the nodes opened; how many pairs */
 static size_t run_of(size_t v, RingPair *pairs) {
     const int32_t *node = node_of(&Q, v);
     size_t count = 0;
-    memset(&leaf, 0, sizeof leaf);
-    for (int32_t c = node[1]; c < node[1] + node[2]; c++) leaf.at[leaf.chambers++] = stands(&Q, c);
+    leaf.chambers = 0, leaf.opened = 0;
+    for (int32_t c = node[1]; c < node[1] + node[2]; c++) keep_none(&leaf.kept[leaf.chambers]), leaf.at[leaf.chambers++] = stands(&Q, c);
     if (nodes_of(&P)) walk_node(nodes_of(&P) - 1);
     for (size_t k = 0; k < leaf.chambers; k++)
         for (size_t i = 0; i < count_of(&P); i++) {
-            if (leaf.kept[k][i]) leaf.opened += walked(chamber(k), P.words + 3 * i, leaf.at[k], i, false).opened;
+            if (leaf.kept[k].is[i]) leaf.opened += walked(chamber(k), P.words + 3 * i, leaf.at[k], i, false).opened;
             if (is_pair(leaf.at[k], i)) pairs[count++] = pair_of(leaf.at[k], i);
         }
     return count;
 }
 
 static void try_leaf(void) {
-    static RingPair pairs[16000], lent[304], lent_was[304];
+    static RingPair pairs[16 * MANY], lent[304], lent_was[304];
     size_t v, i, count = 0;
     uint32_t number = two_sheets(60, &v, &i);
     if (!number && below(8)) v = below((count_of(&Q) + 15) / 16 + 1);
     if (!number && (v >= nodes_of(&Q) || node_of(&Q, v)[0])) number = 19;
+    number = lend(number, 16);
     if (!number) count = run_of(v, pairs);
     size_t len = below(2) || count > 300 ? below(301) : below(2) ? count : below(count + 1);
     if (!number && count > len) number = 16;
     for (size_t k = 0; k < 304; k++) lent[k].q = wild(), lent[k].p = wild(), lent[k].size = wild_size();
     memcpy(lent_was, lent, sizeof lent);
-    RingRun r = ring_leaf_run(at(&P), P.len, at(&Q), Q.len, v, len ? lent + 2 : NULL, len);
-    saw(r.number), hold_saved();
-    if (!number) memcpy(lent_was + 2, pairs, count * sizeof pairs[0]);
+    if (!number) leave(16, NULL), memcpy(lent_was + 2, pairs, count * sizeof pairs[0]);
+    RingRun r = ring_leaf_run(at(&P), P.len, at(&Q), Q.len, v, len ? lent + 2 : NULL, len, bits(), words_len);
+    saw(r.number), hold_saved(), hold_lent();
     HOLD(r.number == number && r.count == (number ? 0 : count) && r.opened == (number ? 0 : leaf.opened));
     HOLD(memcmp(lent, lent_was, sizeof lent) == 0);
 }
@@ -785,11 +982,11 @@ static uint64_t how_far(const int32_t *q, size_t e) {
 }
 
 /* what the walk that goes nearest first keeps for q; the nodes opened */
-static uint64_t near_walk(const int32_t *q, bool *kept) {
-    static size_t waits[2000];
+static uint64_t near_walk(const int32_t *q, Kept *kept) {
+    static size_t waits[LARGEST + NODES];
     size_t count = 0, m = nodes_of(&P);
     uint64_t opened = 0;
-    memset(kept, 0, 1000 * sizeof *kept);
+    keep_none(kept);
     if (m) waits[count++] = m - 1;
     while (count) {
         size_t best = 0;
@@ -798,16 +995,13 @@ static uint64_t near_walk(const int32_t *q, bool *kept) {
             if (one < other || (one == other && waits[k] < waits[best])) best = k;
         }
         size_t e = waits[best];
-        const int32_t *node = node_of(&P, e), *spot = P.words + 3 * (e - m);
-        bool out = false;
         waits[best] = waits[--count];
-        for (size_t i = 0; i < count_of(&P); i++)
-            if (kept[i]) out |= e < m ? skips(q, node + 3, P.words + 3 * i) : blocks(q, spot, P.words + 3 * i);
-        if (out) continue;
         if (e >= m) {
-            kept[e - m] = true;
+            if (!skipped(kept, q, NULL, P.words + 3 * (e - m))) keep(kept, e - m);
             continue;
         }
+        const int32_t *node = node_of(&P, e);
+        if (skipped(kept, q, node + 3, NULL)) continue;
         opened++;
         for (int32_t c = node[1]; c < node[1] + node[2]; c++) waits[count++] = node[0] ? (size_t)c : m + stands(&P, c);
     }
@@ -833,8 +1027,8 @@ static size_t nearest_of(const int32_t *q, size_t size, RingNear *near) {
 
 static uint64_t lent[1604], lent_was[1604];
 
-/* lent numbers between guards: how many; the number of refusal from the sheets' on, and the position of the chamber */
-static uint32_t near_asked(uint32_t *id, size_t *j, bool sized, size_t size, size_t *len) {
+/* lent numbers between guards: how many; the number of refusal from the sheets' on, and the position of the chamber. A filter has no size, and is lent words */
+static uint32_t near_asked(uint32_t *id, size_t *j, bool filter, size_t size, size_t *len) {
     size_t i, need;
     uint32_t number = two_sheets(60, j, &i);
     *id = wild();
@@ -843,7 +1037,8 @@ static uint32_t near_asked(uint32_t *id, size_t *j, bool sized, size_t size, siz
     need = number ? 10 : count_of(&P) + nodes_of(&P);
     *len = below(3) ? need : below(2) && need ? need - 1 : need + below(3);
     if (!number && *j >= count_of(&Q)) number = 20;
-    if (!number && sized && (size < 1 || size > 16)) number = 10;
+    if (filter) number = lend(number, 1);
+    else if (!number && (size < 1 || size > 16)) number = 10;
     if (!number && *len < need) number = 25;
     for (size_t k = 0; k < 1604; k++) lent[k] = chance();
     memcpy(lent_was, lent, sizeof lent);
@@ -853,7 +1048,7 @@ static uint32_t near_asked(uint32_t *id, size_t *j, bool sized, size_t size, siz
 
 static void try_nearest(void) {
     size_t j, len, count = 0, size = below(6) ? 1 + below(16) : wild_size();
-    uint32_t id, number = near_asked(&id, &j, true, size, &len);
+    uint32_t id, number = near_asked(&id, &j, false, size, &len);
     RingNear expected[16];
     memset(expected, 0, sizeof expected);
     if (!number) count = nearest_of(Q.words + 3 * j, size, expected);
@@ -865,27 +1060,179 @@ static void try_nearest(void) {
 }
 
 static void try_near_filter(void) {
-    static bool kept[1000];
-    size_t j, len, count = 0;
-    uint64_t bits[16], opened = 0;
-    uint32_t id, number = near_asked(&id, &j, false, 0, &len);
-    memset(bits, 0, sizeof bits);
-    if (!number) opened = near_walk(Q.words + 3 * j, kept);
-    for (size_t i = 0; !number && i < count_of(&P); i++)
-        if (kept[i]) bits[i / 64] |= (uint64_t)1 << (i % 64), count++;
-    RingFiltered r = ring_near_filter(at(&P), P.len, at(&Q), Q.len, id, len ? lent + 2 : NULL, len);
-    saw(r.number), hold_saved();
-    HOLD(r.number == number && r.count == count && r.opened == opened && memcmp(r.bits, bits, sizeof bits) == 0);
-    for (size_t i = 0; !number && i < count_of(&P); i++) HOLD(kept[i] || !is_pair(j, i));
+    static Kept kept;
+    size_t j, len;
+    uint64_t opened = 0;
+    uint32_t id, number = near_asked(&id, &j, true, 0, &len);
+    if (!number) opened = near_walk(Q.words + 3 * j, &kept), leave(1, &kept);
+    RingFiltered r = ring_near_filter(at(&P), P.len, at(&Q), Q.len, id, len ? lent + 2 : NULL, len, bits(), words_len);
+    saw(r.number), hold_saved(), hold_lent();
+    HOLD(r.number == number && r.count == (number ? 0 : kept.count) && r.opened == opened);
+    for (size_t i = 0; !number && i < count_of(&P); i++) HOLD(kept.is[i] || !is_pair(j, i));
     HOLD(memcmp(lent, lent_was, sizeof lent) == 0);
+}
+
+/* ---- two sheets of 60,000 points */
+
+#define PROVINCE (5 * LARGEST + 7 * NODES + 6)
+
+static int32_t wide[4][PROVINCE + 2 * PAST], wide_points[3 * LARGEST + 3], wide_order[LARGEST + 1];
+
+/* the whole sheet in P: packed, opened, and refused with one point more and under the limits of form 1 */
+static void province(uint64_t which, uint32_t edition) {
+    province_points(wide_points, LARGEST + 1, which), province_tile(wide_points, wide_order, LARGEST);
+    P.len = PROVINCE;
+    for (size_t k = 0; k < PROVINCE + 2 * PAST; k++) (P.words - PAST)[k] = (int32_t)chance();
+    save();
+    static const struct {
+        uint32_t form, number;
+        size_t n, order_len, out_len;
+    } refused[] = {
+        {2, 3, LARGEST + 1, LARGEST + 1, PROVINCE}, {1, 3, LARGEST, LARGEST, PROVINCE},      {3, 2, LARGEST, LARGEST, PROVINCE},
+        {0, 2, LARGEST, LARGEST, PROVINCE},         {3, 18, LARGEST, LARGEST - 1, PROVINCE}, {2, 17, LARGEST, LARGEST, PROVINCE - 1},
+    };
+    for (size_t k = 0; k < sizeof refused / sizeof refused[0]; k++) {
+        uint32_t r = ring_pack(refused[k].form, refused[k].n, wide_points, 3 * refused[k].n, wide_order, refused[k].order_len, edition, P.words, refused[k].out_len);
+        saw(r), hold_saved();
+        HOLD(r == refused[k].number);
+    }
+    uint32_t r = ring_pack(2, LARGEST, wide_points, 3 * LARGEST, wide_order, LARGEST, edition, P.words, P.len);
+    saw(r);
+    HOLD(r == 0 && memcmp(P.words - PAST, P.was - PAST, PAST * 4) == 0 && memcmp(P.words + PROVINCE, P.was + PROVINCE, PAST * 4) == 0);
+    hold_packed(2, LARGEST, wide_points, wide_order, edition);
+    save();
+    RingHead h = ring_open(P.words, P.len);
+    saw(h.number), hold_saved();
+    HOLD(h.number == 0 && h.len == PROVINCE && h.n == LARGEST && h.m == NODES && h.edition == edition && h.form == 2);
+}
+
+/* a page of P and Q, or of P's self join, with so many words lent */
+static void province_page(RingKey key, size_t size, bool own, size_t len) {
+    uint32_t number = len < words_for(count_of(&P)) ? 24 : 0;
+    RingPage expected;
+    memset(&expected, 0, sizeof expected);
+    lend_words(len);
+    if (!number) leave(1, NULL), expected = own ? own_of(key, size) : page_of(key, size, 0);
+    RingPaged r = own ? ring_own_page(P.words, P.len, key, size, bits(), len) : ring_page(P.words, P.len, Q.words, Q.len, (RingRequest){key, size, 0}, bits(), len);
+    saw(r.number), hold_saved(), hold_lent();
+    HOLD(r.number == number && r.opened == (number ? 0 : page_opened(key, size, 0, own)));
+    HOLD(same_page(&r.page, &expected));
+    HOLD(number || r.page.count);
+}
+
+/* the run of a leaf, with too few words, too few slots, and enough of both */
+static void province_run(size_t v) {
+    static RingPair pairs[16 * LARGEST], slots[1024 + 2], slots_was[1024 + 2];
+    size_t need = 16 * words_for(count_of(&P)), count = run_of(v, pairs);
+    HOLD(1 <= count && count <= 1024);
+    for (int way = 0; way < 3 && in(1, (int64_t)count, 1024); way++) {
+        uint32_t number = way == 0 ? 24 : way == 1 ? 16 : 0;
+        size_t len = way == 2 ? count : count - 1;
+        for (size_t k = 0; k < 1024 + 2; k++) slots[k].q = wild(), slots[k].p = wild(), slots[k].size = chance();
+        memcpy(slots_was, slots, sizeof slots);
+        lend_words(way == 0 ? need - 1 : need + 40);
+        if (!number) leave(16, NULL), memcpy(slots_was + 1, pairs, count * sizeof pairs[0]);
+        RingRun r = ring_leaf_run(P.words, P.len, Q.words, Q.len, v, slots + 1, len, bits(), words_len);
+        saw(r.number), hold_saved(), hold_lent();
+        HOLD(r.number == number && r.count == (number ? 0 : count) && r.opened == (number ? 0 : leaf.opened));
+        HOLD(memcmp(slots, slots_was, sizeof slots) == 0);
+    }
+}
+
+/* numbers lent for what waits, with one on either side; and what they are to hold after the call */
+static uint64_t numbers[LARGEST + NODES + 2], numbers_due[LARGEST + NODES + 2];
+
+static void lend_numbers(void) {
+    for (size_t k = 0; k < LARGEST + NODES + 2; k++) numbers[k] = chance(), numbers_due[k] = k && k <= LARGEST + NODES ? 0 : numbers[k];
+}
+
+/* both filters for the chamber at position j, the pump houses nearest to it, and its partners */
+static void province_chamber(size_t j) {
+    static Kept kept;
+    const int32_t *q = Q.words + 3 * j;
+    uint32_t id = (uint32_t)q[0];
+    size_t need = words_for(LARGEST), many = partners_of(j);
+    uint64_t opened = filtered(q, SIZE_MAX, &kept);
+    lend_words(need), leave(1, &kept);
+    RingFiltered r = ring_filter_walk(P.words, P.len, Q.words, Q.len, j, bits(), need);
+    saw(r.number), hold_saved(), hold_lent();
+    HOLD(r.number == 0 && r.count == kept.count && r.opened == opened);
+
+    opened = near_walk(q, &kept);
+    lend_words(need), leave(1, &kept), lend_numbers();
+    r = ring_near_filter(P.words, P.len, Q.words, Q.len, id, numbers + 1, LARGEST + NODES, bits(), need);
+    saw(r.number), hold_saved(), hold_lent();
+    HOLD(r.number == 0 && r.count == kept.count && r.opened == opened && memcmp(numbers, numbers_due, sizeof numbers) == 0);
+
+    RingNear expected[16];
+    size_t count = nearest_of(q, 16, expected);
+    lend_numbers();
+    RingFound f = ring_nearest(P.words, P.len, Q.words, Q.len, id, 16, numbers + 1, LARGEST + NODES);
+    saw(f.number), hold_saved();
+    HOLD(f.number == 0 && f.count == count && memcmp(numbers, numbers_due, sizeof numbers) == 0);
+    for (size_t k = 0; k < count; k++) HOLD(f.points[k].id == expected[k].id && f.points[k].distance == expected[k].distance);
+
+    for (uint32_t t = 60000; t <= 60001; t++) {
+        bool ok = t <= 60000;
+        lend_words(need);
+        if (ok) leave(1, NULL);
+        RingPartners n = ring_partners(P.words, P.len, Q.words, Q.len, id, t, bits(), need);
+        saw(n.number), hold_saved(), hold_lent();
+        HOLD(n.number == (ok ? 0 : 21) && n.count == (ok ? many : 0) && !n.enough);
+    }
+}
+
+/* the leaf of the chamber that is nearest to a pump house: the two are a pair */
+static size_t nearest_leaf(void) {
+    size_t nearest = 0;
+    uint64_t least = ~(uint64_t)0;
+    for (size_t j = 0; j < count_of(&Q); j++)
+        for (size_t i = 0; i < count_of(&P); i++) {
+            uint64_t d = to_spot(Q.words + 3 * j, P.words + 3 * i);
+            if (d < least) least = d, nearest = j;
+        }
+    return (size_t)Q.words[4 * count_of(&Q) + nearest] / 16;
+}
+
+static RingKey key_at(const Sheet *s, size_t j, uint32_t p) {
+    RingKey key = {(uint32_t)s->words[3 * j], p};
+    return key;
+}
+
+static void try_provinces(void) {
+    Sheet wide_p = {wide[0] + PAST, wide[1] + PAST, 0}, wide_q = {wide[2] + PAST, wide[3] + PAST, 0};
+    const RingKey start = {0, 0};
+    const size_t need = words_for(LARGEST);
+    seed = 88172645463325252ull;
+    Q.len = 0;
+    P = wide_q, province(2, 9), wide_q = P;
+    P = wide_p, province(1, 7), wide_p = P;
+    Q = wide_q, save();
+    province_page(start, 16, false, need);
+    province_page(key_at(&Q, LARGEST / 2, 1000000000), 16, false, need + 7);
+    province_page(start, 16, false, need - 1);
+    province_page(key_at(&P, LARGEST / 3, 0), 16, true, need);
+    province_run(LARGEST / 16 / 2);
+    province_chamber(LARGEST / 5);
+
+    /* a sheet of form 2 and one of form 1, either way */
+    Q = (Sheet){rooms[2] + PAST, rooms[3] + PAST, 0};
+    make_form(&Q, 12, 1), save();
+    province_page(start, 16, false, need);
+    P = (Sheet){rooms[0] + PAST, rooms[1] + PAST, 0}, Q = wide_q;
+    make_form(&P, 70, 1), save();
+    province_run(nearest_leaf());
 }
 
 int main(void) {
     static void (*const tries[])(void) = {try_open, try_pack, try_point, try_filter, try_pair, try_page, try_own, try_partners, try_shortest, try_begin, try_next, try_take, try_marker, try_leaf, try_nearest, try_near_filter};
     size_t exports = sizeof tries / sizeof tries[0];
-    guard(&P), guard(&Q);
+    for (size_t n = 0; n <= LARGEST; n++) HOLD(RING_WORDS(n) == words_for(n));
+    for (size_t k = 0; k < 4; k++)
+        for (size_t i = 0; i < MOST + 2 * PAST; i++) rooms[k][i] = (int32_t)chance();
     for (size_t k = 0; k < exports; k++)
         for (int i = 0; i < TIMES; i++) tries[k]();
+    try_provinces();
     unsigned long unseen = 0, unnamed = 0;
     for (int k = 0; k <= LAST; k++) unseen += A_NUMBER(k) && seen[k] == 0;
     for (int k = 0; k < 4; k++) unnamed += named[k] == 0;

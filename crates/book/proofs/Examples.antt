@@ -55,11 +55,11 @@ begins : begunFor ours ≡ begun.Open (book 0 false)
 unfolding begunFor beginNo first given answer begunBook editionOk thresholdNo
 begins = refl
 
-no-edition : begunFor (record { «p_edition» = 7; «q_edition» = 0; terms = record { threshold = 1001; own = false } }) ≡ begun.Refused 3
+no-edition : begunFor (record { «p_edition» = 7; «q_edition» = 0; terms = record { threshold = 60001; own = false } }) ≡ begun.Refused 3
 unfolding begunFor beginNo first given answer editionOk
 no-edition = refl
 
-no-threshold : begunFor (record { «p_edition» = 7; «q_edition» = 9; terms = record { threshold = 1001; own = false } }) ≡ begun.Refused 21
+no-threshold : begunFor (record { «p_edition» = 7; «q_edition» = 9; terms = record { threshold = 60001; own = false } }) ≡ begun.Refused 21
 unfolding begunFor beginNo first given answer editionOk thresholdNo
 no-threshold = refl
 
@@ -139,12 +139,12 @@ fifteen : number (book 2 false) (page ours (at 5 2) true (at 5 2 ∷ at 6 1 ∷ 
 unfolding takeNo takeNoAt sourceNo first given sameKey lastKey pageBad pairsOk pairOk idOk sizeOk ascends follows pagePairs
 fifteen = refl
 
--- "15 is also given when a size lies outside 0 to 8,000,000,000,000"
-far : number (book 2 false) (page ours (at 5 2) true (wide 8000000000000 ∷ [])) 0
+-- "15 is also given when a size lies outside 0 to 8,000,000,000,000", which "becomes 8,000,000,000,000,000,000 for every page"
+far : number (book 2 false) (page ours (at 5 2) true (wide 8000000000000000000 ∷ [])) 0
 unfolding takeNo takeNoAt sourceNo first given sameKey lastKey pageBad pairsOk pairOk idOk sizeOk ascends follows pagePairs
 far = refl
 
-too-far : number (book 2 false) (page ours (at 5 2) true (wide 8000000000001 ∷ [])) 15
+too-far : number (book 2 false) (page ours (at 5 2) true (wide 8000000000000000001 ∷ [])) 15
 unfolding takeNo takeNoAt sourceNo first given sameKey lastKey pageBad pairsOk pairOk idOk sizeOk ascends follows pagePairs
 too-far = refl
 

@@ -233,7 +233,7 @@ begun-is : (s : Source) (b : Book) → begunFor s ≡ begun.Open b → begunBook
 unfolding begunFor
 begun-is s b e = by-begun (beginNo s) (begunBook s) b e .1
 
--- what a book can be begun for: a t up to 1,000, and a self join only of one edition and with no t
+-- what a book can be begun for: a t up to 60,000, and a self join only of one edition and with no t
 pub record Beginnable (s : Source) : Type 0 where
   pub t-most : s .terms .threshold ≤ lastThreshold
   pub one-edition : s .terms .own ≡ true → s .«p_edition» ≡ s .«q_edition»

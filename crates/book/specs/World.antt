@@ -17,7 +17,7 @@ use Rattle.book.specs.declared.Begun.the-variants as begun
 use Rattle.book.specs.Rules.{begunFor, lastKey, taken, takenSlots}
 
 -- each edition number has one list of points for P, one for Q and one for self joins ("all sheets given to self joins under one edition number hold the same
--- points"), such as sheets hold: their ids ascend strictly, and they stand within 1,000,000 [D4]
+-- points"), such as sheets hold: their ids ascend strictly, and they stand where a sheet's points may [D4]
 pub record World : Type 0 where
   pub pumps : ℕ → List Point
   pub chambers : ℕ → List Point

@@ -13,6 +13,9 @@ const SMALL: u64 = 1200;
 // Pairs of sets of 1,000 points.
 const LARGE: u64 = 7;
 
+// Pairs of sets of 0 to 60 points, one of form 2 at least.
+const WIDE: u64 = 500;
+
 // What was compared: pairs of sets with no ring pair, ring pairs, pages, last pages with no place left, and pairs of sets that went otherwise than they should.
 struct Tally {
     none: u64,
@@ -40,11 +43,12 @@ fn drawn(x: u64, n: usize) -> usize
 
 // ---- points
 
-// What the points of a set look like: how x, y and the ids are drawn.
+// What the points of a set look like: how x, y and the ids are drawn; and the form of its sheet.
 struct Kind {
     x: usize,
     y: usize,
     id: usize,
+    form: u32,
 }
 
 // A number of 32 bits as a signed word.
@@ -57,9 +61,23 @@ fn signed(v: u32) -> i32 {
     )
 }
 
+// A coordinate of form 2 alone: drawn from the whole range, from its ends and the middle, or always the same.
+fn wide(kind: usize, v: u64) -> i32 {
+    if kind == 6 {
+        return signed(std::num::wrapping_sub_u32((v % 2000000001) as u32, 1000000000));
+    }
+    if kind == 7 {
+        return signed(std::num::wrapping_sub_u32(500000000 * (v % 5) as u32, 1000000000));
+    }
+    -1000000000
+}
+
 // A coordinate drawn from the whole range, from a small grid, from its ends and the middle, or always the same.
 fn coordinate(kind: usize, x: u64) -> i32 {
     let v = x >> 20;
+    if kind > 5 {
+        return wide(kind, v);
+    }
     if kind == 0 {
         return signed(std::num::wrapping_sub_u32((v % 2000001) as u32, 1000000));
     }
@@ -193,13 +211,13 @@ fn sheet_len(n: usize) -> usize
 }
 
 // Packs a set into the first words of `out`, and answers the packer's number.
-fn packed(points: &[i32], n: usize, edition: u32, seed: u64, out: &mut [i32]) -> u32
+fn packed(form: u32, points: &[i32], n: usize, edition: u32, seed: u64, out: &mut [i32]) -> u32
     requires { ⌜ (n ≤ 1000) × (5482 ≤ length (now out)) ⌝ }
 {
     let len = sheet_len(n);
     let mut order = [0i32; 1000];
     make_order(&mut order, n, seed);
-    pack::pack(n, points, &order[..n], edition, &mut out[..len])
+    pack::pack(form, n, points, &order[..n], edition, &mut out[..len])
 }
 
 // ---- a page held to the second join
@@ -270,7 +288,7 @@ struct Listing {
     full: bool,
 }
 
-// The next page, of a size from 1 to 16, and all that is held to the second join.
+// The next page, of a size from 1 to 16, and all that is held to the second join. Sixteen words hold the kept bits of a thousand points.
 fn next_page(p: &[i32], q: &[i32], ps: &[i32], qs: &[i32], l: Listing) -> Listing {
     let size = std::num::wrapping_add_usize(drawn(l.seed, 16), 1);
     let key = l.key;
@@ -280,7 +298,8 @@ fn next_page(p: &[i32], q: &[i32], ps: &[i32], qs: &[i32], l: Listing) -> Listin
         size: size,
         threshold: 0,
     };
-    let r = ring::page::page(ps, qs, request);
+    let mut bits = [0u64; 16];
+    let r = ring::page::page(ps, qs, request, &mut bits);
     let page = r.page;
     let shown = page.key;
     let source = page.source;
@@ -350,15 +369,24 @@ fn counted(t: Tally, l: Listing) -> Tally {
 
 // ---- a pair of sets
 
-fn compared(p: &[i32], np: usize, q: &[i32], nq: usize, seed: u64, t: Tally) -> Tally
+fn compared(
+    p: &[i32],
+    np: usize,
+    p_form: u32,
+    q: &[i32],
+    nq: usize,
+    q_form: u32,
+    seed: u64,
+    t: Tally,
+) -> Tally
     requires { ⌜ (np ≤ 1000) × (nq ≤ 1000) ⌝ }
 {
     let lp = sheet_len(np);
     let lq = sheet_len(nq);
     let mut ps = [0i32; 5482];
     let mut qs = [0i32; 5482];
-    let a = packed(p, np, 7, seed, &mut ps);
-    let b = packed(q, nq, 9, mixed(seed), &mut qs);
+    let a = packed(p_form, p, np, 7, seed, &mut ps);
+    let b = packed(q_form, q, nq, 9, mixed(seed), &mut qs);
     let mut u = t;
     if (a != 0) | (b != 0) {
         u.wrong = std::num::wrapping_add_u64(t.wrong, 1);
@@ -372,11 +400,13 @@ fn made(np: usize, p_kind: Kind, nq: usize, q_kind: Kind, seed: u64, t: Tally) -
 {
     let lp = 3 * np;
     let lq = 3 * nq;
+    let p_form = p_kind.form;
+    let q_form = q_kind.form;
     let mut p = [0i32; 3000];
     let mut q = [0i32; 3000];
     make_points(&mut p, np, p_kind, seed);
     make_points(&mut q, nq, q_kind, mixed(seed ^ 77));
-    compared(&p[..lp], np, &q[..lq], nq, seed, t)
+    compared(&p[..lp], np, p_form, &q[..lq], nq, q_form, seed, t)
 }
 
 // Sets of 0 to 60 points of any kind: one in three has the coordinates of both drawn alike.
@@ -390,12 +420,14 @@ fn small(seed: u64, t: Tally) -> Tally {
         x: x,
         y: y,
         id: drawn(c >> 7, 4),
+        form: 1,
     };
     let other = drawn(c >> 17, 3) > 0;
     let q_kind = Kind {
         x: if other { drawn(a >> 27, 6) } else { x },
         y: if other { drawn(b >> 27, 6) } else { y },
         id: drawn(c >> 27, 4),
+        form: 1,
     };
     made(drawn(a, 61), p_kind, drawn(b, 61), q_kind, c, t)
 }
@@ -409,13 +441,46 @@ fn large(number: u64, seed: u64, t: Tally) -> Tally {
         x: x,
         y: y,
         id: way % 4,
+        form: 1,
     };
     let q_kind = Kind {
         x: if way == 5 { 4 } else { x },
         y: y,
         id: way / 2,
+        form: 1,
     };
     made(1000, p_kind, 1000, q_kind, mixed(seed), t)
+}
+
+// A set of form 2 that has coordinates to the ends of its range, or a set of form 1.
+fn kind_of(form: u32, seed: u64) -> Kind {
+    let a = mixed(seed);
+    let b = mixed(a);
+    let c = mixed(b);
+    let second = form == 2;
+    Kind {
+        x: if second { drawn(a, 3) + 6 } else { drawn(a, 6) },
+        y: if second { drawn(b, 3) + 6 } else { drawn(b, 6) },
+        id: drawn(c, 4),
+        form: form,
+    }
+}
+
+// Sets of 0 to 60 points: both of form 2, or one of them.
+fn two_forms(number: u64, seed: u64, t: Tally) -> Tally {
+    let a = mixed(seed);
+    let b = mixed(a);
+    let c = mixed(b);
+    let p_form = if number % 4 == 1 { 1 } else { 2 };
+    let q_form = if number % 4 == 2 { 1 } else { 2 };
+    made(
+        drawn(a, 61),
+        kind_of(p_form, b),
+        drawn(b, 61),
+        kind_of(q_form, c),
+        c,
+        t,
+    )
 }
 
 fn all_small(seed: u64, t: Tally) -> Tally {
@@ -437,6 +502,18 @@ fn all_large(seed: u64, t: Tally) -> Tally {
     while k < LARGE {
         x = mixed(x);
         u = large(k, x, u);
+        k += 1;
+    }
+    u
+}
+
+fn all_wide(seed: u64, t: Tally) -> Tally {
+    let mut u = t;
+    let mut x = seed;
+    let mut k = 0;
+    while k < WIDE {
+        x = mixed(x);
+        u = two_forms(k, x, u);
         k += 1;
     }
     u
@@ -475,4 +552,9 @@ fn main() {
     print_tally(all_small(88172645463325252, none));
     line(b"pairs of sets of 1,000 points", LARGE);
     print_tally(all_large(2463534242, none));
+    line(
+        b"pairs of sets of 0 to 60 points, of form 2 and mixed",
+        WIDE,
+    );
+    print_tally(all_wide(362436069, none));
 }

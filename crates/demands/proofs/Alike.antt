@@ -1,11 +1,12 @@
--- The calls of `view` promise what the calls of `ring` and `nearest` promise of the words that the views cover: "a view handed in included, its counts read anew from its words". So
--- each theorem of Demand1, Demand2, Demand3 and Nearest on an answer of these holds of theirs. And so for a book, and for a run, whose slots are kept in an array.
+-- The calls of `view` promise what the calls of `ring`, `runs`, `shortest` and `nearest` promise of the words that the views cover:
+-- "a view handed in included, its counts read anew from its words". So each theorem of Demand1, Demand2, Demand3, Lent, Shortest and Nearest on an answer of
+-- these holds of theirs. And so for a book, and for a run, whose slots are kept in an array.
 -- Assumes nothing. [S28]
 use mathlib.Core.Path.{_≡_, ap}
 use mathlib.Core.List.{List, [], _++_}
 use Prim.Native.Nat.{ℕ}
 use lib.IntN.{ℤ}
-use lib.ListN.{take, drop}
+use lib.ListN.{length, take, drop}
 use denote.Ref.{RefT, now}
 use Rattle.list.specs.declared.Key.{Key}
 use Rattle.list.specs.declared.Pair.{Pair}
@@ -24,10 +25,12 @@ use Rattle.book.specs.declared.Asked.{Asked}
 use Rattle.book.specs.declared.TakenArray.{TakenArray}
 use Rattle.list.specs.Lent.{lentOf}
 use Rattle.book.specs.Rules.{takenSlots, takenArray}
+use Rattle.shortest.specs.declared.Shortlist.{Shortlist}
 use Rattle.nearest.specs.declared.Found.{Found}
+use Rattle.runs.specs.declared.Run.{Run}
 use Rattle.runs.specs.declared.RunArray.{RunArray}
 use Rattle.runs.specs.Run as runs
-use Rattle.demands.specs.Promises.{Place, HeadAnswers, PointAnswers, FilterAnswers, RingAnswers, PageAnswers, PartnersAnswers, NextAnswers, TakeAnswers, NextArrayAnswers, TakeArrayAnswers, RunAnswers, RunArrayAnswers, ViewPoints, ViewFilters, ViewRings, ViewPages, ViewPartners, OpenHead, PointOpened, OwnAnswers, ViewOwnPages, NearestAnswers, ViewNearest}
+use Rattle.demands.specs.Promises.{Place, HeadAnswers, PointAnswers, FilterAnswers, RingAnswers, PageAnswers, PartnersAnswers, ShortAnswers, NextAnswers, TakeAnswers, NextArrayAnswers, TakeArrayAnswers, RunAnswers, RunArrayAnswers, ViewPoints, ViewFilters, ViewRings, ViewPages, ViewPartners, ViewRuns, ViewShortest, OpenHead, PointOpened, OwnAnswers, ViewOwnPages, NearestAnswers, NearFilterAnswers, ViewNearest, ViewNearFilters}
 
 -- ---- through a view
 
@@ -37,24 +40,33 @@ place w = record { address = w .ptr; name = w .name }
 pub view-point : (d : Sheet) (i : ℕ) (r : Pointed) → ViewPoints d i r → PointAnswers (now (d .words)) i r
 view-point d i r a = record { κs = ([], tt); w-at = place (d .words); promised = a }
 
-pub view-filter : (p q : Sheet) (j : ℕ) (r : Filtered) → ViewFilters p q j r → FilterAnswers (now (p .words)) (now (q .words)) j r
-view-filter p q j r a = record { κs = ([], ([], tt)); p-at = place (p .words); q-at = place (q .words); promised = a }
-
 pub view-ring : (p q : Sheet) (j i : ℕ) (r : Walked) → ViewRings p q j i r → RingAnswers (now (p .words)) (now (q .words)) j i r
 view-ring p q j i r a = record { κs = ([], ([], tt)); p-at = place (p .words); q-at = place (q .words); promised = a }
 
-pub view-own-page : (d : Sheet) (key : Key) (size : ℕ) (r : Paged) → ViewOwnPages d key size r → OwnAnswers (now (d .words)) key size r
-view-own-page d key size r a = record { κs = ([], tt); w-at = place (d .words); promised = a }
+-- what is lent stands at any place
+pub view-filter : (l : Place) (p q : Sheet) (j : ℕ) (w : List ℕ) (r : Filtered) (w′ : List ℕ) → ViewFilters p q j w r w′ → FilterAnswers (now (p .words)) (now (q .words)) j w r w′
+view-filter l p q j w r w′ a = record { κs = ([], ([], ([], tt))); p-at = place (p .words); q-at = place (q .words); b-at = l; promised = a }
 
-pub view-partners : (p q : Sheet) (id t : ℕ) (r : Partnered) → ViewPartners p q id t r → PartnersAnswers (now (p .words)) (now (q .words)) id t r
-view-partners p q id t r a = record { κs = ([], ([], tt)); p-at = place (p .words); q-at = place (q .words); promised = a }
+pub view-own-page : (l : Place) (d : Sheet) (key : Key) (size : ℕ) (w : List ℕ) (r : Paged) (w′ : List ℕ) → ViewOwnPages d key size w r w′ → OwnAnswers (now (d .words)) key size w r w′
+view-own-page l d key size w r w′ a = record { κs = ([], ([], tt)); w-at = place (d .words); b-at = l; promised = a }
 
-pub view-page : (p q : Sheet) (ask : Request) (r : Paged) → ViewPages p q ask r → PageAnswers (now (p .words)) (now (q .words)) ask r
-view-page p q ask r a = record { κs = ([], ([], tt)); p-at = place (p .words); q-at = place (q .words); promised = a }
+pub view-partners : (l : Place) (p q : Sheet) (id t : ℕ) (w : List ℕ) (r : Partnered) (w′ : List ℕ) → ViewPartners p q id t w r w′ → PartnersAnswers (now (p .words)) (now (q .words)) id t w r w′
+view-partners l p q id t w r w′ a = record { κs = ([], ([], ([], tt))); p-at = place (p .words); q-at = place (q .words); b-at = l; promised = a }
 
--- the lent numbers stand at any place
+pub view-page : (l : Place) (p q : Sheet) (ask : Request) (w : List ℕ) (r : Paged) (w′ : List ℕ) → ViewPages p q ask w r w′ → PageAnswers (now (p .words)) (now (q .words)) ask w r w′
+view-page l p q ask w r w′ a = record { κs = ([], ([], ([], tt))); p-at = place (p .words); q-at = place (q .words); b-at = l; promised = a }
+
+pub view-shortest : (l : Place) (p q : Sheet) (k : ℕ) (w : List ℕ) (r : Shortlist) (w′ : List ℕ) → ViewShortest p q k w r w′ → ShortAnswers (now (p .words)) (now (q .words)) k w r w′
+view-shortest l p q k w r w′ a = record { κs = ([], ([], ([], tt))); p-at = place (p .words); q-at = place (q .words); b-at = l; promised = a }
+
+pub view-run : (p q : Sheet) (v : ℕ) (s : List Pair) (w : List ℕ) (r : Run) (s′ : List Pair) (w′ : List ℕ) → ViewRuns p q v s w r s′ w′ → RunAnswers (now (p .words)) (now (q .words)) v s w r s′ w′
+view-run p q v s w r s′ w′ a = a
+
 pub view-nearest : (l : Place) (p q : Sheet) (id size : ℕ) (w : List ℕ) (r : Found) (w′ : List ℕ) → ViewNearest p q id size w r w′ → NearestAnswers (now (p .words)) (now (q .words)) id size w r w′
 view-nearest l p q id size w r w′ a = record { κs = ([], ([], ([], tt))); p-at = place (p .words); q-at = place (q .words); w-at = l; promised = a }
+
+pub view-near-filter : (l b : Place) (p q : Sheet) (id : ℕ) (ws w : List ℕ) (r : Filtered) (ws′ w′ : List ℕ) → ViewNearFilters p q id ws w r ws′ w′ → NearFilterAnswers (now (p .words)) (now (q .words)) id ws w r ws′ w′
+view-near-filter l b p q id ws w r ws′ w′ a = record { κs = ([], ([], ([], ([], tt)))); p-at = place (p .words); q-at = place (q .words); w-at = l; b-at = b; promised = a }
 
 -- ---- for callers that hold no view
 
@@ -79,11 +91,11 @@ module _ (slots : List Pair) (len : ℕ) (b : Book) (g : Page) (r : TakenArray) 
   unfolding takenArray
   take-array-slots = ap (λ (x : TakenArray). x .slots) (a .promised)
 
-module _ (P Q : List ℤ) (v : ℕ) (slots : List Pair) (len : ℕ) (r : RunArray) (a : RunArrayAnswers P Q v slots len r) where
-  pub run-array : RunAnswers P Q v (take (lentOf 256 len) slots) (r .run) (runs.runSlots P Q v (take (lentOf 256 len) slots))
+module _ (P Q : List ℤ) (v : ℕ) (slots : List Pair) (len : ℕ) (w : List ℕ) (r : RunArray) (w′ : List ℕ) (a : RunArrayAnswers P Q v slots len w r w′) where
+  pub run-array : RunAnswers P Q v (take (lentOf 256 len) slots) w (r .run) (runs.runSlots P Q v (take (lentOf 256 len) slots) (length w)) w′
   unfolding runs.runArray
-  run-array = (ap (λ (x : RunArray). x .run) (a .promised), λ t. runs.runSlots P Q v (take (lentOf 256 len) slots))
+  run-array = (ap (λ (x : RunArray). x .run) (a .promised .0), λ t. runs.runSlots P Q v (take (lentOf 256 len) slots) (length w), a .promised .1)
 
-  pub run-array-slots : r .slots ≡ runs.runSlots P Q v (take (lentOf 256 len) slots) ++ drop (lentOf 256 len) slots
+  pub run-array-slots : r .slots ≡ runs.runSlots P Q v (take (lentOf 256 len) slots) (length w) ++ drop (lentOf 256 len) slots
   unfolding runs.runArray
-  run-array-slots = ap (λ (x : RunArray). x .slots) (a .promised)
+  run-array-slots = ap (λ (x : RunArray). x .slots) (a .promised .0)

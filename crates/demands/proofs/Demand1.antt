@@ -2,10 +2,13 @@
 -- "The first that applies, in the order listed. Every refusal gives only its number, with no view, page, marker or count, and leaves lent memory and book
 -- state as they stood. An array or number in a refused answer is all zero, and a view there covers no words."
 --
--- That every input is taken is proofs/Takes. Here is one theorem for each call: the number of its answer is the defined one, 0 where no rule is broken; and an answer with another number is that number and
--- nothing else. None has a premise but that the call answered. The definitions of the numbers stand in the document's order: `openNo` of sheet/specs/Open,
--- `packNo` of pack/specs/Pack, `pointNo`, `filterNo`, `ringNo` of ring/specs/Numbers, `pageNo` of ring/specs/Page, `ownNo` of ring/specs/Own, `partnersNo` of ring/specs/Partners, `shortNo` of shortest/specs/Answer,
--- `beginNo`, `nextNo`, `takeNo` of book/specs/Rules, `markNo` of marker/specs/Mark, `runNo` of runs/specs/Run, `nearestNo` and `nearFilterNo` of nearest/specs/Nearest. For the calls through views and on arrays see proofs/Alike. What is lent as `&` cannot be written; what is lent as `&mut` (pack, take, leaf_run, nearest, near_filter) is spoken of here.
+-- That every input is taken is proofs/Takes. Here is one theorem for each call: the number of its answer is the defined one, 0 where no rule is broken; and an
+-- answer with another number is that number and nothing else. None has a premise but that the call answered. The definitions of the numbers stand in the
+-- document's order: `sheetNo` of sheet/specs/Open, `packNo` of pack/specs/Pack, `pointNo`, `filterNo`, `ringNo` of ring/specs/Numbers, `pageNo` of
+-- ring/specs/Page, `ownNo` of ring/specs/Own, `partnersNo` of ring/specs/Partners, `shortNo` of shortest/specs/Answer, `beginNo`, `nextNo`, `takeNo` of
+-- book/specs/Rules, `markNo` of marker/specs/Mark, `runNo` of runs/specs/Run, `nearestNo` and `nearFilterNo` of nearest/specs/Nearest.
+-- For the calls through views and on arrays see proofs/Alike. What is lent as `&` cannot be written. What is lent as `&mut` is spoken of here: pack's words,
+-- the slots of take and leaf_run, the numbers of nearest and near_filter, the words for kept sets of each call that filters. What an answer leaves there: Lent.
 -- Assumes nothing. [N1, N2, D1]
 use mathlib.Core.Path.{_≡_, refl, sym, ap, subst, _∙_}
 use mathlib.Core.List.{List, [], _++_}
@@ -14,9 +17,8 @@ use lib.IntN.{ℤ}
 use lib.ListN.{length, take, drop, take-append-drop}
 use Rattle.words.proofs.FirstLaws.{answer-refused}
 use denote.Ref.{RefT, now}
-use Rattle.sheet.specs.Limits.{form1}
 use Rattle.sheet.specs.Layout.{points, nodes}
-use Rattle.sheet.specs.Open.{openNo}
+use Rattle.sheet.specs.Open.{sheetNo}
 use Rattle.list.specs.declared.Key.{Key}
 use Rattle.list.specs.declared.Pair.{Pair}
 use Rattle.list.specs.declared.Request.{Request}
@@ -24,9 +26,10 @@ use Rattle.list.specs.declared.Source.{Source}
 use Rattle.list.specs.declared.Page.{Page}
 use Rattle.ring.specs.Numbers.{pointNo, filterNo, ringNo}
 use Rattle.ring.specs.Answers.{pointedNo, unfiltered, walkedNo}
-use Rattle.ring.specs.Page.{pageNo, pageRefused}
-use Rattle.ring.specs.Own.{ownNo}
-use Rattle.ring.specs.Partners.{partnersNo, partnersRefused}
+use Rattle.ring.specs.Lent.{need}
+use Rattle.ring.specs.Page.{pageNo, pageRefused, pageBits}
+use Rattle.ring.specs.Own.{ownNo, ownBits}
+use Rattle.ring.specs.Partners.{partnersNo, partnersRefused, partnersBits}
 use Rattle.ring.specs.declared.Head.{Head}
 use Rattle.ring.specs.declared.Pointed.{Pointed}
 use Rattle.ring.specs.declared.Pointed.the-variants as pointing
@@ -36,6 +39,7 @@ use Rattle.ring.specs.declared.Walked.the-variants as walking
 use Rattle.ring.specs.declared.Paged.{Paged}
 use Rattle.ring.specs.declared.Partnered.{Partnered}
 use Rattle.ring.proofs.HeadLaws.{head-number, head-shut}
+use Rattle.ring.proofs.LentLaws.{wiped-refused}
 use Rattle.ring.proofs.PointLaws.{point-refused}
 use Rattle.ring.proofs.FilterLaws.{filter-refused}
 use Rattle.ring.proofs.RingLaws.{ring-refused}
@@ -85,27 +89,27 @@ Refuses k = k ≡ 0 → ⊥
 
 -- ---- open, 1 to 8
 
--- [N6, N7, N8, N9, N10, N11, N12, N13, N35]
-pub open-no : (w : List ℤ) (r : ℕ) → OpenAnswers w r → r ≡ openNo form1 w
+-- [N6, N7, N8, N9, N10, N11, N12, N13, N35, Y1]
+pub open-no : (w : List ℤ) (r : ℕ) → OpenAnswers w r → r ≡ sheetNo w
 open-no w r a = a .promised
 
 pub head-no : (w : List ℤ) (h : Head) → HeadAnswers w h
-    → (h .number ≡ openNo form1 w) × (Refuses (openNo form1 w) → h ≡ record { number = openNo form1 w; len = 0; n = 0; m = 0 })
-head-no w h a = (head-number w h (a .promised), λ ne. a .promised ∙ sym (head-shut w (openNo form1 w) refl ne))
+    → (h .number ≡ sheetNo w) × (Refuses (sheetNo w) → h ≡ record { number = sheetNo w; len = 0; n = 0; m = 0 })
+head-no w h a = (head-number w h (a .promised), λ ne. a .promised ∙ sym (head-shut w (sheetNo w) refl ne))
 
 -- through a view: "An opened sheet is read where the caller keeps its words, with no copy made", all of them; refused, "a view there covers no words" [N5]
 pub view-no : (w : RefT (List ℤ)) (r : Opened) → ViewOpens w r
-    → (r .number ≡ openNo form1 (now w))
-    × (Refuses (openNo form1 (now w)) → shown r ≡ record { number = openNo form1 (now w); start = w .ptr; covers = []; n = 0; m = 0 })
-    × (openNo form1 (now w) ≡ 0 → shown r ≡ record { number = 0; start = w .ptr; covers = now w; n = points (now w); m = nodes (now w) })
+    → (r .number ≡ sheetNo (now w))
+    × (Refuses (sheetNo (now w)) → shown r ≡ record { number = sheetNo (now w); start = w .ptr; covers = []; n = 0; m = 0 })
+    × (sheetNo (now w) ≡ 0 → shown r ≡ record { number = 0; start = w .ptr; covers = now w; n = points (now w); m = nodes (now w) })
 view-no w r a = (of-view.view-open-no w r a, λ ne. of-view.open-refused w r a ne, λ z. of-view.open-shows w r a z)
 
--- ---- pack, "18, 3, 5, 6, 17": refused, the lent words are as they stood
+-- ---- pack, "18, 2, 3, 5, 6, 17": refused, the lent words are as they stood
 
--- [N3, N14, N15, N16, N17]
-pub pack-no : (n : ℕ) (points order : List ℤ) (ed : ℕ) (out : List ℤ) (r : ℕ) (out′ : List ℤ) → PackAnswers n points order ed out r out′
-    → (r ≡ packNo form1 n points order ed (length out)) × (Refuses r → out′ ≡ out)
-pack-no n points order ed out r out′ a = (a .promised .0, λ ne. refused-same n points order ed out r out′ (a .promised .0) (a .promised .1) ne)
+-- [N3, N14, N15, N16, N17, Y4]
+pub pack-no : (form n : ℕ) (points order : List ℤ) (ed : ℕ) (out : List ℤ) (r : ℕ) (out′ : List ℤ) → PackAnswers form n points order ed out r out′
+    → (r ≡ packNo form n points order ed (length out)) × (Refuses r → out′ ≡ out)
+pack-no form n points order ed out r out′ a = (a .promised .0, λ ne. refused-same form n points order ed out r out′ (a .promised .0) (a .promised .1) ne)
 
 -- ---- the point reader, 1 to 8, then 9
 
@@ -114,13 +118,17 @@ pub point-no : (w : List ℤ) (i : ℕ) (r : Pointed) → PointAnswers w i r
     → (pointedNo r ≡ pointNo w i) × (Refuses (pointNo w i) → r ≡ pointing.Refused (pointNo w i))
 point-no w i r a = (ap pointedNo (a .promised) ∙ of-ring.ring-point-no w i, λ ne. a .promised ∙ sym (point-refused w i (pointNo w i) refl ne))
 
--- ---- the filter walk, 1 to 8 for P, then for Q, then 9: refused, all bits and both counts are 0
+-- ---- the filter walk, 1 to 8 for P, then for Q, then 9, then 24: refused, both counts are 0, and the lent words are as they were
 
--- [N4]
-pub filter-no : (P Q : List ℤ) (j : ℕ) (r : Filtered) → FilterAnswers P Q j r
-    → (r .number ≡ filterNo P Q j) × (Refuses (filterNo P Q j) → r ≡ unfiltered (filterNo P Q j))
-filter-no P Q j r a =
-    (ap (λ (x : Filtered). x .number) (a .promised) ∙ of-ring.ring-filter-no P Q j, λ ne. a .promised ∙ sym (filter-refused P Q j (filterNo P Q j) refl ne))
+-- [N4, Y15]
+pub filter-no : (P Q : List ℤ) (j : ℕ) (w : List ℕ) (r : Filtered) (w′ : List ℕ) → FilterAnswers P Q j w r w′
+    → (r .number ≡ filterNo P Q j (length w)) × (Refuses (filterNo P Q j (length w)) → (r ≡ unfiltered (filterNo P Q j (length w))) × (w′ ≡ w))
+filter-no P Q j w r w′ a = (
+  ap (λ (x : Filtered). x .number) (a .promised .0) ∙ of-ring.ring-filter-no P Q j (length w),
+  λ ne.
+      let z = filter-refused P Q j w _ refl ne in
+      (a .promised .0 ∙ sym (z .0), a .promised .1 ∙ sym (z .1)),
+)
 
 -- ---- the ring walk, 1 to 8 for P, then for Q, then 9
 
@@ -129,39 +137,55 @@ pub ring-no : (P Q : List ℤ) (j i : ℕ) (r : Walked) → RingAnswers P Q j i 
     → (walkedNo r ≡ ringNo P Q j i) × (Refuses (ringNo P Q j i) → r ≡ walking.Refused (ringNo P Q j i))
 ring-no P Q j i r a = (ap walkedNo (a .promised) ∙ of-ring.ring-walk-no P Q j i, λ ne. a .promised ∙ sym (ring-refused P Q j i (ringNo P Q j i) refl ne))
 
--- ---- the page request, 1 to 8 for P, then for Q, then 9, then 10, then 21: refused, the page is all zero, and so is its count
+-- ---- the page request, 1 to 8 for P, then for Q, then 9, then 10, then 21, then 24: refused, the page is all zero, and so is its count, and the lent words
+-- are as they were
 
--- [N4, T9, T10]
-pub page-no : (P Q : List ℤ) (ask : Request) (r : Paged) → PageAnswers P Q ask r
-    → (r .number ≡ pageNo P Q ask) × (Refuses (pageNo P Q ask) → r ≡ pageRefused (pageNo P Q ask))
-page-no P Q ask r a =
-    (ap (λ (x : Paged). x .number) (a .promised) ∙ of-page.ring-page-no P Q ask, λ ne. a .promised ∙ page-refused P Q ask (pageNo P Q ask) refl ne)
+-- [N4, T9, T10, Y13, Y15]
+pub page-no : (P Q : List ℤ) (ask : Request) (w : List ℕ) (r : Paged) (w′ : List ℕ) → PageAnswers P Q ask w r w′
+    → (r .number ≡ pageNo P Q ask (length w)) × (Refuses (pageNo P Q ask (length w)) → (r ≡ pageRefused (pageNo P Q ask (length w))) × (w′ ≡ w))
+unfolding pageBits
+page-no P Q ask w r w′ a = (
+  ap (λ (x : Paged). x .number) (a .promised .0) ∙ of-page.ring-page-no P Q ask (length w),
+  λ ne. (a .promised .0 ∙ page-refused P Q ask (length w) _ refl ne, a .promised .1 ∙ sym (wiped-refused w (need P) _ _ refl ne)),
+)
 
--- ---- the page request of a self join, 1 to 8 for its sheet, then 9, then 10: refused, the page is all zero, and so is its count
+-- ---- the page request of a self join, 1 to 8 for its sheet, then 9, then 10, then 24: refused, the page is all zero, and so is its count, and the lent words
+-- are as they were
 
--- [J6]
-pub own-no : (S : List ℤ) (key : Key) (size : ℕ) (r : Paged) → OwnAnswers S key size r
-    → (r .number ≡ ownNo S key size) × (Refuses (ownNo S key size) → r ≡ pageRefused (ownNo S key size))
-own-no S key size r a =
-    (ap (λ (x : Paged). x .number) (a .promised) ∙ of-own.ring-own-no S key size, λ ne. a .promised ∙ of-own.own-refused S key size (ownNo S key size) refl ne)
+-- [J6, Y15]
+pub own-no : (S : List ℤ) (key : Key) (size : ℕ) (w : List ℕ) (r : Paged) (w′ : List ℕ) → OwnAnswers S key size w r w′
+    → (r .number ≡ ownNo S key size (length w)) × (Refuses (ownNo S key size (length w)) → (r ≡ pageRefused (ownNo S key size (length w))) × (w′ ≡ w))
+unfolding ownBits
+own-no S key size w r w′ a = (
+  ap (λ (x : Paged). x .number) (a .promised .0) ∙ of-own.ring-own-no S key size (length w),
+  λ ne. (a .promised .0 ∙ of-own.own-refused S key size (length w) _ refl ne, a .promised .1 ∙ sym (wiped-refused w (need S) _ _ refl ne)),
+)
 
--- ---- the shortest circles, 1 to 8 for P, then for Q, then 10: refused, the number of pairs is 0, and each pair is three zeros
+-- ---- the shortest circles, 1 to 8 for P, then for Q, then 10, then 24: refused, the number of pairs is 0, each pair is three zeros, and the lent words are
+-- as they were
 
--- [H5]
-pub short-no : (P Q : List ℤ) (k : ℕ) (r : Shortlist) → ShortAnswers P Q k r
-    → (r .number ≡ shortNo P Q k) × (Refuses (shortNo P Q k) → r ≡ shortRefused (shortNo P Q k))
-short-no P Q k r a =
-    (ap (λ (x : Shortlist). x .number) (a .promised) ∙ of-shortest.short-call-no P Q k, λ ne. a .promised ∙ of-shortest.short-refused P Q k (shortNo P Q k) refl ne)
+-- [H5, Y15]
+pub short-no : (P Q : List ℤ) (k : ℕ) (w : List ℕ) (r : Shortlist) (w′ : List ℕ) → ShortAnswers P Q k w r w′
+    → (r .number ≡ shortNo P Q k (length w)) × (Refuses (shortNo P Q k (length w)) → (r ≡ shortRefused (shortNo P Q k (length w))) × (w′ ≡ w))
+short-no P Q k w r w′ a = (
+  ap (λ (x : Shortlist). x .number) (a .promised .0) ∙ of-shortest.short-call-no P Q k (length w),
+  λ ne. (a .promised .0 ∙ of-shortest.short-refused P Q k (length w) _ refl ne, a .promised .1 ∙ of-shortest.short-words-refused P Q k w ne),
+)
 
--- ---- the question for a chamber's partners, 1 to 8 for P, then for Q, then 20, then 21: refused, the count is 0, and there is no yes
+-- ---- the question for a chamber's partners, 1 to 8 for P, then for Q, then 20, then 21, then 24: refused, the count is 0, there is no yes, and the lent words
+-- are as they were
 
--- [T8, T9, T10]
-pub partners-no : (P Q : List ℤ) (id t : ℕ) (r : Partnered) → PartnersAnswers P Q id t r
-    → (r .number ≡ partnersNo P Q id t) × (Refuses (partnersNo P Q id t) → r ≡ partnersRefused (partnersNo P Q id t))
-partners-no P Q id t r a =
-    (ap (λ (x : Partnered). x .number) (a .promised) ∙ of-partners.ring-partners-no P Q id t, λ ne. a .promised ∙ of-partners.partners-refused P Q id t (partnersNo P Q id t) refl ne)
+-- [T8, T9, T10, Y13, Y15]
+pub partners-no : (P Q : List ℤ) (id t : ℕ) (w : List ℕ) (r : Partnered) (w′ : List ℕ) → PartnersAnswers P Q id t w r w′
+    → (r .number ≡ partnersNo P Q id t (length w)) × (Refuses (partnersNo P Q id t (length w)) → (r ≡ partnersRefused (partnersNo P Q id t (length w))) × (w′ ≡ w))
+unfolding partnersBits
+partners-no P Q id t w r w′ a = (
+  ap (λ (x : Partnered). x .number) (a .promised .0) ∙ of-partners.ring-partners-no P Q id t (length w),
+  λ ne. (a .promised .0 ∙ of-partners.partners-refused P Q id t (length w) _ refl ne, a .promised .1 ∙ sym (wiped-refused w (need P) _ _ refl ne)),
+)
 
--- ---- nearest first, 1 to 8 for P, then for Q, then 20, then 10 (not of the filter), then 25: refused, all is zero, and the lent numbers are as they were
+-- ---- nearest first, 1 to 8 for P, then for Q, then 20, then 10 (of the filter 24 instead), then 25: refused, all is zero, and the lent numbers and words are
+-- as they were
 
 -- [G9, G10, G11]
 pub nearest-no : (P Q : List ℤ) (id size : ℕ) (ws : List ℕ) (r : Found) (t : List ℕ) → NearestAnswers P Q id size ws r t
@@ -171,12 +195,14 @@ nearest-no P Q id size ws r t a = (
   λ ne. (a .promised .0 ∙ of-nearest.nearest-refused P Q id size (length ws) _ refl ne, a .promised .1 ∙ of-nearest.waited-refused _ P ws ne),
 )
 
--- [G9, G10, G11]
-pub near-filter-no : (P Q : List ℤ) (id : ℕ) (ws : List ℕ) (r : Filtered) (t : List ℕ) → NearFilterAnswers P Q id ws r t
-    → (r .number ≡ nearFilterNo P Q id (length ws)) × (Refuses (nearFilterNo P Q id (length ws)) → (r ≡ unfiltered (nearFilterNo P Q id (length ws))) × (t ≡ ws))
-near-filter-no P Q id ws r t a = (
-  ap (λ (x : Filtered). x .number) (a .promised .0) ∙ of-nearest.near-filter-call-no P Q id (length ws),
-  λ ne. (a .promised .0 ∙ of-nearest.near-filter-refused P Q id (length ws) _ refl ne, a .promised .1 ∙ of-nearest.waited-refused _ P ws ne),
+-- [G9, G10, G11, Y15]
+pub near-filter-no : (P Q : List ℤ) (id : ℕ) (ws w : List ℕ) (r : Filtered) (t w′ : List ℕ) → NearFilterAnswers P Q id ws w r t w′
+    → (r .number ≡ nearFilterNo P Q id (length w) (length ws))
+    × (Refuses (nearFilterNo P Q id (length w) (length ws)) → (r ≡ unfiltered (nearFilterNo P Q id (length w) (length ws))) × (t ≡ ws) × (w′ ≡ w))
+near-filter-no P Q id ws w r t w′ a = (
+  ap (λ (x : Filtered). x .number) (a .promised .0) ∙ of-nearest.near-filter-call-no P Q id (length w) (length ws),
+  λ ne.
+      (a .promised .0 ∙ of-nearest.near-filter-refused P Q id (length w) (length ws) _ refl ne, a .promised .1 ∙ of-nearest.waited-refused _ P ws ne, a .promised .2 ∙ of-nearest.near-filter-words-refused P Q id (length ws) w ne),
 )
 
 -- ---- begin, 3, then 21
@@ -186,7 +212,7 @@ unfolding begunNo
 only-begun k (begun.Open b) e ne = absurd (ne (sym e))
 only-begun k (begun.Refused n) e ne = ap begun.Refused e
 
--- [N24, T9, T10, J12, J13, F10]
+-- [N24, T9, T10, J12, J13, Y13, F10]
 pub begin-no : (s : Source) (r : Begun) → BeginAnswers s r → (begunNo r ≡ beginNo s) × (Refuses (beginNo s) → r ≡ begun.Refused (beginNo s))
 begin-no s r a =
     let e : begunNo r ≡ beginNo s = ap begunNo (a .promised) ∙ of-book.book-begin-no s in
@@ -225,30 +251,34 @@ take-array-no slots len b g r a =
           (z .1 ne .0, take-array-slots slots len b g r a ∙ ap (λ (x : List Pair). x ++ drop (lentOf 64 len) slots) (z .1 ne .1) ∙ take-append-drop (lentOf 64 len) slots),
     )
 
--- ---- a leaf's run, 1 to 8 for P, then for Q, then 19, then 16: refused, both counts are 0, and every slot is as it stood
+-- ---- a leaf's run, 1 to 8 for P, then for Q, then 19, then 24, then 16: refused, both counts are 0, every slot is as it stood, and so is every lent word
 
-only-run : (P Q : List ℤ) (v len : ℕ) → Refuses (runNo P Q v len) → runAnswer P Q v len ≡ runRefused (runNo P Q v len)
+only-run : (P Q : List ℤ) (v len bits : ℕ) → Refuses (runNo P Q v len bits) → runAnswer P Q v len bits ≡ runRefused (runNo P Q v len bits)
 unfolding runAnswer
-only-run P Q v len ne = answer-refused _ runRefused _ _ refl ne
+only-run P Q v len bits ne = answer-refused _ runRefused _ _ refl ne
 
--- [N3, L8, L9, L10]
-pub run-no : (P Q : List ℤ) (v : ℕ) (slots : List Pair) (r : Run) (slots′ : List Pair) → RunAnswers P Q v slots r slots′
-    → (r .number ≡ runNo P Q v (length slots)) × (Refuses (runNo P Q v (length slots)) → (r ≡ runRefused (runNo P Q v (length slots))) × (slots′ ≡ slots))
-run-no P Q v slots r slots′ a = (
-  ap (λ (x : Run). x .number) (a .0) ∙ of-runs.run-call-no P Q v (length slots),
-  λ ne. (a .0 ∙ only-run P Q v (length slots) ne, a .1 ∙ of-run.run-refused P Q v slots ne),
+-- [N3, L8, L9, L10, Y15]
+pub run-no : (P Q : List ℤ) (v : ℕ) (slots : List Pair) (w : List ℕ) (r : Run) (slots′ : List Pair) (w′ : List ℕ) → RunAnswers P Q v slots w r slots′ w′
+    → (r .number ≡ runNo P Q v (length slots) (length w))
+    × (Refuses (runNo P Q v (length slots) (length w)) → (r ≡ runRefused (runNo P Q v (length slots) (length w))) × (slots′ ≡ slots) × (w′ ≡ w))
+run-no P Q v slots w r slots′ w′ a = (
+  ap (λ (x : Run). x .number) (a .0) ∙ of-runs.run-call-no P Q v (length slots) (length w),
+  λ ne.
+      let z = of-run.run-refused P Q v slots w ne in
+      (a .0 ∙ only-run P Q v (length slots) (length w) ne, a .1 ∙ z .0, a .2 ∙ z .1),
 )
 
 -- and so where the slots are kept in an array
-pub run-array-no : (P Q : List ℤ) (v : ℕ) (slots : List Pair) (len : ℕ) (r : RunArray) → RunArrayAnswers P Q v slots len r
-    → (r .run .number ≡ runNo P Q v (length (take (lentOf 256 len) slots)))
-    × (Refuses (runNo P Q v (length (take (lentOf 256 len) slots))) → (r .run ≡ runRefused (runNo P Q v (length (take (lentOf 256 len) slots)))) × (r .slots ≡ slots))
-run-array-no P Q v slots len r a =
+pub run-array-no : (P Q : List ℤ) (v : ℕ) (slots : List Pair) (len : ℕ) (w : List ℕ) (r : RunArray) (w′ : List ℕ) → RunArrayAnswers P Q v slots len w r w′
+    → (r .run .number ≡ runNo P Q v (length (take (lentOf 256 len) slots)) (length w))
+    × (Refuses (runNo P Q v (length (take (lentOf 256 len) slots)) (length w))
+    → (r .run ≡ runRefused (runNo P Q v (length (take (lentOf 256 len) slots)) (length w))) × (r .slots ≡ slots) × (w′ ≡ w))
+run-array-no P Q v slots len w r w′ a =
     let lent = take (lentOf 256 len) slots in
-    let z = run-no P Q v lent (r .run) (runSlots P Q v lent) (run-array P Q v slots len r a) in (
+    let z = run-no P Q v lent w (r .run) (runSlots P Q v lent (length w)) w′ (run-array P Q v slots len w r w′ a) in (
       z .0,
       λ ne.
-          (z .1 ne .0, run-array-slots P Q v slots len r a ∙ ap (λ (x : List Pair). x ++ drop (lentOf 256 len) slots) (z .1 ne .1) ∙ take-append-drop (lentOf 256 len) slots),
+          (z .1 ne .0, run-array-slots P Q v slots len w r w′ a ∙ ap (λ (x : List Pair). x ++ drop (lentOf 256 len) slots) (z .1 ne .1) ∙ take-append-drop (lentOf 256 len) slots, z .1 ne .2),
     )
 
 -- ---- the marker, 5

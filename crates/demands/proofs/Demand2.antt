@@ -1,6 +1,8 @@
 -- Demand 2: "The list holds a pump house and a chamber exactly if the ring rule makes them a pair, each once, by ids. It depends on the points alone."
 -- For every two sheets that open, and in terms of what the shipped calls answer for them. P are the words of the pump houses' sheet, Q those of the chambers';
 -- q is position j of Q, p is position i of P. The ring rule and the list stand in list/specs/RingList, on lists of points, with no tree in them.
+-- The two sheets may be of different forms.
+-- Where a call is lent words w for kept sets, `enough` says that they are as many as it needs; w′ are the words at its exit, of which Lent says more.
 --
 --     kept-partner       the filter walk keeps every ring partner.  kept-count, kept-unused: its count is that of the positions kept, and unused bits are 0
 --     clear-iff          the ring walk is clear exactly for a ring pair; point-blocks, side-blocks: what it names does block, and a side that it names is the first that qualifies
@@ -20,12 +22,12 @@
 --     run-ruled          what the walk keeps for a chamber no other chamber of the leaf rules out.  run-skipped, run-opens: a box is skipped exactly when each chamber skips it
 --     runs-list          a pair is listed exactly if the run of one leaf has it, and then no other leaf's has it.  stored-once: no run has it twice
 --     own-exact          the self join of one sheet: two different records, lower id first, exactly if no other record blocks.  own-low: never the higher id first
---     return-trip        pack, then open, gives the same points back
+--     return-trip        pack, then open, gives the same points back, in the form that was asked for
 -- Assumes nothing. [O6]
 use mathlib.Core.Path.{_≡_, refl, sym, ap, ap₂, subst, _∙_}
 use mathlib.Core.Bool.{Bool, true, false, cond, _&&_}
 use mathlib.Core.Logic.{_↔_, ⊎-elim}
-use mathlib.Core.List.{List, [], List·Memᴰ}
+use mathlib.Core.List.{List, [], _++_, List·Memᴰ}
 use Prim.Native.Nat.{ℕ, _+_, _*_, _≤_, _<_}
 use native.Mathlib.Omega.{arith}
 use lib.Dec.{eqb, leb}
@@ -37,14 +39,14 @@ use Rattle.words.specs.Range.{lastId}
 use Rattle.words.proofs.TabLaws.{at-tab}
 use Rattle.plane.specs.Point.{Point, pointAt, idAt, spotAt}
 use Rattle.plane.specs.Rule.{blocks, drops}
-use Rattle.sheet.specs.Limits.{form1}
-use Rattle.sheet.specs.Layout.{points, nodes, edition}
+use Rattle.sheet.specs.Layout.{points, nodes, edition, form}
 use Rattle.sheet.specs.Nodes.{levelOf, countOf}
 use Rattle.sheet.specs.Places.{spotOf, pointOf, pointsOf}
-use Rattle.sheet.specs.Open.{openNo, Opens}
-use Rattle.sheet.proofs.SheetLaws.{open-facts, open-trailer, form1-fair}
+use Rattle.sheet.specs.Open.{sheetNo, Opens}
+use Rattle.sheet.proofs.SheetLaws.{sheet-facts}
 use Rattle.sheet.proofs.PointsLaws.{length-points, point-at, spot-of}
 use Rattle.bits.specs.Set.{at, kept, cardIn}
+use Rattle.bits.proofs.LentLaws.{words-enough}
 use Rattle.list.specs.declared.Key.{Key}
 use Rattle.list.specs.declared.Pair.{Pair}
 use Rattle.list.specs.declared.Page.{Page}
@@ -65,7 +67,7 @@ use Rattle.walk.specs.declared.Blocker.{Blocker}
 use Rattle.walk.specs.declared.Edge.{Edge}
 use Rattle.walk.specs.declared.Hit.the-variants.{Point as PointHit, Side}
 use Rattle.walk.specs.declared.Answer.{Answer}
-use Rattle.walk.specs.FilterWalk.{Kept, soFar, filterKept}
+use Rattle.walk.specs.FilterWalk.{Kept, soFar, filterKeeps}
 use Rattle.walk.specs.RingWalk.{pairWalk}
 use Rattle.walk.specs.Claims.{BlocksPair, BlocksPairBySide, overP, overQ}
 use Rattle.walk.proofs.Meaning as of-walk
@@ -73,8 +75,9 @@ use Rattle.join.specs.Work.{pageOpened}
 use Rattle.join.specs.Sheets.{walksBy}
 use Rattle.join.specs.Threshold.{walksFor, smaller}
 use Rattle.join.proofs.Meaning as of-join
+use Rattle.ring.specs.Lent.{need}
 use Rattle.ring.specs.Numbers.{sheetsNo, positionNo, pointNo, filterNo, ringNo}
-use Rattle.ring.specs.Answers.{assetOf, filteredTo, walkedClear}
+use Rattle.ring.specs.Answers.{assetOf, keptFor, filteredTo, walkedClear}
 use Rattle.ring.specs.Page.{pageNo, sourceOf, pageGiven}
 use Rattle.ring.specs.Own.{ownNo}
 use Rattle.ring.specs.Partners.{partnersCount, partnersGiven}
@@ -87,6 +90,7 @@ use Rattle.ring.specs.declared.Paged.{Paged}
 use Rattle.ring.specs.declared.Partnered.{Partnered}
 use Rattle.words.proofs.FirstLaws.{none-applies, first-passes, first-last, answer-given}
 use Rattle.ring.proofs.HeadLaws.{sheets-both, sheets-open}
+use Rattle.ring.proofs.LentLaws.{bits-enough}
 use Rattle.ring.proofs.NumberLaws.{ring-position-in}
 use Rattle.ring.proofs.FilterLaws.{filter-given}
 use Rattle.ring.proofs.RingLaws.{ring-given}
@@ -102,18 +106,20 @@ use Rattle.leaf.specs.LeafRun.{leafList, leafOpened}
 use Rattle.leaf.proofs.LeafLaws.{chamber-in, leaf-few, leaf-free, box-skipped, box-opened, leaf-opened}
 use Rattle.leaf.proofs.RunLaws as of-leaf
 use Rattle.runs.specs.declared.Run.{Run}
-use Rattle.runs.specs.Run.{leafNo, runNo, runGiven, runAnswer}
+use Rattle.runs.specs.Run.{leafNo, runNeed, runNo, runGiven, runAnswer}
 use Rattle.runs.proofs.DecideLaws.{leaf-here}
 use Rattle.runs.proofs.Meaning as of-run
 use Rattle.runs.proofs.Once as of-runs
 use Rattle.demands.specs.Promises.{OpenAnswers, PointAnswers, FilterAnswers, RingAnswers, PageAnswers, OwnAnswers, OfKind, TermsAnswers, PartnersAnswers, PackAnswers, RunAnswers}
+use Rattle.demands.proofs.Demand1.{filter-no}
+use Rattle.demands.proofs.Lent.{walk-left, front-at, front-kept, front-card}
 use Rattle.demands.proofs.ByRow.{InTurn, in-turn}
 
 -- the words are a sheet: "every well-formed sheet"
 abbrev pub WellFormed : List ℤ → Type 0
-WellFormed w = openNo form1 w ≡ 0
+WellFormed w = sheetNo w ≡ 0
 
--- a key with ids 0 to 2,000,000,000, a size 1 to 16, and a t 0 to 1,000
+-- a key with ids 0 to 2,000,000,000, a size 1 to 16, and a t 0 to 60,000
 pub record InRange (key : Key) (size t : ℕ) : Type 0 where
   pub q-in : key .q ≤ lastId
   pub p-in : key .p ≤ lastId
@@ -122,12 +128,7 @@ pub record InRange (key : Key) (size t : ℕ) : Type 0 where
   pub fair : t ≤ lastThreshold
 
 facts : (w : List ℤ) → WellFormed w → Opens w (points w) (nodes w)
-facts w e = open-facts form1 form1-fair w e
-
--- the sixteen words of the filter walk have a position for each point
-pub slots-fit : (w : List ℤ) → WellFormed w → points w ≤ 64 * 16
-unfolding form1
-slots-fit w e = omega (arith, open-trailer form1 w e .n-le)
+facts w e = sheet-facts w e
 
 module _ (P Q : List ℤ) (p-opens : WellFormed P) (q-opens : WellFormed Q) where
   -- no number applies to either
@@ -137,33 +138,43 @@ module _ (P Q : List ℤ) (p-opens : WellFormed P) (q-opens : WellFormed Q) wher
   -- ---- the filter walk for q
 
   module _ (j : ℕ) (j-in : j < points Q) where
-    filter-is : (r : Filtered) → FilterAnswers P Q j r → r ≡ filteredTo (filterKept 16 P (spotOf Q j))
-    unfolding filterNo
-    filter-is r a = a .promised ∙ sym (filter-given P Q j (sheets-open P Q _ sheets ∙ first-last _ ∙ ring-position-in Q j j-in))
+    module _ (w : List ℕ) (enough : need P ≤ length w) (r : Filtered) (w′ : List ℕ) (a : FilterAnswers P Q j w r w′) where
+      filter-served : filterNo P Q j (length w) ≡ 0
+      unfolding filterNo
+      filter-served = sheets-open P Q _ sheets ∙ first-passes (positionNo Q j) _ (ring-position-in Q j j-in) ∙ first-last _ ∙ bits-enough (need P) (length w) enough
 
-    bits-are : (r : Filtered) → FilterAnswers P Q j r → r .bits ≡ filterKept 16 P (spotOf Q j) .bits
-    unfolding filteredTo
-    bits-are r a = ap (λ (x : Filtered). x .bits) (filter-is r a)
+      filter-is : r ≡ filteredTo (keptFor P Q j)
+      filter-is = a .promised .0 ∙ sym (filter-given P Q j w filter-served .0)
 
-    -- "For every position, a ring partner of q is kept." [W8]
-    pub kept-partner : (r : Filtered) → FilterAnswers P Q j r → (i : ℕ) → i < points P → ringPair (pointsOf P) (pointsOf Q) j i ≡ true → kept (r .bits) i ≡ true
-    kept-partner r a i i-in e =
-        ap (λ (x : List ℕ). kept x i) (bits-are r a) ∙ of-walk.walk-kept-partner 16 P Q (facts P p-opens) (slots-fit P p-opens) j i j-in i-in e
+      -- what it keeps stands in the first words
+      set-is : (length (keptFor P Q j .bits) ≡ need P) × (w′ ≡ keptFor P Q j .bits ++ drop (need P) w)
+      set-is = walk-left P Q j w r w′ a (filter-no P Q j w r w′ a .0 ∙ filter-served)
 
-    -- "with the number of bits set": the number of positions of P that are kept; "unused bits are 0". [W6]
-    pub kept-count : (r : Filtered) → FilterAnswers P Q j r → r .count ≡ cardIn (r .bits) (points P) 0
-    unfolding filteredTo
-    kept-count r a =
-        subst (λ (x : Filtered). x .count ≡ cardIn (x .bits) (points P) 0) (sym (filter-is r a)) (of-walk.count-kept 16 P (spotOf Q j) (facts P p-opens) (slots-fit P p-opens))
+      bits-are : (i : ℕ) → i < points P → kept w′ i ≡ filterKeeps (need P) P (spotOf Q j) i
+      bits-are i h = front-kept (keptFor P Q j .bits) w w′ (need P) (set-is .0) (set-is .1) i (omega (arith, words-enough (points P)))
 
-    -- [W7]
-    pub kept-unused : (r : Filtered) → FilterAnswers P Q j r → (i : ℕ) → points P ≤ i → at (r .bits) i ≡ 0
-    kept-unused r a i h = ap (λ (x : List ℕ). at x i) (bits-are r a) ∙ of-walk.unused-zero 16 P (spotOf Q j) (facts P p-opens) (slots-fit P p-opens) i h
+      -- "For every position, a ring partner of q is kept." [W8]
+      pub kept-partner : (i : ℕ) → i < points P → ringPair (pointsOf P) (pointsOf Q) j i ≡ true → kept w′ i ≡ true
+      kept-partner i i-in e = bits-are i i-in ∙ of-walk.walk-kept-partner (need P) P Q (facts P p-opens) (words-enough (points P)) j i j-in i-in e
 
-    -- "nodes opened never exceed m in one walk of one sheet": the filter walk's. [W22]
-    pub opened-at-most-m : (r : Filtered) → FilterAnswers P Q j r → r .opened ≤ nodes P
-    unfolding filteredTo
-    opened-at-most-m r a = subst (λ (x : Filtered). x .opened ≤ nodes P) (sym (filter-is r a)) (of-walk.filter-opened-at-most-m 16 P (spotOf Q j) (facts P p-opens))
+      -- "with the number of bits set": the number of positions of P that are kept; "unused bits are 0", of the words that are needed. [W6]
+      pub kept-count : r .count ≡ cardIn w′ (points P) 0
+      unfolding filteredTo
+      kept-count =
+          ap (λ (x : Filtered). x .count) filter-is
+          ∙ of-walk.count-kept (need P) P (spotOf Q j) (facts P p-opens) (words-enough (points P))
+          ∙ sym (front-card (keptFor P Q j .bits) w w′ (need P) (set-is .0) (set-is .1) (points P) 0 (omega (arith, words-enough (points P))))
+
+      -- [W7]
+      pub kept-unused : (i : ℕ) → points P ≤ i → i < 64 * need P → at w′ i ≡ 0
+      kept-unused i h g =
+          front-at (keptFor P Q j .bits) w w′ (need P) (set-is .0) (set-is .1) i g
+          ∙ of-walk.unused-zero (need P) P (spotOf Q j) (facts P p-opens) (words-enough (points P)) i h
+
+      -- "nodes opened never exceed m in one walk of one sheet": the filter walk's. [W22]
+      pub opened-at-most-m : r .opened ≤ nodes P
+      unfolding filteredTo
+      opened-at-most-m = subst (λ (x : Filtered). x .opened ≤ nodes P) (sym filter-is) (of-walk.filter-opened-at-most-m (need P) P (spotOf Q j) (facts P p-opens))
 
     -- ---- the ring walk for q and p
 
@@ -192,10 +203,11 @@ module _ (P Q : List ℤ) (p-opens : WellFormed P) (q-opens : WellFormed Q) wher
       side-blocks s x a e = of-walk.pair-side P Q (facts P p-opens) (facts Q q-opens) j i x (ap (λ (z : Answer). z .hit) (sym (answer s a)) ∙ e)
 
       -- A ring pair is a kept position whose ring walk is clear, and no other is.
-      pub pair-exact : (f : Filtered) (r : Walked) → FilterAnswers P Q j f → RingAnswers P Q j i r → ringPair (pointsOf P) (pointsOf Q) j i ≡ (kept (f .bits) i && walkedClear r)
-      pair-exact f r a b =
-          of-walk.walk-pair-exact P Q (facts P p-opens) (facts Q q-opens) j i j-in i-in 16 (slots-fit P p-opens)
-          ∙ ap₂ _&&_ (sym (ap (λ (x : List ℕ). kept x i) (bits-are f a))) (sym (ap walkedClear (ring-is r b)))
+      pub pair-exact : (w : List ℕ) → need P ≤ length w → (f : Filtered) (w′ : List ℕ) (r : Walked) → FilterAnswers P Q j w f w′ → RingAnswers P Q j i r
+          → ringPair (pointsOf P) (pointsOf Q) j i ≡ (kept w′ i && walkedClear r)
+      pair-exact w enough f w′ r a b =
+          of-walk.walk-pair-exact P Q (facts P p-opens) (facts Q q-opens) j i j-in i-in (need P) (words-enough (points P))
+          ∙ ap₂ _&&_ (sym (bits-are w enough f w′ a i i-in)) (sym (ap walkedClear (ring-is r b)))
 
       -- "Q is walked first, then P if Q is clear; the counts add up": each of the two opens at most the nodes of its sheet, and the answer's count is at most the nodes of both.
       -- [W22]
@@ -211,7 +223,7 @@ module _ (P Q : List ℤ) (p-opens : WellFormed P) (q-opens : WellFormed Q) wher
   rise-q : Rising (idAt (pointsOf Q)) (length (pointsOf Q))
   rise-q = of-join.points-rise (facts Q q-opens)
 
-  -- So the pairs made with kept sets and ring walks, chamber by chamber, are the list: an equation of lists, of whatever kept sets and walks are exact.
+  -- So the pairs made with kept sets and ring walks, chamber by chamber, are the list: an equation of lists, of whatever kept sets and walks are exact. [W8]
   pub made-list : (keeps clears : ℕ → ℕ → Bool) → ((j i : ℕ) → j < points Q → i < points P → ringPair (pointsOf P) (pointsOf Q) j i ≡ (keeps j i && clears j i))
       → listBy (λ j i. keeps j i && clears j i) (pairAt (pointsOf P) (pointsOf Q)) (points P) (points Q) ≡ ringList (pointsOf P) (pointsOf Q)
   unfolding ringList
@@ -219,9 +231,12 @@ module _ (P Q : List ℤ) (p-opens : WellFormed P) (q-opens : WellFormed Q) wher
       list-same (λ j i. keeps j i && clears j i) (ringPair (pointsOf P) (pointsOf Q)) (pairAt (pointsOf P) (pointsOf Q)) (points P) (points Q) (λ j i h g. sym (exact j i h g))
       ∙ ap₂ (λ (n m : ℕ). listBy (ringPair (pointsOf P) (pointsOf Q)) (pairAt (pointsOf P) (pointsOf Q)) n m) (sym (length-points P)) (sym (length-points Q))
 
-  pub filter-list : (f : ℕ → Filtered) (r : ℕ → ℕ → Walked) → ((j : ℕ) → j < points Q → FilterAnswers P Q j (f j)) → ((j i : ℕ) → j < points Q → i < points P → RingAnswers P Q j i (r j i))
-      → listBy (λ j i. kept (f j .bits) i && walkedClear (r j i)) (pairAt (pointsOf P) (pointsOf Q)) (points P) (points Q) ≡ ringList (pointsOf P) (pointsOf Q)
-  filter-list f r a b = made-list (λ j i. kept (f j .bits) i) (λ j i. walkedClear (r j i)) (λ j i h g. pair-exact j h i g (f j) (r j i) (a j h) (b j i h g))
+  -- of the filter walk, for each chamber j lent the words `w j`, which are `w′ j` after it [W8]
+  pub filter-list : (w : ℕ → List ℕ) → ((j : ℕ) → need P ≤ length (w j)) → (f : ℕ → Filtered) (w′ : ℕ → List ℕ) (r : ℕ → ℕ → Walked)
+      → ((j : ℕ) → j < points Q → FilterAnswers P Q j (w j) (f j) (w′ j)) → ((j i : ℕ) → j < points Q → i < points P → RingAnswers P Q j i (r j i))
+      → listBy (λ j i. kept (w′ j) i && walkedClear (r j i)) (pairAt (pointsOf P) (pointsOf Q)) (points P) (points Q) ≡ ringList (pointsOf P) (pointsOf Q)
+  filter-list w enough f w′ r a b =
+      made-list (λ j i. kept (w′ j) i) (λ j i. walkedClear (r j i)) (λ j i h g. pair-exact j h i g (w j) (enough j) (f j) (w′ j) (r j i) (a j h) (b j i h g))
 
   -- ---- pages, of any terms: of two sheets, the full list or that of t; or of one sheet in both places, the self join
 
@@ -230,31 +245,31 @@ module _ (P Q : List ℤ) (p-opens : WellFormed P) (q-opens : WellFormed Q) wher
     abbrev pub List-of : List Pair
     List-of = listFor a (pointsOf P) (pointsOf Q)
 
-    module _ (key : Key) (size : ℕ) (r : Paged) (answers : TermsAnswers a P Q key size r) where
-      -- what is answered with 0, and what is in range, is the page of the list with the count of the walks
+    module _ (key : Key) (size : ℕ) (w : List ℕ) (r : Paged) (w′ : List ℕ) (answers : TermsAnswers a P Q key size w r w′) where
+      -- what is answered with 0, and what is in range with words enough, is the page of the list with the count of the walks
       pub answered : r .number ≡ 0 → (1 ≤ size) × (size ≤ 16) × (r ≡ pageGiven a P Q key size)
       unfolding pageNo ownNo
       answered fine = go (a .own) refl answers
         where
-          go : (k : Bool) → a .own ≡ k → OfKind k a P Q key size r → (1 ≤ size) × (size ≤ 16) × (r ≡ pageGiven a P Q key size)
+          go : (k : Bool) → a .own ≡ k → OfKind k a P Q key size w r w′ → (1 ≤ size) × (size ≤ 16) × (r ≡ pageGiven a P Q key size)
           go false e x =
               let ask = requestOf a key size in
-              let no : pageNo P Q ask ≡ 0 = sym (of-page.ring-page-no P Q ask) ∙ sym (ap (λ (y : Paged). y .number) (x .promised)) ∙ fine in
+              let no : pageNo P Q ask (length w) ≡ 0 = sym (of-page.ring-page-no P Q ask (length w)) ∙ sym (ap (λ (y : Paged). y .number) (x .promised .0)) ∙ fine in
               let s = size-fits size (none-applies _ .0 no 3) in
-              (s .0, s .1, x .promised ∙ of-page.page-answered P Q ask no ∙ ap (λ (y : Terms). pageGiven y P Q key size) (kind-of a false e))
+              (s .0, s .1, x .promised .0 ∙ of-page.page-answered P Q ask (length w) no ∙ ap (λ (y : Terms). pageGiven y P Q key size) (kind-of a false e))
           go true e x =
-              let no : ownNo P key size ≡ 0 = sym (of-own.ring-own-no P key size) ∙ sym (ap (λ (y : Paged). y .number) (x .2 .promised)) ∙ fine in
+              let no : ownNo P key size (length w) ≡ 0 = sym (of-own.ring-own-no P key size (length w)) ∙ sym (ap (λ (y : Paged). y .number) (x .2 .promised .0)) ∙ fine in
               let s = size-fits size (none-applies _ .0 no 2) in
-              (s .0, s .1, x .2 .promised ∙ of-own.own-answered P key size no ∙ ap (λ (y : List ℤ). pageGiven alone P y key size) (x .0) ∙ ap (λ (y : Terms). pageGiven y P Q key size) (λ i. record { threshold = sym (x .1) i; own = sym e i }))
+              (s .0, s .1, x .2 .promised .0 ∙ of-own.own-answered P key size (length w) no ∙ ap (λ (y : List ℤ). pageGiven alone P y key size) (x .0) ∙ ap (λ (y : Terms). pageGiven y P Q key size) (λ i. record { threshold = sym (x .1) i; own = sym e i }))
 
-      module _ (h : InRange key size (a .threshold)) where
-        -- a key, a size and a t in range are served
+      module _ (h : InRange key size (a .threshold)) (enough : need P ≤ length w) where
+        -- a key, a size and a t in range are served, with words enough
         pub page-served : r .number ≡ 0
         page-served = go (a .own) answers
           where
-            go : (k : Bool) → OfKind k a P Q key size r → r .number ≡ 0
-            go false x = unfold pageGiven in ap (λ (y : Paged). y .number) (x .promised ∙ of-page.ring-page-served P Q (requestOf a key size) sheets (h .q-in) (h .p-in) (h .some) (h .most) (h .fair))
-            go true x = unfold pageGiven in ap (λ (y : Paged). y .number) (x .2 .promised ∙ of-own.own-served P key size p-opens (h .q-in) (h .p-in) (h .some) (h .most))
+            go : (k : Bool) → OfKind k a P Q key size w r w′ → r .number ≡ 0
+            go false x = unfold pageGiven in ap (λ (y : Paged). y .number) (x .promised .0 ∙ of-page.ring-page-served P Q (requestOf a key size) (length w) sheets (h .q-in) (h .p-in) (h .some) (h .most) (h .fair) enough)
+            go true x = unfold pageGiven in ap (λ (y : Paged). y .number) (x .2 .promised .0 ∙ of-own.own-served P key size (length w) p-opens (h .q-in) (h .p-in) (h .some) (h .most) enough)
 
         page-is : r ≡ pageGiven a P Q key size
         page-is = answered page-served .2
@@ -274,21 +289,22 @@ module _ (P Q : List ℤ) (p-opens : WellFormed P) (q-opens : WellFormed Q) wher
             for-size a (pointsOf P) (pointsOf Q) rise-p rise-q v (shown-member List-of key size v (subst (List·Memᴰ v) s m)) j i (omega (arith, length-points Q)) (omega (arith, length-points P)) e f
             ∙ ap₂ sizeOf (spot-of Q j j-in) (spot-of P i i-in)
 
-        -- "Beside the page stands its count of nodes opened": that of the walks as they are defined, the filter walks' kept sets on sixteen words. "With t above 0 a page's
-        -- count takes in all kept partners of each chamber reached, the last one too": `walksFor` of join/specs/Threshold. Of a self join "the filter passes over q, and kept
-        -- partners of higher id get one ring walk": `walksBy` of join/specs/Sheets. [P8, T7, J4, J9]
-        pub page-opened : r .opened ≡ pageOpened (walksFor (walksBy a 16 P Q) (points P) (a .threshold)) key size (points P) (points Q)
+        -- "Beside the page stands its count of nodes opened": that of the walks as they are defined, the filter walks' kept sets on the words that are needed.
+        -- "With t above 0 a page's count takes in all kept partners of each chamber reached, the last one too": `walksFor` of join/specs/Threshold.
+        -- Of a self join "the filter passes over q, and kept partners of higher id get one ring walk": `walksBy` of join/specs/Sheets. [P8, T7, J4, J9]
+        pub page-opened : r .opened ≡ pageOpened (walksFor (walksBy a (need P) P Q) (points P) (a .threshold)) key size (points P) (points Q)
         unfolding pageGiven
         page-opened = ap (λ (x : Paged). x .opened) page-is
 
     -- Following the pages from (0, 0), each next key the last pair shown, whatever the sizes from 1 to 16, gives the whole list, each pair once. `ask` is the page
-    -- request: for every key and size it gives an answer that the promise admits. [P4, T4, J4, D2]
-    pub pages-list : a .threshold ≤ lastThreshold → (ask : Key → ℕ → Paged) → ((key : Key) (size : ℕ) → TermsAnswers a P Q key size (ask key size))
+    -- request: for every key and size it gives an answer that the promise admits, for some words that are lent then, enough of them. [P4, T4, J4, D2]
+    pub pages-list : a .threshold ≤ lastThreshold → (w : Key → ℕ → List ℕ) → ((key : Key) (size : ℕ) → need P ≤ length (w key size)) → (ask : Key → ℕ → Paged) (w′ : Key → ℕ → List ℕ)
+        → ((key : Key) (size : ℕ) → TermsAnswers a P Q key size (w key size) (ask key size) (w′ key size))
         → (sizes : ℕ → ℕ) → ((k : ℕ) → sizeNo (sizes k) ≡ 0)
         → followed (length List-of) sizes (λ key size. ask key size .page) start ≡ List-of
-    pages-list most ask x sizes s =
+    pages-list most w enough ask w′ x sizes s =
         of-page.followed-list a P Q (facts P p-opens) (facts Q q-opens) ask
-        (λ k n qi pi some few. page-is k n (ask k n) (x k n) (record { q-in = qi; p-in = pi; some = some; most = few; fair = most })) sizes s
+        (λ k n qi pi some few. page-is k n (w k n) (ask k n) (w′ k n) (x k n) (record { q-in = qi; p-in = pi; some = some; most = few; fair = most }) (enough k n)) sizes s
 
     -- "The list runs by q id, then p id": each pair stands strictly after the one before it, [R4, J2, D2]
     pub list-ascends : ascends start List-of ≡ true
@@ -329,9 +345,9 @@ module _ (P Q : List ℤ) (p-opens : WellFormed P) (q-opens : WellFormed Q) wher
   threshold-whole t j j-in = threshold-pairs (pointsOf P) (pointsOf Q) rise-p rise-q t j (omega (arith, length-points Q))
 
   -- "For one q id and a t, give the smaller of t and the number of its pairs in the list, and a yes exactly when that is t."
-  module _ (id t : ℕ) (r : Partnered) (a : PartnersAnswers P Q id t r) (j : ℕ) (j-in : j < points Q) (named : idAt (pointsOf Q) j ≡ id) (some : 1 ≤ t) (most : t ≤ lastThreshold) where
+  module _ (id t : ℕ) (w : List ℕ) (r : Partnered) (w′ : List ℕ) (a : PartnersAnswers P Q id t w r w′) (j : ℕ) (j-in : j < points Q) (named : idAt (pointsOf Q) j ≡ id) (some : 1 ≤ t) (most : t ≤ lastThreshold) (enough : need P ≤ length w) where
     partners-are : r ≡ partnersGiven P Q id t
-    partners-are = a .promised ∙ of-partners.partners-served P Q id t sheets j (omega (arith, length-points Q)) named some most
+    partners-are = a .promised .0 ∙ of-partners.partners-served P Q id t (length w) sheets j (omega (arith, length-points Q)) named some most enough
 
     -- [T1, T2]
     pub partners-exact : (r .number ≡ 0) × (r .count ≡ smaller t (length (pairsWith id))) × (r .enough ≡ eqb (r .count) t)
@@ -361,7 +377,7 @@ module _ (P Q : List ℤ) (p-opens : WellFormed P) (q-opens : WellFormed Q) wher
 
   -- ---- the list
 
-  -- "The list holds a pump house and a chamber exactly if the ring rule makes them a pair": [R3, D2]
+  -- "The list holds a pump house and a chamber exactly if the ring rule makes them a pair": [R3, Y3, D2]
   pub list-exact : (j i : ℕ) → j < points Q → i < points P
       → List·Memᴰ (pairAt (pointsOf P) (pointsOf Q) j i) (ringList (pointsOf P) (pointsOf Q)) ↔ (ringPair (pointsOf P) (pointsOf Q) j i ≡ true)
   list-exact j i j-in i-in =
@@ -383,12 +399,12 @@ module _ (P Q : List ℤ) (p-opens : WellFormed P) (q-opens : WellFormed Q) wher
     never-empty = of-nearest.list-never-empty (pointsOf P) (pointsOf Q) (omega (arith, length-points P)) (omega (arith, length-points Q))
 
     -- and its first page shows a pair. [R7]
-    pub first-visit : (size : ℕ) (r : Paged) → InRange start size 0 → PageAnswers P Q (requestOf full start size) r → 0 < r .page .count
+    pub first-visit : (size : ℕ) (w : List ℕ) → need P ≤ length w → (r : Paged) (w′ : List ℕ) → InRange start size 0 → PageAnswers P Q (requestOf full start size) w r w′ → 0 < r .page .count
     unfolding pageOf shown
-    first-visit size r h a =
+    first-visit size w enough r w′ h a =
         let l = ringList (pointsOf P) (pointsOf Q) in
         let all : after start l ≡ l = after-all start l (ring-ascends (pointsOf P) (pointsOf Q) (of-join.points-rise (facts P p-opens)) (of-join.points-rise (facts Q q-opens))) in
-        let e : r .page .count ≡ length (take size l) = ap (λ (g : Page). g .count) (page-pairs full start size r a h .1 ∙ ap (λ (x : List Pair). pageOf (sourceOf P Q full) x start size) full-list) ∙ ap (λ (x : List Pair). length (take size x)) all in
+        let e : r .page .count ≡ length (take size l) = ap (λ (g : Page). g .count) (page-pairs full start size w r w′ a h enough .1 ∙ ap (λ (x : List Pair). pageOf (sourceOf P Q full) x start size) full-list) ∙ ap (λ (x : List Pair). length (take size x)) all in
         omega (arith, e, length-take size l, never-empty, h .some)
 
   -- ---- one run per leaf
@@ -399,37 +415,43 @@ module _ (P Q : List ℤ) (p-opens : WellFormed P) (q-opens : WellFormed Q) wher
     pub level : levelOf Q (points Q) v ≡ 0
 
   -- "another chamber of the leaf rules out a partner just as a kept pump house does": what the leaf's walk, whose nodes are counted, keeps for a chamber is ruled out by no
-  -- other chamber of the leaf.
-  pub run-ruled : (v : ℕ) → LeafOf v → (k i : ℕ) → k < countOf Q (points Q) v → i < points P → leafKeeps (chamberSpot Q v) (countOf Q (points Q) v) 16 P k i ≡ true
+  -- other chamber of the leaf. [L4]
+  pub run-ruled : (v : ℕ) → LeafOf v → (k i : ℕ) → k < countOf Q (points Q) v → i < points P → leafKeeps (chamberSpot Q v) (countOf Q (points Q) v) (need P) P k i ≡ true
       → (h : ℕ) → h < countOf Q (points Q) v → (h ≡ k → ⊥) → drops (chamberSpot Q v k) (chamberSpot Q v h) (spotOf P i) ≡ false
-  run-ruled v o k i k-in i-in = leaf-free (chamberSpot Q v) (countOf Q (points Q) v) 16 P (facts P p-opens) (leaf-few Q (facts Q q-opens) v (o .here) (o .level)) (slots-fit P p-opens) k i k-in (omega (arith, slots-fit P p-opens))
+  run-ruled v o k i k-in i-in =
+      leaf-free (chamberSpot Q v) (countOf Q (points Q) v) (need P) P (facts P p-opens) (leaf-few Q (facts Q q-opens) v (o .here) (o .level)) (words-enough (points P)) k i k-in (omega (arith, words-enough (points P)))
 
-  -- "A box is skipped exactly when each chamber of the leaf skips it": then no node is opened and nothing is kept; as soon as one does not, it is opened and counted.
-  pub run-skipped : (v j : ℕ) (go : Kept → Kept) (s : Kept) → ((k : ℕ) → k < countOf Q (points Q) v → skips (chamberSpot Q v) (countOf Q (points Q) v) 16 P (points P) j (s .bits) k ≡ true)
-      → leafVisit (chamberSpot Q v) (countOf Q (points Q) v) 16 P (points P) j go s ≡ s
-  run-skipped v = box-skipped (chamberSpot Q v) (countOf Q (points Q) v) 16 P (points P)
+  -- "A box is skipped exactly when each chamber of the leaf skips it": then no node is opened and nothing is kept; as soon as one does not, it is opened and counted. [L5]
+  pub run-skipped : (v j : ℕ) (go : Kept → Kept) (s : Kept) → ((k : ℕ) → k < countOf Q (points Q) v → skips (chamberSpot Q v) (countOf Q (points Q) v) (need P) P (points P) j (s .bits) k ≡ true)
+      → leafVisit (chamberSpot Q v) (countOf Q (points Q) v) (need P) P (points P) j go s ≡ s
+  run-skipped v = box-skipped (chamberSpot Q v) (countOf Q (points Q) v) (need P) P (points P)
 
-  pub run-opens : (v j : ℕ) (go : Kept → Kept) (s : Kept) (k : ℕ) → k < countOf Q (points Q) v → skips (chamberSpot Q v) (countOf Q (points Q) v) 16 P (points P) j (s .bits) k ≡ false
-      → leafVisit (chamberSpot Q v) (countOf Q (points Q) v) 16 P (points P) j go s ≡ go (soFar (s .bits) (s .opened + 1))
-  run-opens v = box-opened (chamberSpot Q v) (countOf Q (points Q) v) 16 P (points P)
+  -- [L5]
+  pub run-opens : (v j : ℕ) (go : Kept → Kept) (s : Kept) (k : ℕ) → k < countOf Q (points Q) v → skips (chamberSpot Q v) (countOf Q (points Q) v) (need P) P (points P) j (s .bits) k ≡ false
+      → leafVisit (chamberSpot Q v) (countOf Q (points Q) v) (need P) P (points P) j go s ≡ go (soFar (s .bits) (s .opened + 1))
+  run-opens v = box-opened (chamberSpot Q v) (countOf Q (points Q) v) (need P) P (points P)
 
-  module _ (v : ℕ) (o : LeafOf v) (slots : List Pair) (r : Run) (slots′ : List Pair) (a : RunAnswers P Q v slots r slots′) where
+  module _ (v : ℕ) (o : LeafOf v) (slots : List Pair) (w : List ℕ) (r : Run) (slots′ : List Pair) (w′ : List ℕ) (a : RunAnswers P Q v slots w r slots′ w′) where
     leaf-there : leafNo Q v ≡ 0
     leaf-there = sym (leaf-here Q v (facts Q q-opens) refl (o .here) (o .level))
 
-    number-is : r .number ≡ runNo P Q v (length slots)
-    number-is = ap (λ (x : Run). x .number) (a .0) ∙ of-runs.run-call-no P Q v (length slots)
+    number-is : r .number ≡ runNo P Q v (length slots) (length w)
+    number-is = ap (λ (x : Run). x .number) (a .0) ∙ of-runs.run-call-no P Q v (length slots) (length w)
 
-    -- "then 16 exactly when the pairs outnumber the slots" [L9]
-    pub run-sixteen : (r .number ≡ 16) ↔ (length slots < length (leafList P Q v))
-    run-sixteen = let t = of-run.run-call-sixteen P Q v (length slots) sheets leaf-there in (λ x. t .0 (sym number-is ∙ x), λ x. number-is ∙ t .1 x)
+    -- "24 bit slice too short": exactly when fewer words are lent than sixteen times as many as the points of P need
+    pub run-short : (r .number ≡ 24) ↔ (length w < runNeed P)
+    run-short = let t = of-run.run-call-short P Q v (length slots) (length w) sheets leaf-there in (λ x. t .0 (sym number-is ∙ x), λ x. number-is ∙ t .1 x)
 
-    -- with a slot for each pair
-    module _ (room : length (leafList P Q v) ≤ length slots) where
-      served : runNo P Q v (length slots) ≡ 0
-      served = of-run.run-served P Q v (length slots) sheets leaf-there room
+    -- "then 16 exactly when the pairs outnumber the slots", with words enough [L9]
+    pub run-sixteen : runNeed P ≤ length w → (r .number ≡ 16) ↔ (length slots < length (leafList P Q v))
+    run-sixteen enough = let t = of-run.run-call-sixteen P Q v (length slots) (length w) sheets leaf-there enough in (λ x. t .0 (sym number-is ∙ x), λ x. number-is ∙ t .1 x)
 
-      given : runAnswer P Q v (length slots) ≡ runGiven P Q v
+    -- with words enough, and a slot for each pair
+    module _ (enough : runNeed P ≤ length w) (room : length (leafList P Q v) ≤ length slots) where
+      served : runNo P Q v (length slots) (length w) ≡ 0
+      served = of-run.run-served P Q v (length slots) (length w) sheets leaf-there enough room
+
+      given : runAnswer P Q v (length slots) (length w) ≡ runGiven P Q v
       unfolding runAnswer
       given = answer-given _ _ _ served
 
@@ -438,7 +460,7 @@ module _ (P Q : List ℤ) (p-opens : WellFormed P) (q-opens : WellFormed Q) wher
       count-is = ap (λ (x : Run). x .count) (a .0 ∙ given)
 
       stored : take (r .count) slots′ ≡ leafList P Q v
-      stored = ap₂ take count-is (a .1) ∙ of-run.run-first P Q v slots served
+      stored = ap₂ take count-is (a .1) ∙ of-run.run-first P Q v slots w served
 
       -- "give the ring pairs of its points by place, then p id, in a lent slice of pairs; the rest of the slice isn't touched" [L1, L2]
       pub run-pairs : (r .number ≡ 0) × (r .count ≡ length (leafList P Q v)) × (take (r .count) slots′ ≡ leafList P Q v) × (drop (r .count) slots′ ≡ drop (r .count) slots)
@@ -446,7 +468,7 @@ module _ (P Q : List ℤ) (p-opens : WellFormed P) (q-opens : WellFormed Q) wher
         number-is ∙ served,
         count-is,
         stored,
-        ap₂ drop count-is (a .1) ∙ of-run.run-rest P Q v slots served ∙ ap (λ (k : ℕ). drop k slots) (sym count-is),
+        ap₂ drop count-is (a .1) ∙ of-run.run-rest P Q v slots w served ∙ ap (λ (k : ℕ). drop k slots) (sym count-is),
       )
 
       -- a chamber of the leaf and a pump house are stored exactly if the ring rule makes them a pair, whatever the walk has skipped .. [L1]
@@ -487,15 +509,15 @@ module _ (P Q : List ℤ) (p-opens : WellFormed P) (q-opens : WellFormed Q) wher
           (subst (Rising (idAt (pointsOf P))) (length-points P) (of-join.points-rise (facts P p-opens)))
           b c h (omega (arith, k, count-is)))
 
-      -- "Its count is that walk's opened nodes plus those of each kept partner's ring walk", the kept sets on sixteen words each [L7]
-      pub run-opened : r .opened ≡ leafOpened 16 P Q v
+      -- "Its count is that walk's opened nodes plus those of each kept partner's ring walk", the kept sets on as many words as are needed [L7]
+      pub run-opened : r .opened ≡ leafOpened (need P) P Q v
       unfolding runGiven
       run-opened = ap (λ (x : Run). x .opened) (a .0 ∙ given)
 
       -- "nodes opened never exceed m in one walk of one sheet": nor do those of the "one walk of P [that] serves all points of the leaf", which the answer counts in [L7]
-      pub run-at-most-m : (leafKept (chamberSpot Q v) (countOf Q (points Q) v) 16 P .opened ≤ nodes P) × (leafKept (chamberSpot Q v) (countOf Q (points Q) v) 16 P .opened ≤ r .opened)
+      pub run-at-most-m : (leafKept (chamberSpot Q v) (countOf Q (points Q) v) (need P) P .opened ≤ nodes P) × (leafKept (chamberSpot Q v) (countOf Q (points Q) v) (need P) P .opened ≤ r .opened)
       unfolding leafOpened
-      run-at-most-m = (leaf-opened (chamberSpot Q v) (countOf Q (points Q) v) 16 P (facts P p-opens), omega (arith, run-opened))
+      run-at-most-m = (leaf-opened (chamberSpot Q v) (countOf Q (points Q) v) (need P) P (facts P p-opens), omega (arith, run-opened))
 
   -- of all these runs, that of one leaf has the pair, and no other
   pub record InOneRun (runs : ℕ → List Pair) (x : Pair) : Type 0 where
@@ -504,15 +526,15 @@ module _ (P Q : List ℤ) (p-opens : WellFormed P) (q-opens : WellFormed Q) wher
     pub in-run : List·Memᴰ x (runs leaf)
     pub only : (u : ℕ) → LeafOf u → List·Memᴰ x (runs u) → u ≡ leaf
 
-  -- "Over all leaves the pairs are 01's list, each once." For each leaf v of Q, `lent v` are the slots lent, one at least for each pair, `run v` is what the call answered, and
-  -- `after v` are the slots after it. [L6]
-  pub runs-list : (lent : ℕ → List Pair) (run : ℕ → Run) (after : ℕ → List Pair)
-      → ((v : ℕ) → LeafOf v → RunAnswers P Q v (lent v) (run v) (after v)) → ((v : ℕ) → LeafOf v → length (leafList P Q v) ≤ length (lent v))
+  -- "Over all leaves the pairs are 01's list, each once." For each leaf v of Q, `lent v` are the slots lent, one at least for each pair, `w v` are the words
+  -- lent, enough of them, `run v` is what the call answered, and `after v` and `w′ v` are the slots and the words after it. [L6]
+  pub runs-list : (lent : ℕ → List Pair) (w : ℕ → List ℕ) (run : ℕ → Run) (after : ℕ → List Pair) (w′ : ℕ → List ℕ)
+      → ((v : ℕ) → LeafOf v → RunAnswers P Q v (lent v) (w v) (run v) (after v) (w′ v)) → ((v : ℕ) → LeafOf v → runNeed P ≤ length (w v)) → ((v : ℕ) → LeafOf v → length (leafList P Q v) ≤ length (lent v))
       → (x : Pair) → List·Memᴰ x (ringList (pointsOf P) (pointsOf Q)) ↔ InOneRun (λ v. take (run v .count) (after v)) x
-  runs-list lent run after a room x = (there, back)
+  runs-list lent w run after w′ a enough room x = (there, back)
     where
       is : (v : ℕ) → LeafOf v → take (run v .count) (after v) ≡ leafList P Q v
-      is v o = stored v o (lent v) (run v) (after v) (a v o) (room v o)
+      is v o = stored v o (lent v) (w v) (run v) (after v) (w′ v) (a v o) (enough v o) (room v o)
 
       there : List·Memᴰ x (ringList (pointsOf P) (pointsOf Q)) → InOneRun (λ v. take (run v .count) (after v)) x
       there m =
@@ -524,17 +546,18 @@ module _ (P Q : List ℤ) (p-opens : WellFormed P) (q-opens : WellFormed Q) wher
       back y =
           of-leaf.run-listed P Q (facts P p-opens) (facts Q q-opens) (y .leaf) (y .is-leaf .here) (y .is-leaf .level) x (subst (List·Memᴰ x) (is (y .leaf) (y .is-leaf)) (y .in-run))
 
--- "It depends on the points alone": whatever the editions, the orders and the trees of two pairs of sheets; of any terms.
+-- "It depends on the points alone": whatever the forms, the editions, the orders and the trees of two pairs of sheets; of any terms.
 module _ (P P′ Q Q′ : List ℤ) (p-opens : WellFormed P) (p-opens′ : WellFormed P′) (q-opens : WellFormed Q) (q-opens′ : WellFormed Q′) (same-p : pointsOf P ≡ pointsOf P′) (same-q : pointsOf Q ≡ pointsOf Q′) (a : Terms) where
   -- [D3]
   pub same-list : listFor a (pointsOf P) (pointsOf Q) ≡ listFor a (pointsOf P′) (pointsOf Q′)
   same-list = of-join.join-same-list P P′ Q Q′ same-p same-q a
 
-  -- [P12, J6, D3]
-  pub list-by-points : (key : Key) (size : ℕ) (r r′ : Paged) → InRange key size (a .threshold) → TermsAnswers a P Q key size r → TermsAnswers a P′ Q′ key size r′
+  -- [P12, J6, Y3, D3]
+  pub list-by-points : (key : Key) (size : ℕ) (w v : List ℕ) → need P ≤ length w → need P′ ≤ length v → (r r′ : Paged) (w′ v′ : List ℕ) → InRange key size (a .threshold)
+      → TermsAnswers a P Q key size w r w′ → TermsAnswers a P′ Q′ key size v r′ v′
       → (r .page .pairs ≡ r′ .page .pairs) × (r .page .count ≡ r′ .page .count) × (r .page .end ≡ r′ .page .end)
-  list-by-points key size r r′ h x y =
-      of-page.given-by-points a P P′ Q Q′ key size same-p same-q r r′ (page-is P Q p-opens q-opens a key size r x h) (page-is P′ Q′ p-opens′ q-opens′ a key size r′ y h)
+  list-by-points key size w v enough enough′ r r′ w′ v′ h x y =
+      of-page.given-by-points a P P′ Q Q′ key size same-p same-q r r′ (page-is P Q p-opens q-opens a key size w r w′ x h enough) (page-is P′ Q′ p-opens′ q-opens′ a key size v r′ v′ y h enough′)
 
 -- ---- the self join of one sheet
 
@@ -552,18 +575,19 @@ module _ (S : List ℤ) (opens : WellFormed S) where
   own-low = of-terms.self-low (pointsOf S) (of-join.points-rise (facts S opens))
 
   -- The self join's page request answers as that of its terms. [J4, J6]
-  pub own-answers : (key : Key) (size : ℕ) (r : Paged) → OwnAnswers S key size r → TermsAnswers alone S S key size r
-  own-answers key size r x = (refl, refl, x)
+  pub own-answers : (key : Key) (size : ℕ) (w : List ℕ) (r : Paged) (w′ : List ℕ) → OwnAnswers S key size w r w′ → TermsAnswers alone S S key size w r w′
+  own-answers key size w r w′ x = (refl, refl, x)
 
 -- ---- the return trip
 
-module _ (n : ℕ) (p order : List ℤ) (ed : ℕ) (out : List ℤ) (out′ : List ℤ) (packs : PackAnswers n p order ed out 0 out′) where
-  returned : Returned n p ed out′
-  returned = of-pack.pack-return-trip n p order ed out 0 out′ (packs .promised .0) (packs .promised .1) refl
+module _ (f n : ℕ) (p order : List ℤ) (ed : ℕ) (out : List ℤ) (out′ : List ℤ) (packs : PackAnswers f n p order ed out 0 out′) where
+  returned : Returned f n p ed out′
+  returned = of-pack.pack-return-trip f n p order ed out 0 out′ (packs .promised .0) (packs .promised .1) refl
 
-  -- "packing one from a point list", then "opening": what pack leaves where it answers 0 opens, its points are the given ones, in order, and its edition is the given one. [S25]
-  pub return-trip : (k : ℕ) → OpenAnswers out′ k → (k ≡ 0) × (pointsOf out′ ≡ pointsIn n p) × (points out′ ≡ n) × (edition out′ ≡ pos ed)
-  return-trip k a = (a .promised ∙ returned .opens, returned .same-points, returned .same-number, returned .same-edition)
+  -- "packing one from a point list", then "opening": what pack leaves where it answers 0 opens, its points are the given ones, in order, and so are its form
+  -- and its edition. [S25, Y4]
+  pub return-trip : (k : ℕ) → OpenAnswers out′ k → (k ≡ 0) × (form out′ ≡ pos f) × (pointsOf out′ ≡ pointsIn n p) × (points out′ ≡ n) × (edition out′ ≡ pos ed)
+  return-trip k a = (a .promised ∙ returned .opens, returned .same-form, returned .same-points, returned .same-number, returned .same-edition)
 
   -- So the point reader gives back each record that was handed to pack. [S25]
   pub return-point : (i : ℕ) → i < n → (r : Pointed) → PointAnswers out′ i r → r ≡ At (assetOf p i)
@@ -572,5 +596,5 @@ module _ (n : ℕ) (p order : List ℤ) (ed : ℕ) (out : List ℤ) (out′ : Li
       let inside : i < points out′ = omega (arith, returned .same-number) in
       let same : pointOf out′ i ≡ pointOf p i = sym (point-at out′ i inside) ∙ ap (λ (l : List Point). pointAt l i) (returned .same-points) ∙ at-tab n (pointOf p) _ i h in
       a .promised
-      ∙ sym (point-given out′ i (assetOf out′ i) (first-passes (openNo form1 out′) _ (returned .opens) ∙ first-last _ ∙ ring-position-in out′ i inside) refl)
+      ∙ sym (point-given out′ i (assetOf out′ i) (first-passes (sheetNo out′) _ (returned .opens) ∙ first-last _ ∙ ring-position-in out′ i inside) refl)
       ∙ ap (λ (x : Point). At record { id = x .id; x = x .spot .x; y = x .spot .y }) same

@@ -22,15 +22,14 @@ use mathlib.Core.List.{List, [], List·Memᴰ, Memᴰ·append-left}
 use Prim.Native.Nat.{ℕ, zero, suc, _+_, _≤_, _<_}
 use native.Mathlib.Omega.{arith}
 use lib.IntN.{ℤ}
-use lib.ListN.{length, take, drop, take-append-drop}
+use lib.ListN.{length, take, drop, replicate, take-append-drop, length-replicate}
 use Rattle.integers.proofs.Bools.{decide}
 use Rattle.words.specs.Range.{lastId}
 use Rattle.plane.specs.Point.{Point, idAt, spotAt}
 use Rattle.words.specs.Word.{num}
-use Rattle.sheet.specs.Limits.{form1}
 use Rattle.sheet.specs.Layout.{edition}
 use Rattle.sheet.specs.Places.{pointsOf}
-use Rattle.sheet.specs.Open.{openNo}
+use Rattle.sheet.specs.Open.{sheetNo}
 use Rattle.list.specs.declared.Key.{Key}
 use Rattle.list.specs.declared.Pair.{Pair}
 use Rattle.list.specs.declared.Source.{Source}
@@ -45,8 +44,9 @@ use Rattle.list.proofs.Order.{last-holds}
 use Rattle.list.proofs.PageLaws.{shown-count, length-padded}
 use Rattle.list.proofs.TermsLaws.{for-size, for-keys}
 use Rattle.join.proofs.Meaning.{points-sound}
-use Rattle.ring.specs.Page.{sourceOf, pageGiven, pageAnswer}
-use Rattle.ring.specs.Own.{ownAnswer}
+use Rattle.ring.specs.Lent.{need}
+use Rattle.ring.specs.Page.{sourceOf, pageGiven, pageAnswer, pageBits}
+use Rattle.ring.specs.Own.{ownAnswer, ownBits}
 use Rattle.ring.specs.declared.Paged.{Paged}
 use Rattle.book.specs.declared.Book.{Book}
 use Rattle.book.specs.declared.Next.the-variants as next
@@ -64,7 +64,7 @@ use Rattle.demands.specs.World.{Editions, OfKind, Sheets, pumpsOf, chamb
 use Rattle.demands.proofs.Demand2 as demand2
 
 module _ (w : Editions) where
-  -- ids ascend and points stand within 1,000,000, since the sheets open
+  -- ids ascend and points stand where a sheet's points may, since the sheets open
   abbrev worldOf : World
   worldOf =
       record {
@@ -78,17 +78,17 @@ module _ (w : Editions) where
 
   -- the sheets of a request open, and hold the points of their editions
   module _ (a : Terms) (P Q : List ℤ) (sheets : Sheets w a P Q) where
-    p-opens : openNo form1 P ≡ 0
+    p-opens : sheetNo P ≡ 0
     p-opens = go (a .own) sheets
       where
-        go : (k : Bool) → OfKind w k P Q → openNo form1 P ≡ 0
+        go : (k : Bool) → OfKind w k P Q → sheetNo P ≡ 0
         go false x = x .0 .opens
         go true x = x .0 .opens
 
-    q-opens : openNo form1 Q ≡ 0
+    q-opens : sheetNo Q ≡ 0
     q-opens = go (a .own) sheets
       where
-        go : (k : Bool) → OfKind w k P Q → openNo form1 Q ≡ 0
+        go : (k : Bool) → OfKind w k P Q → sheetNo Q ≡ 0
         go false x = x .1 .opens
         go true x = x .1 .opens
 
@@ -100,12 +100,12 @@ module _ (w : Editions) where
         go false x = sym (x .1 .same)
         go true x = sym (x .1 .same)
 
-    module _ (key : Key) (size : ℕ) (r : Paged) (answers : TermsAnswers a P Q key size r) where
+    module _ (key : Key) (size : ℕ) (bits : List ℕ) (r : Paged) (bits′ : List ℕ) (answers : TermsAnswers a P Q key size bits r bits′) where
       p-points : of-world.pumpsOf worldOf (sourceOf P Q a) ≡ pointsOf P
       unfolding sourceOf
       p-points = go (a .own) sheets answers
         where
-          go : (k : Bool) → OfKind w k P Q → of-promise.OfKind k a P Q key size r → cond k (pointsOf (w .assets (num (edition Q)))) (pointsOf (w .pumps (num (edition P)))) ≡ pointsOf P
+          go : (k : Bool) → OfKind w k P Q → of-promise.OfKind k a P Q key size bits r bits′ → cond k (pointsOf (w .assets (num (edition Q)))) (pointsOf (w .pumps (num (edition P)))) ≡ pointsOf P
           go false x y = sym (x .0 .same)
           go true x y = sym (x .0 .same ∙ ap (λ (z : List ℤ). pointsOf (w .assets (num (edition z)))) (y .0))
 
@@ -113,13 +113,13 @@ module _ (w : Editions) where
       pub page-of : r .number ≡ 0 → (1 ≤ size) × (size ≤ 16) × (r .page ≡ pageOf (sourceOf P Q a) (listOf worldOf (sourceOf P Q a)) key size)
       unfolding pageGiven sourceOf
       page-of fine =
-          let z = demand2.answered P Q p-opens q-opens a key size r answers fine in
+          let z = demand2.answered P Q p-opens q-opens a key size bits r bits′ answers fine in
           (z .0, z .1, ap (λ (x : Paged). x .page) (z .2) ∙ ap₂ (λ (x y : List Point). pageOf (sourceOf P Q a) (listFor a x y) key size) (sym p-points) (sym q-points))
 
   -- "not altered or invented": a page that was answered is honest [J7, D9]
   pub honest : (g : Page) → Answered w g → Honest worldOf g
   honest g x =
-      let z = page-of (x .terms) (x .P) (x .Q) (x .sheets) (x .key) (x .size) (x .r) (x .answers) (x .given) in
+      let z = page-of (x .terms) (x .P) (x .Q) (x .sheets) (x .key) (x .size) (x .bits) (x .r) (x .bits′) (x .answers) (x .given) in
       record { of = sourceOf (x .P) (x .Q) (x .terms); after = x .key; size = x .size; some = omega (arith, z .0); most = z .1; is = x .is ∙ z .2 }
 
   reached : {b : Book} {s : List Pair} → History w b s → Reached worldOf b s
@@ -204,14 +204,14 @@ module _ (w : Editions) where
     given : (o .r .number ≡ 0) × (o .r .page ≡ pageOf (b .source) (listOf worldOf (b .source)) (o .key) (o .size))
     given =
         let q = o .request in
-        let fine = demand2.page-served (q .P) (q .Q) (p-opens (b .source .terms) (q .P) (q .Q) (q .sheets)) (q-opens (b .source .terms) (q .P) (q .Q) (q .sheets)) (b .source .terms) (o .key) (o .size) (o .r) (q .answers) in-range in
-        (fine, page-of (b .source .terms) (q .P) (q .Q) (q .sheets) (o .key) (o .size) (o .r) (q .answers) fine .2 ∙ ap (λ (x : Source). pageOf x (listOf worldOf x) (o .key) (o .size)) (q .of-book))
+        let fine = demand2.page-served (q .P) (q .Q) (p-opens (b .source .terms) (q .P) (q .Q) (q .sheets)) (q-opens (b .source .terms) (q .P) (q .Q) (q .sheets)) (b .source .terms) (o .key) (o .size) (q .bits) (o .r) (q .bits′) (q .answers) in-range (q .enough) in
+        (fine, page-of (b .source .terms) (q .P) (q .Q) (q .sheets) (o .key) (o .size) (q .bits) (o .r) (q .bits′) (q .answers) fine .2 ∙ ap (λ (x : Source). pageOf x (listOf worldOf x) (o .key) (o .size)) (q .of-book))
 
     -- so it is a page that was answered
     own-answered : Answered w g
     own-answered =
         let q = o .request in
-        record { terms = b .source .terms; P = q .P; Q = q .Q; sheets = q .sheets; key = o .key; size = o .size; r = o .r; answers = q .answers; given = given .0; is = o .is }
+        record { terms = b .source .terms; P = q .P; Q = q .Q; sheets = q .sheets; key = o .key; size = o .size; bits = q .bits; r = o .r; bits′ = q .bits′; answers = q .answers; given = given .0; is = o .is }
 
     own-is : g ≡ ownPage worldOf b s (o .size)
     own-is = o .is ∙ given .1 ∙ ap (λ (k : Key). pageOf (b .source) (listOf worldOf (b .source)) k (o .size)) key-due
@@ -284,20 +284,23 @@ module _ (w : Editions) where
       let m = ask-on k (took (r .page) t s′ h (own-answered h o) (refl, refl)) size some most of (of-take.same-book-source b s (r .page) ∙ e) serve in
       (m .0, m .1, asks (r .page) t s′ o (refl, refl) (m .2))
 
-  -- any page request on such sheets is answered
+  -- any page request on such sheets is answered, with as many words lent as are needed
   somewhere : Place
   somewhere = record { address = (0, 0); name = 0 }
 
   serves : (of : Source) (size : ℕ) (P Q : List ℤ) → Sheets w (of .terms) P Q → (of .terms .own ≡ true → (P ≡ Q) × (of .terms .threshold ≡ 0)) → sourceOf P Q (of .terms) ≡ of → (key : Key) → (r : Paged) × Asks w of key size r
   serves of size P Q sheets alike e key =
       let x = go (of .terms .own) alike in
-      (x .0, record { P = P; Q = Q; sheets = sheets; of-book = e; answers = x .1 })
+      (x .0, record { P = P; Q = Q; sheets = sheets; of-book = e; bits = lent-words; enough = omega (arith, length-replicate {A = ℕ} (need P) 0); bits′ = x .1; answers = x .2 })
     where
-      go : (k : Bool) → (k ≡ true → (P ≡ Q) × (of .terms .threshold ≡ 0)) → (r : Paged) × of-promise.OfKind k (of .terms) P Q key size r
+      lent-words : List ℕ
+      lent-words = replicate (need P) 0
+
+      go : (k : Bool) → (k ≡ true → (P ≡ Q) × (of .terms .threshold ≡ 0)) → (r : Paged) × (bits′ : List ℕ) × of-promise.OfKind k (of .terms) P Q key size lent-words r bits′
       go false f =
           let ask = requestOf (of .terms) key size in
-          (pageAnswer P Q ask, record { κs = ([], ([], tt)); p-at = somewhere; q-at = somewhere; promised = refl })
-      go true f = (ownAnswer P key size, (f refl .0, f refl .1, record { κs = ([], tt); w-at = somewhere; promised = refl }))
+          (pageAnswer P Q ask (length lent-words), pageBits P Q ask lent-words, record { κs = ([], ([], ([], tt))); p-at = somewhere; q-at = somewhere; b-at = somewhere; promised = (refl, refl) })
+      go true f = (ownAnswer P key size (length lent-words), ownBits P key size lent-words, (f refl .0, f refl .1, record { κs = ([], ([], tt)); w-at = somewhere; b-at = somewhere; promised = (refl, refl) }))
 
   pub can-ask : (k : ℕ) {b : Book} {s : List Pair} → History w b s → (P Q : List ℤ) → Sheets w (b .source .terms) P Q → (b .source .terms .own ≡ true → P ≡ Q) → sourceOf P Q (b .source .terms) ≡ b .source
       → (size : ℕ) → 1 ≤ size → size ≤ 16 → (b′ : Book) × (s′ : List Pair) × Asking w k b s b′ s′

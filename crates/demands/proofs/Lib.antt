@@ -1,6 +1,7 @@
 -- The roof. specs/Promises names what each shipped call promises; the theorems start from these.
 --     Takes       no call asks anything of its arguments
 --     Demand1     every input is answered, by the number that is defined
+--     Lent        what is left in the words that are lent for kept sets
 --     Demand2     the list is that of the ring rule, and the calls answer for it
 --     ByRow       in what order a list by rows has its pairs
 --     Shortest    the shortest circles of the list, in order
@@ -16,6 +17,7 @@ pub mod Alike
 pub mod Takes
 pub mod Once
 pub mod Demand1
+pub mod Lent
 pub mod ByRow
 pub mod Demand2
 pub mod Shortest

@@ -3,10 +3,11 @@
 -- One exception, decision 32: of a view that `open` makes it says all that there is to see, the number, the words covered and where they stand, the counts; the name
 -- that the logic gives to the borrow itself is not settled.
 -- Assumes nothing. [D7, D8]
-use mathlib.Core.Path.{_≡_, refl}
+use mathlib.Core.Path.{_≡_, refl, sym, _∙_}
 use mathlib.Core.List.{List}
 use Prim.Native.Nat.{ℕ}
 use lib.IntN.{ℤ}
+use lib.ListN.{length}
 use denote.Ref.{RefT}
 use Rattle.list.specs.declared.Key.{Key}
 use Rattle.list.specs.declared.Pair.{Pair}
@@ -43,7 +44,7 @@ use Rattle.book.proofs.Once as of-book
 use Rattle.pack.proofs.Once as of-pack
 use Rattle.marker.proofs.Once as of-marker
 use Rattle.runs.proofs.Once as of-runs
-use Rattle.demands.specs.Promises.{OpenAnswers, HeadAnswers, PointAnswers, FilterAnswers, RingAnswers, PageAnswers, ShortAnswers, PackAnswers, MarkAnswers, BeginAnswers, NextAnswers, TakeAnswers, NextArrayAnswers, TakeArrayAnswers, RunAnswers, RunArrayAnswers, ViewOpens, ViewPoints, ViewFilters, ViewRings, ViewPages, OpenHead, PointOpened, PartnersAnswers, ViewPartners, NearestAnswers, NearFilterAnswers, OwnAnswers, ViewOwnPages, ViewNearest}
+use Rattle.demands.specs.Promises.{OpenAnswers, HeadAnswers, PointAnswers, FilterAnswers, RingAnswers, PageAnswers, ShortAnswers, PackAnswers, MarkAnswers, BeginAnswers, NextAnswers, TakeAnswers, NextArrayAnswers, TakeArrayAnswers, RunAnswers, RunArrayAnswers, ViewOpens, ViewPoints, ViewFilters, ViewRings, ViewPages, OpenHead, PointOpened, PartnersAnswers, ViewPartners, NearestAnswers, NearFilterAnswers, OwnAnswers, ViewOwnPages, ViewRuns, ViewShortest, ViewNearest, ViewNearFilters}
 
 -- ---- ring
 
@@ -56,38 +57,40 @@ head-once w r r′ a b = of-ring.ring-head-once w r r′ (a .promised) (b .promi
 pub point-once : (w : List ℤ) (i : ℕ) (r r′ : Pointed) → PointAnswers w i r → PointAnswers w i r′ → r ≡ r′
 point-once w i r r′ a b = of-ring.ring-point-once w i r r′ (a .promised) (b .promised)
 
-pub filter-once : (P Q : List ℤ) (j : ℕ) (r r′ : Filtered) → FilterAnswers P Q j r → FilterAnswers P Q j r′ → r ≡ r′
-filter-once P Q j r r′ a b = of-ring.ring-filter-once P Q j r r′ (a .promised) (b .promised)
-
 pub ring-once : (P Q : List ℤ) (j i : ℕ) (r r′ : Walked) → RingAnswers P Q j i r → RingAnswers P Q j i r′ → r ≡ r′
 ring-once P Q j i r r′ a b = of-ring.ring-walk-once P Q j i r r′ (a .promised) (b .promised)
 
-pub page-once : (P Q : List ℤ) (ask : Request) (r r′ : Paged) → PageAnswers P Q ask r → PageAnswers P Q ask r′ → r ≡ r′
-page-once P Q ask r r′ a b = of-page.ring-page-once P Q ask r r′ (a .promised) (b .promised)
+-- those that are lent words: one answer, and one final state of the words
 
-pub own-once : (S : List ℤ) (key : Key) (size : ℕ) (r r′ : Paged) → OwnAnswers S key size r → OwnAnswers S key size r′ → r ≡ r′
-own-once S key size r r′ a b = of-own.ring-own-once S key size r r′ (a .promised) (b .promised)
+pub filter-once : (P Q : List ℤ) (j : ℕ) (w : List ℕ) (r r′ : Filtered) (t t′ : List ℕ) → FilterAnswers P Q j w r t → FilterAnswers P Q j w r′ t′ → (r ≡ r′) × (t ≡ t′)
+filter-once P Q j w r r′ t t′ a b = (of-ring.ring-filter-once P Q j (length w) r r′ (a .promised .0) (b .promised .0), a .promised .1 ∙ sym (b .promised .1))
 
-pub partners-once : (P Q : List ℤ) (id t : ℕ) (r r′ : Partnered) → PartnersAnswers P Q id t r → PartnersAnswers P Q id t r′ → r ≡ r′
-partners-once P Q id t r r′ a b = of-partners.ring-partners-once P Q id t r r′ (a .promised) (b .promised)
+pub page-once : (P Q : List ℤ) (ask : Request) (w : List ℕ) (r r′ : Paged) (t t′ : List ℕ) → PageAnswers P Q ask w r t → PageAnswers P Q ask w r′ t′ → (r ≡ r′) × (t ≡ t′)
+page-once P Q ask w r r′ t t′ a b = (of-page.ring-page-once P Q ask (length w) r r′ (a .promised .0) (b .promised .0), a .promised .1 ∙ sym (b .promised .1))
 
-pub shortest-once : (P Q : List ℤ) (k : ℕ) (r r′ : Shortlist) → ShortAnswers P Q k r → ShortAnswers P Q k r′ → r ≡ r′
-shortest-once P Q k r r′ a b = of-shortest.short-once P Q k r r′ (a .promised) (b .promised)
+pub own-once : (S : List ℤ) (key : Key) (size : ℕ) (w : List ℕ) (r r′ : Paged) (t t′ : List ℕ) → OwnAnswers S key size w r t → OwnAnswers S key size w r′ t′ → (r ≡ r′) × (t ≡ t′)
+own-once S key size w r r′ t t′ a b = (of-own.ring-own-once S key size (length w) r r′ (a .promised .0) (b .promised .0), a .promised .1 ∙ sym (b .promised .1))
 
--- ---- nearest first: one answer, and one final state of the lent numbers
+pub partners-once : (P Q : List ℤ) (id t : ℕ) (w : List ℕ) (r r′ : Partnered) (u u′ : List ℕ) → PartnersAnswers P Q id t w r u → PartnersAnswers P Q id t w r′ u′ → (r ≡ r′) × (u ≡ u′)
+partners-once P Q id t w r r′ u u′ a b = (of-partners.ring-partners-once P Q id t (length w) r r′ (a .promised .0) (b .promised .0), a .promised .1 ∙ sym (b .promised .1))
+
+pub shortest-once : (P Q : List ℤ) (k : ℕ) (w : List ℕ) (r r′ : Shortlist) (t t′ : List ℕ) → ShortAnswers P Q k w r t → ShortAnswers P Q k w r′ t′ → (r ≡ r′) × (t ≡ t′)
+shortest-once P Q k w r r′ t t′ a b = of-shortest.short-once P Q k w r r′ t t′ (a .promised) (b .promised)
+
+-- ---- nearest first: one answer, and one final state of the lent numbers, and of the lent words
 
 pub nearest-once : (P Q : List ℤ) (id size : ℕ) (ws : List ℕ) (r r′ : Found) (t t′ : List ℕ) → NearestAnswers P Q id size ws r t → NearestAnswers P Q id size ws r′ t′ → (r ≡ r′) × (t ≡ t′)
 nearest-once P Q id size ws r r′ t t′ a b = of-nearest.nearest-call-once P Q id size ws r r′ t t′ (a .promised) (b .promised)
 
-pub near-filter-once : (P Q : List ℤ) (id : ℕ) (ws : List ℕ) (r r′ : Filtered) (t t′ : List ℕ) → NearFilterAnswers P Q id ws r t → NearFilterAnswers P Q id ws r′ t′ → (r ≡ r′) × (t ≡ t′)
-near-filter-once P Q id ws r r′ t t′ a b = of-nearest.near-filter-call-once P Q id ws r r′ t t′ (a .promised) (b .promised)
+pub near-filter-once : (P Q : List ℤ) (id : ℕ) (ws w : List ℕ) (r r′ : Filtered) (t t′ u u′ : List ℕ) → NearFilterAnswers P Q id ws w r t u → NearFilterAnswers P Q id ws w r′ t′ u′ → (r ≡ r′) × (t ≡ t′) × (u ≡ u′)
+near-filter-once P Q id ws w r r′ t t′ u u′ a b = of-nearest.near-filter-call-once P Q id ws w r r′ t t′ u u′ (a .promised) (b .promised)
 
 -- ---- pack: one answer, and one final state of the lent words
 
-pub pack-once : (n : ℕ) (points order : List ℤ) (ed : ℕ) (out : List ℤ) (r r′ : ℕ) (w w′ : List ℤ)
-    → PackAnswers n points order ed out r w → PackAnswers n points order ed out r′ w′ → (r ≡ r′) × (w ≡ w′)
-pack-once n points order ed out r r′ w w′ a b =
-    (of-pack.pack-call-once n points order ed out r r′ (a .promised .0) (b .promised .0), of-pack.pack-words-once n points order ed out w w′ (a .promised .1) (b .promised .1))
+pub pack-once : (form n : ℕ) (points order : List ℤ) (ed : ℕ) (out : List ℤ) (r r′ : ℕ) (w w′ : List ℤ)
+    → PackAnswers form n points order ed out r w → PackAnswers form n points order ed out r′ w′ → (r ≡ r′) × (w ≡ w′)
+pack-once form n points order ed out r r′ w w′ a b =
+    (of-pack.pack-call-once form n points order ed out r r′ (a .promised .0) (b .promised .0), of-pack.pack-words-once form n points order ed out w w′ (a .promised .1) (b .promised .1))
 
 -- ---- marker
 
@@ -113,13 +116,13 @@ next-array-once slots len b r r′ x y = of-book.book-next-array-once slots len 
 pub take-array-once : (slots : List Pair) (len : ℕ) (b : Book) (g : Page) (r r′ : TakenArray) → TakeArrayAnswers slots len b g r → TakeArrayAnswers slots len b g r′ → r ≡ r′
 take-array-once slots len b g r r′ x y = of-book.book-take-array-once slots len b g r r′ (x .promised) (y .promised)
 
--- ---- one run per leaf: one answer, and one final state of the slots
+-- ---- one run per leaf: one answer, and one final state of the slots and of the lent words
 
-pub run-once : (P Q : List ℤ) (v : ℕ) (slots : List Pair) (r r′ : Run) (t t′ : List Pair) → RunAnswers P Q v slots r t → RunAnswers P Q v slots r′ t′ → (r ≡ r′) × (t ≡ t′)
-run-once P Q v slots r r′ t t′ x y = of-runs.run-call-once P Q v slots r r′ t t′ x y
+pub run-once : (P Q : List ℤ) (v : ℕ) (slots : List Pair) (w : List ℕ) (r r′ : Run) (t t′ : List Pair) (u u′ : List ℕ) → RunAnswers P Q v slots w r t u → RunAnswers P Q v slots w r′ t′ u′ → (r ≡ r′) × (t ≡ t′) × (u ≡ u′)
+run-once P Q v slots w r r′ t t′ u u′ x y = of-runs.run-call-once P Q v slots w r r′ t t′ u u′ x y
 
-pub run-array-once : (P Q : List ℤ) (v : ℕ) (slots : List Pair) (len : ℕ) (r r′ : RunArray) → RunArrayAnswers P Q v slots len r → RunArrayAnswers P Q v slots len r′ → r ≡ r′
-run-array-once P Q v slots len r r′ x y = of-runs.run-array-call-once P Q v slots len r r′ (x .promised) (y .promised)
+pub run-array-once : (P Q : List ℤ) (v : ℕ) (slots : List Pair) (len : ℕ) (w : List ℕ) (r r′ : RunArray) (u u′ : List ℕ) → RunArrayAnswers P Q v slots len w r u → RunArrayAnswers P Q v slots len w r′ u′ → (r ≡ r′) × (u ≡ u′)
+run-array-once P Q v slots len w r r′ u u′ x y = of-runs.run-array-call-once P Q v slots w len r r′ u u′ (x .promised) (y .promised)
 
 -- ---- view
 
@@ -129,23 +132,32 @@ view-open-once w r r′ x y = of-view.open-through-once w r r′ x y
 pub view-point-once : (d : Sheet) (i : ℕ) (r r′ : Pointed) → ViewPoints d i r → ViewPoints d i r′ → r ≡ r′
 view-point-once d i r r′ x y = of-view.point-through-once d d i r r′ refl x y
 
-pub view-filter-once : (p q : Sheet) (j : ℕ) (r r′ : Filtered) → ViewFilters p q j r → ViewFilters p q j r′ → r ≡ r′
-view-filter-once p q j r r′ x y = of-view.filter-through-once p p q q j r r′ refl refl x y
+pub view-filter-once : (p q : Sheet) (j : ℕ) (w : List ℕ) (r r′ : Filtered) (t t′ : List ℕ) → ViewFilters p q j w r t → ViewFilters p q j w r′ t′ → (r ≡ r′) × (t ≡ t′)
+view-filter-once p q j w r r′ t t′ x y = of-view.filter-through-once p p q q j w r r′ t t′ refl refl x y
 
 pub view-ring-once : (p q : Sheet) (j i : ℕ) (r r′ : Walked) → ViewRings p q j i r → ViewRings p q j i r′ → r ≡ r′
 view-ring-once p q j i r r′ x y = of-view.ring-through-once p p q q j i r r′ refl refl x y
 
-pub view-page-once : (p q : Sheet) (ask : Request) (r r′ : Paged) → ViewPages p q ask r → ViewPages p q ask r′ → r ≡ r′
-view-page-once p q ask r r′ x y = of-view.page-through-once p p q q ask r r′ refl refl x y
+pub view-page-once : (p q : Sheet) (ask : Request) (w : List ℕ) (r r′ : Paged) (t t′ : List ℕ) → ViewPages p q ask w r t → ViewPages p q ask w r′ t′ → (r ≡ r′) × (t ≡ t′)
+view-page-once p q ask w r r′ t t′ x y = of-view.page-through-once p p q q ask w r r′ t t′ refl refl x y
 
-pub view-own-once : (d : Sheet) (key : Key) (size : ℕ) (r r′ : Paged) → ViewOwnPages d key size r → ViewOwnPages d key size r′ → r ≡ r′
-view-own-once d key size r r′ x y = of-view.own-through-once d d key size r r′ refl x y
+pub view-own-once : (d : Sheet) (key : Key) (size : ℕ) (w : List ℕ) (r r′ : Paged) (t t′ : List ℕ) → ViewOwnPages d key size w r t → ViewOwnPages d key size w r′ t′ → (r ≡ r′) × (t ≡ t′)
+view-own-once d key size w r r′ t t′ x y = of-view.own-through-once d d key size w r r′ t t′ refl x y
 
-pub view-partners-once : (p q : Sheet) (id t : ℕ) (r r′ : Partnered) → ViewPartners p q id t r → ViewPartners p q id t r′ → r ≡ r′
-view-partners-once p q id t r r′ x y = of-view.partners-through-once p p q q id t r r′ refl refl x y
+pub view-partners-once : (p q : Sheet) (id t : ℕ) (w : List ℕ) (r r′ : Partnered) (u u′ : List ℕ) → ViewPartners p q id t w r u → ViewPartners p q id t w r′ u′ → (r ≡ r′) × (u ≡ u′)
+view-partners-once p q id t w r r′ u u′ x y = of-view.partners-through-once p p q q id t w r r′ u u′ refl refl x y
+
+pub view-run-once : (p q : Sheet) (v : ℕ) (slots : List Pair) (w : List ℕ) (r r′ : Run) (t t′ : List Pair) (u u′ : List ℕ) → ViewRuns p q v slots w r t u → ViewRuns p q v slots w r′ t′ u′ → (r ≡ r′) × (t ≡ t′) × (u ≡ u′)
+view-run-once p q v slots w r r′ t t′ u u′ x y = of-view.run-through-once p p q q v slots w r r′ t t′ u u′ refl refl x y
+
+pub view-shortest-once : (p q : Sheet) (k : ℕ) (w : List ℕ) (r r′ : Shortlist) (t t′ : List ℕ) → ViewShortest p q k w r t → ViewShortest p q k w r′ t′ → (r ≡ r′) × (t ≡ t′)
+view-shortest-once p q k w r r′ t t′ x y = of-view.shortest-through-once p p q q k w r r′ t t′ refl refl x y
 
 pub view-nearest-once : (p q : Sheet) (id size : ℕ) (w : List ℕ) (r r′ : Found) (t t′ : List ℕ) → ViewNearest p q id size w r t → ViewNearest p q id size w r′ t′ → (r ≡ r′) × (t ≡ t′)
 view-nearest-once p q id size w r r′ t t′ x y = of-view.nearest-through-once p p q q id size w r r′ t t′ refl refl x y
+
+pub view-near-filter-once : (p q : Sheet) (id : ℕ) (ws w : List ℕ) (r r′ : Filtered) (t t′ u u′ : List ℕ) → ViewNearFilters p q id ws w r t u → ViewNearFilters p q id ws w r′ t′ u′ → (r ≡ r′) × (t ≡ t′) × (u ≡ u′)
+view-near-filter-once p q id ws w r r′ t t′ u u′ x y = of-view.near-filter-through-once p p q q id ws w r r′ t t′ u u′ refl refl x y
 
 pub open-head-once : (w : List ℤ) (r r′ : Head) → OpenHead w r → OpenHead w r′ → r ≡ r′
 open-head-once w r r′ a b = of-ring.ring-head-once w r r′ (a .promised) (b .promised)

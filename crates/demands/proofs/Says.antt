@@ -30,6 +30,7 @@ use Rattle.book.specs.declared.Asked.{Asked}
 use Rattle.book.specs.declared.Taken.{Taken}
 use Rattle.book.proofs.Book.next_key as next-key
 use Rattle.book.proofs.Book.take as book-take
+use Rattle.shortest.specs.declared.Shortlist.{Shortlist}
 use Rattle.nearest.specs.declared.Found.{Found}
 use Rattle.runs.specs.declared.Run.{Run}
 use Rattle.runs.proofs.leaf_run as leaf-run
@@ -40,8 +41,11 @@ use Rattle.view.proofs.ring_walk_at as view-ring
 use Rattle.view.proofs.page_at as view-page
 use Rattle.view.proofs.own_page_at as view-own-page
 use Rattle.view.proofs.partners_at as view-partners
+use Rattle.view.proofs.leaf_run_at as view-run
+use Rattle.view.proofs.shortest_at as view-shortest
 use Rattle.view.proofs.nearest_at as view-nearest
-use Rattle.demands.specs.Promises.{Place, slice, NextAnswers, TakeAnswers, RunAnswers, ViewOpens, ViewPoints, ViewFilters, ViewRings, ViewPages, ViewPartners, ViewOwnPages, ViewNearest}
+use Rattle.view.proofs.near_filter_at as view-near-filter
+use Rattle.demands.specs.Promises.{Place, slice, NextAnswers, TakeAnswers, RunAnswers, ViewOpens, ViewPoints, ViewFilters, ViewRings, ViewPages, ViewPartners, ViewOwnPages, ViewRuns, ViewShortest, ViewNearest, ViewNearFilters}
 
 module _ {M : Type 1} (𝓤 : URA M) (H : Heap 𝓤) (A : Atoms 𝓤) (mem : Memory → SProp 𝓤) (run : Routine → Fun 𝓤) where
   pub next-key-says : (κs : Lfts 1) (l : Place) (b : Book) (s : List Pair) (r : Asked)
@@ -53,10 +57,10 @@ module _ {M : Type 1} (𝓤 : URA M) (H : Heap 𝓤) (A : Atoms 𝓤) (mem : Mem
       ≡ fact 𝓤 (TakeAnswers b s g r s′)
   take-says κs l b s g r s′ = refl
 
-  pub run-says : (κs : Lfts 3) (p-at q-at l : Place) (P Q : List ℤ) (v : ℕ) (s : List Pair) (r : Run) (s′ : List Pair)
-      → leaf-run.ensures-1 𝓤 H κs A mem run (slice p-at P) (slice q-at Q) v (slice l s) (record { entry = slice p-at P; exit = slice p-at P }) (record { entry = slice q-at Q; exit = slice q-at Q }) (record { entry = v; exit = v }) (record { entry = slice l s; exit = slice l s′ }) r
-      ≡ fact 𝓤 (RunAnswers P Q v s r s′)
-  run-says κs p-at q-at l P Q v s r s′ = refl
+  pub run-says : (κs : Lfts 4) (p-at q-at l b-at : Place) (P Q : List ℤ) (v : ℕ) (s : List Pair) (w : List ℕ) (r : Run) (s′ : List Pair) (w′ : List ℕ)
+      → leaf-run.ensures-1 𝓤 H κs A mem run (slice p-at P) (slice q-at Q) v (slice l s) (slice b-at w) (record { entry = slice p-at P; exit = slice p-at P }) (record { entry = slice q-at Q; exit = slice q-at Q }) (record { entry = v; exit = v }) (record { entry = slice l s; exit = slice l s′ }) (record { entry = slice b-at w; exit = slice b-at w′ }) r
+      ≡ fact 𝓤 (RunAnswers P Q v s w r s′ w′)
+  run-says κs p-at q-at l b-at P Q v s w r s′ w′ = refl
 
   pub view-open-says : (κs : Lfts 1) (w : RefT (List ℤ)) (r : Opened)
       → view-open.ensures-1 𝓤 H κs A mem run w (record { entry = w; exit = w }) r ≡ fact 𝓤 (ViewOpens w r)
@@ -66,30 +70,47 @@ module _ {M : Type 1} (𝓤 : URA M) (H : Heap 𝓤) (A : Atoms 𝓤) (mem : Mem
       → view-point.ensures-1 𝓤 H κs A mem run d i (record { entry = d; exit = d }) (record { entry = i; exit = i }) r ≡ fact 𝓤 (ViewPoints d i r)
   view-point-says κs d i r = refl
 
-  pub view-filter-says : (κs : Lfts 2) (p q : Sheet) (j : ℕ) (r : Filtered)
-      → view-filter.ensures-1 𝓤 H κs A mem run p q j (record { entry = p; exit = p }) (record { entry = q; exit = q }) (record { entry = j; exit = j }) r ≡ fact 𝓤 (ViewFilters p q j r)
-  view-filter-says κs p q j r = refl
+  pub view-filter-says : (κs : Lfts 3) (l : Place) (p q : Sheet) (j : ℕ) (w : List ℕ) (r : Filtered) (w′ : List ℕ)
+      → view-filter.ensures-1 𝓤 H κs A mem run p q j (slice l w) (record { entry = p; exit = p }) (record { entry = q; exit = q }) (record { entry = j; exit = j }) (record { entry = slice l w; exit = slice l w′ }) r
+      ≡ fact 𝓤 (ViewFilters p q j w r w′)
+  view-filter-says κs l p q j w r w′ = refl
 
   pub view-ring-says : (κs : Lfts 2) (p q : Sheet) (j i : ℕ) (r : Walked)
       → view-ring.ensures-1 𝓤 H κs A mem run p q j i (record { entry = p; exit = p }) (record { entry = q; exit = q }) (record { entry = j; exit = j }) (record { entry = i; exit = i }) r
       ≡ fact 𝓤 (ViewRings p q j i r)
   view-ring-says κs p q j i r = refl
 
-  pub view-page-says : (κs : Lfts 2) (p q : Sheet) (ask : Request) (r : Paged)
-      → view-page.ensures-1 𝓤 H κs A mem run p q ask (record { entry = p; exit = p }) (record { entry = q; exit = q }) (record { entry = ask; exit = ask }) r
-      ≡ fact 𝓤 (ViewPages p q ask r)
-  view-page-says κs p q ask r = refl
+  pub view-page-says : (κs : Lfts 3) (l : Place) (p q : Sheet) (ask : Request) (w : List ℕ) (r : Paged) (w′ : List ℕ)
+      → view-page.ensures-1 𝓤 H κs A mem run p q ask (slice l w) (record { entry = p; exit = p }) (record { entry = q; exit = q }) (record { entry = ask; exit = ask }) (record { entry = slice l w; exit = slice l w′ }) r
+      ≡ fact 𝓤 (ViewPages p q ask w r w′)
+  view-page-says κs l p q ask w r w′ = refl
 
-  pub view-own-page-says : (κs : Lfts 1) (d : Sheet) (key : Key) (size : ℕ) (r : Paged)
-      → view-own-page.ensures-1 𝓤 H κs A mem run d key size (record { entry = d; exit = d }) (record { entry = key; exit = key }) (record { entry = size; exit = size }) r ≡ fact 𝓤 (ViewOwnPages d key size r)
-  view-own-page-says κs d key size r = refl
+  pub view-own-page-says : (κs : Lfts 2) (l : Place) (d : Sheet) (key : Key) (size : ℕ) (w : List ℕ) (r : Paged) (w′ : List ℕ)
+      → view-own-page.ensures-1 𝓤 H κs A mem run d key size (slice l w) (record { entry = d; exit = d }) (record { entry = key; exit = key }) (record { entry = size; exit = size }) (record { entry = slice l w; exit = slice l w′ }) r
+      ≡ fact 𝓤 (ViewOwnPages d key size w r w′)
+  view-own-page-says κs l d key size w r w′ = refl
 
-  pub view-partners-says : (κs : Lfts 2) (p q : Sheet) (id t : ℕ) (r : Partnered)
-      → view-partners.ensures-1 𝓤 H κs A mem run p q id t (record { entry = p; exit = p }) (record { entry = q; exit = q }) (record { entry = id; exit = id }) (record { entry = t; exit = t }) r
-      ≡ fact 𝓤 (ViewPartners p q id t r)
-  view-partners-says κs p q id t r = refl
+  pub view-partners-says : (κs : Lfts 3) (l : Place) (p q : Sheet) (id t : ℕ) (w : List ℕ) (r : Partnered) (w′ : List ℕ)
+      → view-partners.ensures-1 𝓤 H κs A mem run p q id t (slice l w) (record { entry = p; exit = p }) (record { entry = q; exit = q }) (record { entry = id; exit = id }) (record { entry = t; exit = t }) (record { entry = slice l w; exit = slice l w′ }) r
+      ≡ fact 𝓤 (ViewPartners p q id t w r w′)
+  view-partners-says κs l p q id t w r w′ = refl
+
+  pub view-run-says : (κs : Lfts 4) (l b : Place) (p q : Sheet) (v : ℕ) (s : List Pair) (w : List ℕ) (r : Run) (s′ : List Pair) (w′ : List ℕ)
+      → view-run.ensures-1 𝓤 H κs A mem run p q v (slice l s) (slice b w) (record { entry = p; exit = p }) (record { entry = q; exit = q }) (record { entry = v; exit = v }) (record { entry = slice l s; exit = slice l s′ }) (record { entry = slice b w; exit = slice b w′ }) r
+      ≡ fact 𝓤 (ViewRuns p q v s w r s′ w′)
+  view-run-says κs l b p q v s w r s′ w′ = refl
+
+  pub view-shortest-says : (κs : Lfts 3) (l : Place) (p q : Sheet) (k : ℕ) (w : List ℕ) (r : Shortlist) (w′ : List ℕ)
+      → view-shortest.ensures-1 𝓤 H κs A mem run p q k (slice l w) (record { entry = p; exit = p }) (record { entry = q; exit = q }) (record { entry = k; exit = k }) (record { entry = slice l w; exit = slice l w′ }) r
+      ≡ fact 𝓤 (ViewShortest p q k w r w′)
+  view-shortest-says κs l p q k w r w′ = refl
 
   pub view-nearest-says : (κs : Lfts 3) (l : Place) (p q : Sheet) (id size : ℕ) (w : List ℕ) (r : Found) (w′ : List ℕ)
       → view-nearest.ensures-1 𝓤 H κs A mem run p q id size (slice l w) (record { entry = p; exit = p }) (record { entry = q; exit = q }) (record { entry = id; exit = id }) (record { entry = size; exit = size }) (record { entry = slice l w; exit = slice l w′ }) r
       ≡ fact 𝓤 (ViewNearest p q id size w r w′)
   view-nearest-says κs l p q id size w r w′ = refl
+
+  pub view-near-filter-says : (κs : Lfts 4) (l b : Place) (p q : Sheet) (id : ℕ) (ws w : List ℕ) (r : Filtered) (ws′ w′ : List ℕ)
+      → view-near-filter.ensures-1 𝓤 H κs A mem run p q id (slice l ws) (slice b w) (record { entry = p; exit = p }) (record { entry = q; exit = q }) (record { entry = id; exit = id }) (record { entry = slice l ws; exit = slice l ws′ }) (record { entry = slice b w; exit = slice b w′ }) r
+      ≡ fact 𝓤 (ViewNearFilters p q id ws w r ws′ w′)
+  view-near-filter-says κs l b p q id ws w r ws′ w′ = refl

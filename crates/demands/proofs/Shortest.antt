@@ -1,6 +1,7 @@
 -- Request 14: "For a half day's crew, give in order the k pairs with the smallest squared size, ties by q id and then p id, k from 1 to 16, fewer if the list is shorter."
--- For every two sheets that open and every k from 1 to 16, and in terms of what the shipped call answers for them. `Before v w` of shortest/specs/Order: by squared size, then q id, then p id.
--- `pairsOf P Q` is the list: `ringList` of the points of both sheets, of which Demand2 speaks.
+-- For every two sheets that open, every k from 1 to 16 and as many words lent as the points of P need, and in terms of what the shipped call answers for them.
+-- `Before v w` of shortest/specs/Order: by squared size, then q id, then p id. `pairsOf P Q` is the list: `ringList` of the points of both sheets, of which
+-- Demand2 speaks.
 --
 --     shortest-given     the call is served, and gives k pairs, or all where the list is shorter; unused ones are three zeros
 --     shortest-listed    each is a pair of the list
@@ -15,13 +16,13 @@ use native.Mathlib.Omega.{arith}
 use lib.IntN.{ℤ}
 use lib.ListN.{length, take, drop, getD, replicate, List·getD-append}
 use lib.Seq.{take-append-seam, drop-append-seam}
-use Rattle.sheet.specs.Limits.{form1}
 use Rattle.sheet.specs.Places.{pointsOf}
-use Rattle.sheet.proofs.SheetLaws.{open-facts, form1-fair}
+use Rattle.sheet.proofs.SheetLaws.{sheet-facts}
 use Rattle.list.specs.declared.Pair.{Pair}
 use Rattle.list.specs.Pairs.{start, none}
 use Rattle.list.specs.Pages.{padded}
 use Rattle.list.specs.RingList.{ringList}
+use Rattle.ring.specs.Lent.{need}
 use Rattle.shortest.specs.declared.Shortlist.{Shortlist}
 use Rattle.shortest.specs.Order.{shortestOf, Before}
 use Rattle.shortest.specs.Answer.{pairsOf, shortGiven}
@@ -31,9 +32,9 @@ use Rattle.shortest.proofs.Meaning as of-shortest
 use Rattle.demands.specs.Promises.{ShortAnswers}
 use Rattle.demands.proofs.Demand2.{WellFormed, sheets}
 
-module _ (P Q : List ℤ) (p-opens : WellFormed P) (q-opens : WellFormed Q) (k : ℕ) (some : 1 ≤ k) (most : k ≤ 16) (r : Shortlist) (a : ShortAnswers P Q k r) where
+module _ (P Q : List ℤ) (p-opens : WellFormed P) (q-opens : WellFormed Q) (k : ℕ) (some : 1 ≤ k) (most : k ≤ 16) (ws : List ℕ) (enough : need P ≤ length ws) (r : Shortlist) (ws′ : List ℕ) (a : ShortAnswers P Q k ws r ws′) where
   is : r ≡ shortGiven P Q k
-  is = a .promised ∙ short-answered P Q k (served P Q k (sheets P Q p-opens q-opens) some most)
+  is = a .promised .0 ∙ short-answered P Q k (length ws) (served P Q k (length ws) (sheets P Q p-opens q-opens) some most enough)
 
   -- the pairs given
   abbrev pub given : List Pair
@@ -71,7 +72,7 @@ module _ (P Q : List ℤ) (p-opens : WellFormed P) (q-opens : WellFormed Q) (k :
   -- "in order", "ties by q id and then p id" [H1, H2]
   pub shortest-order : (b c : ℕ) → b < c → c < r .count → Before (getD (r .pairs) b none) (getD (r .pairs) c none)
   shortest-order b c h g =
-      let asc = pairs-ascend (open-facts form1 form1-fair P p-opens) (open-facts form1 form1-fair Q q-opens) in
+      let asc = pairs-ascend (sheet-facts P p-opens) (sheet-facts Q q-opens) in
       rw (at-is b (omega arith), at-is c g) (of-shortest.shorter-before _ _ (of-shortest.shortest-rises k (pairsOf P Q) start asc b c h (omega (arith, count-is))))
 
   -- [H1]
@@ -83,12 +84,12 @@ module _ (P Q : List ℤ) (p-opens : WellFormed P) (q-opens : WellFormed Q) (k :
   shortest-first v w m out n =
       of-shortest.shorter-before w v (of-shortest.shortest-pairs-first k (pairsOf P Q) v w m (λ x. out (subst (List·Memᴰ v) (sym given-are) x)) (subst (List·Memᴰ w) given-are n))
 
--- "It depends on the points alone": whatever the editions and the trees
+-- "It depends on the points alone": whatever the forms, the editions and the trees
 pub shortest-by-points : (P P′ Q Q′ : List ℤ) → WellFormed P → WellFormed P′ → WellFormed Q → WellFormed Q′ → (k : ℕ) → 1 ≤ k → k ≤ 16 → pointsOf P ≡ pointsOf P′ → pointsOf Q ≡ pointsOf Q′
-    → (r r′ : Shortlist) → ShortAnswers P Q k r → ShortAnswers P′ Q′ k r′ → r ≡ r′
+    → (ws vs : List ℕ) → need P ≤ length ws → need P′ ≤ length vs → (r r′ : Shortlist) (ws′ vs′ : List ℕ) → ShortAnswers P Q k ws r ws′ → ShortAnswers P′ Q′ k vs r′ vs′ → r ≡ r′
 unfolding shortGiven
-shortest-by-points P P′ Q Q′ p p′ q q′ k some most ep eq r r′ a a′ =
+shortest-by-points P P′ Q Q′ p p′ q q′ k some most ep eq ws vs enough enough′ r r′ ws′ vs′ a a′ =
     let same : shortestOf k (pairsOf P Q) ≡ shortestOf k (pairsOf P′ Q′) = λ t. shortestOf k (ringList (ep t) (eq t)) in
-    is P Q p q k some most r a
+    is P Q p q k some most ws enough r ws′ a
     ∙ (λ t. record { number = 0; count = length (same t); pairs = padded (same t) })
-    ∙ sym (is P′ Q′ p′ q′ k some most r′ a′)
+    ∙ sym (is P′ Q′ p′ q′ k some most vs enough′ r′ vs′ a′)

@@ -39,7 +39,10 @@ use Rattle.view.proofs.ring_walk_at as view-ring
 use Rattle.view.proofs.page_at as view-page
 use Rattle.view.proofs.own_page_at as view-own-page
 use Rattle.view.proofs.partners_at as view-partners
+use Rattle.view.proofs.leaf_run_at as view-run
+use Rattle.view.proofs.shortest_at as view-shortest
 use Rattle.view.proofs.nearest_at as view-nearest
+use Rattle.view.proofs.near_filter_at as view-near-filter
 
 pub open-no-takes : (κs : Lfts 1) (a : _) → open-no.Asked κs a
 open-no-takes κs a = tt
@@ -50,28 +53,28 @@ head-of-takes κs a = tt
 pub point-takes : (κs : Lfts 1) (a : _) → point.Asked κs a
 point-takes κs a = tt
 
-pub filter-walk-takes : (κs : Lfts 2) (a : _) → filter-walk.Asked κs a
+pub filter-walk-takes : (κs : Lfts 3) (a : _) → filter-walk.Asked κs a
 filter-walk-takes κs a = tt
 
 pub ring-walk-takes : (κs : Lfts 2) (a : _) → ring-walk.Asked κs a
 ring-walk-takes κs a = tt
 
-pub page-takes : (κs : Lfts 2) (a : _) → page.Asked κs a
+pub page-takes : (κs : Lfts 3) (a : _) → page.Asked κs a
 page-takes κs a = tt
 
-pub shortest-takes : (κs : Lfts 2) (a : _) → shortest.Asked κs a
+pub shortest-takes : (κs : Lfts 3) (a : _) → shortest.Asked κs a
 shortest-takes κs a = tt
 
-pub own-page-takes : (κs : Lfts 1) (a : _) → own-page.Asked κs a
+pub own-page-takes : (κs : Lfts 2) (a : _) → own-page.Asked κs a
 own-page-takes κs a = tt
 
-pub partners-takes : (κs : Lfts 2) (a : _) → partners.Asked κs a
+pub partners-takes : (κs : Lfts 3) (a : _) → partners.Asked κs a
 partners-takes κs a = tt
 
 pub nearest-takes : (κs : Lfts 3) (a : _) → nearest.Asked κs a
 nearest-takes κs a = tt
 
-pub near-filter-takes : (κs : Lfts 3) (a : _) → near-filter.Asked κs a
+pub near-filter-takes : (κs : Lfts 4) (a : _) → near-filter.Asked κs a
 near-filter-takes κs a = tt
 
 pub pack-takes : (κs : Lfts 3) (a : _) → pack.Asked κs a
@@ -89,7 +92,7 @@ next-array-takes κs a = tt
 pub take-array-takes : (κs : Lfts 0) (a : _) → take-array.Asked κs a
 take-array-takes κs a = tt
 
-pub run-array-takes : (κs : Lfts 2) (a : _) → run-array.Asked κs a
+pub run-array-takes : (κs : Lfts 3) (a : _) → run-array.Asked κs a
 run-array-takes κs a = tt
 
 pub open-head-takes : (κs : Lfts 1) (a : _) → open-head.Asked κs a
@@ -105,7 +108,7 @@ module _ {M : Type 1} (𝓤 : URA M) (H : Heap 𝓤) (A : Atoms 𝓤) (mem : Mem
   pub take-takes : (κs : Lfts 1) (a : _) → take.clauses 𝓤 H A mem run κs a .requires tt ≡ emp 𝓤
   take-takes κs a = refl
 
-  pub leaf-run-takes : (κs : Lfts 3) (a : _) → leaf-run.clauses 𝓤 H A mem run κs a .requires tt ≡ emp 𝓤
+  pub leaf-run-takes : (κs : Lfts 4) (a : _) → leaf-run.clauses 𝓤 H A mem run κs a .requires tt ≡ emp 𝓤
   leaf-run-takes κs a = refl
 
   pub view-open-takes : (κs : Lfts 1) (a : _) → view-open.clauses 𝓤 H A mem run κs a .requires tt ≡ emp 𝓤
@@ -114,20 +117,29 @@ module _ {M : Type 1} (𝓤 : URA M) (H : Heap 𝓤) (A : Atoms 𝓤) (mem : Mem
   pub view-point-takes : (κs : Lfts 1) (a : _) → view-point.clauses 𝓤 H A mem run κs a .requires tt ≡ emp 𝓤
   view-point-takes κs a = refl
 
-  pub view-filter-takes : (κs : Lfts 2) (a : _) → view-filter.clauses 𝓤 H A mem run κs a .requires tt ≡ emp 𝓤
+  pub view-filter-takes : (κs : Lfts 3) (a : _) → view-filter.clauses 𝓤 H A mem run κs a .requires tt ≡ emp 𝓤
   view-filter-takes κs a = refl
 
   pub view-ring-takes : (κs : Lfts 2) (a : _) → view-ring.clauses 𝓤 H A mem run κs a .requires tt ≡ emp 𝓤
   view-ring-takes κs a = refl
 
-  pub view-page-takes : (κs : Lfts 2) (a : _) → view-page.clauses 𝓤 H A mem run κs a .requires tt ≡ emp 𝓤
+  pub view-page-takes : (κs : Lfts 3) (a : _) → view-page.clauses 𝓤 H A mem run κs a .requires tt ≡ emp 𝓤
   view-page-takes κs a = refl
 
-  pub view-own-page-takes : (κs : Lfts 1) (a : _) → view-own-page.clauses 𝓤 H A mem run κs a .requires tt ≡ emp 𝓤
+  pub view-own-page-takes : (κs : Lfts 2) (a : _) → view-own-page.clauses 𝓤 H A mem run κs a .requires tt ≡ emp 𝓤
   view-own-page-takes κs a = refl
 
-  pub view-partners-takes : (κs : Lfts 2) (a : _) → view-partners.clauses 𝓤 H A mem run κs a .requires tt ≡ emp 𝓤
+  pub view-partners-takes : (κs : Lfts 3) (a : _) → view-partners.clauses 𝓤 H A mem run κs a .requires tt ≡ emp 𝓤
   view-partners-takes κs a = refl
 
   pub view-nearest-takes : (κs : Lfts 3) (a : _) → view-nearest.clauses 𝓤 H A mem run κs a .requires tt ≡ emp 𝓤
   view-nearest-takes κs a = refl
+
+  pub view-run-takes : (κs : Lfts 4) (a : _) → view-run.clauses 𝓤 H A mem run κs a .requires tt ≡ emp 𝓤
+  view-run-takes κs a = refl
+
+  pub view-shortest-takes : (κs : Lfts 3) (a : _) → view-shortest.clauses 𝓤 H A mem run κs a .requires tt ≡ emp 𝓤
+  view-shortest-takes κs a = refl
+
+  pub view-near-filter-takes : (κs : Lfts 4) (a : _) → view-near-filter.clauses 𝓤 H A mem run κs a .requires tt ≡ emp 𝓤
+  view-near-filter-takes κs a = refl

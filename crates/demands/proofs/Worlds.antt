@@ -11,14 +11,14 @@ use lib.ListN.{length, take, replicate}
 use Rattle.words.specs.Word.{eqZ, within, before, num, isBelow, minZ, maxZ}
 use Rattle.words.specs.Range.{idWord, editionWord, coordWord, editionOk}
 use Rattle.words.specs.All.{allB, tab}
-use Rattle.sheet.specs.Limits.{form1}
+use Rattle.sheet.specs.Limits.{form1, limitsOf}
 use Rattle.words.specs.First.{given, first, answer}
 use Rattle.sheet.specs.Layout.{rootWord, countsOk, layoutOk, trailerNo}
 use Rattle.sheet.specs.Points.{fieldsOk, risesOk, pointOk, pointsOk}
 use Rattle.sheet.specs.Order.{orderOf, rankOf, placeOk, orderOk}
 use Rattle.sheet.specs.Nodes.{levelOf, firstOf, countOf, sameLevel, dueNext, dueOf, runOk, isLast, endOk, nodeRule, nodeOk, tableOk, nodesOk}
 use Rattle.sheet.specs.Boxes.{sideOf, coordOf, better, best, tightSide, tightOk}
-use Rattle.sheet.specs.Open.{bodyNo, openNo}
+use Rattle.sheet.specs.Open.{bodyNo, openNo, sheetNo}
 use Rattle.plane.specs.Rule.{sameSpot, blocks}
 use Rattle.sheet.specs.Places.{spotOf, pointsOf}
 use Rattle.list.specs.declared.Pair.{Pair}
@@ -41,8 +41,8 @@ use Rattle.demands.proofs.Demand3.{goes-on, closed-all, can-close}
 unfoldable pub emptySheet : List ℤ
 emptySheet = pos 0 ∷ pos 0 ∷ pos 0 ∷ pos 0 ∷ pos 1 ∷ pos 1 ∷ []
 
-pub empty-opens : openNo form1 emptySheet ≡ 0
-unfolding form1 editionWord eqZ within num allB rootWord countsOk layoutOk trailerNo pointsOk orderOk tableOk nodesOk tightOk given first bodyNo openNo emptySheet
+pub empty-opens : sheetNo emptySheet ≡ 0
+unfolding limitsOf form1 editionWord eqZ within num allB rootWord countsOk layoutOk trailerNo pointsOk orderOk tableOk nodesOk tightOk given first bodyNo openNo emptySheet
 empty-opens = refl
 
 pub emptyWorld : Editions
@@ -56,12 +56,12 @@ documentP = pos 1 ∷ pos 0 ∷ pos 0 ∷ pos 2 ∷ pos 10 ∷ pos 0 ∷ pos 0 �
 unfoldable pub documentQ : List ℤ
 documentQ = pos 5 ∷ pos 4 ∷ pos 0 ∷ pos 6 ∷ pos 16 ∷ pos 1 ∷ pos 0 ∷ pos 1 ∷ pos 0 ∷ pos 1 ∷ pos 0 ∷ pos 0 ∷ pos 2 ∷ pos 4 ∷ pos 0 ∷ pos 16 ∷ pos 1 ∷ pos 17 ∷ pos 7 ∷ pos 2 ∷ pos 1 ∷ pos 9 ∷ pos 1 ∷ []
 
-pub p-opens : openNo form1 documentP ≡ 0
-unfolding form1 idWord editionWord coordWord eqZ within before num isBelow minZ maxZ allB rootWord countsOk layoutOk trailerNo fieldsOk risesOk pointOk pointsOk orderOf rankOf placeOk orderOk levelOf firstOf countOf sameLevel dueNext dueOf runOk isLast endOk nodeRule nodeOk tableOk nodesOk sideOf coordOf better best tightSide tightOk given first bodyNo openNo documentP
+pub p-opens : sheetNo documentP ≡ 0
+unfolding limitsOf form1 idWord editionWord coordWord eqZ within before num isBelow minZ maxZ allB rootWord countsOk layoutOk trailerNo fieldsOk risesOk pointOk pointsOk orderOf rankOf placeOk orderOk levelOf firstOf countOf sameLevel dueNext dueOf runOk isLast endOk nodeRule nodeOk tableOk nodesOk sideOf coordOf better best tightSide tightOk given first bodyNo openNo documentP
 p-opens = refl
 
-pub q-opens : openNo form1 documentQ ≡ 0
-unfolding form1 idWord editionWord coordWord eqZ within before num isBelow minZ maxZ allB rootWord countsOk layoutOk trailerNo fieldsOk risesOk pointOk pointsOk orderOf rankOf placeOk orderOk levelOf firstOf countOf sameLevel dueNext dueOf runOk isLast endOk nodeRule nodeOk tableOk nodesOk sideOf coordOf better best tightSide tightOk given first bodyNo openNo documentQ
+pub q-opens : sheetNo documentQ ≡ 0
+unfolding limitsOf form1 idWord editionWord coordWord eqZ within before num isBelow minZ maxZ allB rootWord countsOk layoutOk trailerNo fieldsOk risesOk pointOk pointsOk orderOf rankOf placeOk orderOk levelOf firstOf countOf sameLevel dueNext dueOf runOk isLast endOk nodeRule nodeOk tableOk nodesOk sideOf coordOf better best tightSide tightOk given first bodyNo openNo documentQ
 q-opens = refl
 
 -- every edition number has these; a book is begun for 7 and 9
@@ -88,7 +88,7 @@ source-is : sourceOf documentP documentQ full ≡ documentSource
 unfolding sourceOf num documentP documentQ
 source-is = refl
 
--- A book that is begun for editions 7 and 9, with a slot for each pair, can ask and take until it is closed, and then it holds the document's three pairs.
+-- A book that is begun for editions 7 and 9, with a slot for each pair, can ask and take until it is closed, and then it holds the document's three pairs. [D6, D9]
 pub document-closed : (b : Book) × (s : List Pair) × History documentWorld b s × (b .closed ≡ true) × (b .held ≡ 3) × (take 3 s ≡ threePairs)
 unfolding begunBook documentWorld
 document-closed =

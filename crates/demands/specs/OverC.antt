@@ -1,5 +1,5 @@
 -- What the calls over C promise, under one name for each, as specs/Promises has it for the others. Of an answer that is an enum, ffi/specs/Over makes the struct of numbers
--- that crosses.
+-- that crosses; of a check it makes one with the sheet's edition and form.
 use mathlib.Core.Path.{_≡_}
 use mathlib.Core.List.{List}
 use Prim.Native.Nat.{ℕ}
@@ -9,7 +9,6 @@ use Rattle.list.specs.declared.Key.{Key}
 use Rattle.list.specs.declared.Pair.{Pair}
 use Rattle.list.specs.declared.Request.{Request}
 use Rattle.list.specs.declared.Source.{Source}
-use Rattle.ring.specs.declared.Head.{Head}
 use Rattle.ring.specs.declared.Filtered.{Filtered}
 use Rattle.ring.specs.declared.Paged.{Paged}
 use Rattle.shortest.specs.declared.Shortlist.{Shortlist}
@@ -17,6 +16,7 @@ use Rattle.ring.specs.declared.Partnered.{Partnered}
 use Rattle.nearest.specs.declared.Found.{Found}
 use Rattle.book.specs.declared.Book.{Book}
 use Rattle.book.specs.Rules.{asked}
+use Rattle.ffi.specs.declared.HeadAnswer.{HeadAnswer}
 use Rattle.ffi.specs.declared.PointAnswer.{PointAnswer}
 use Rattle.ffi.specs.declared.WalkAnswer.{WalkAnswer}
 use Rattle.ffi.specs.declared.BookAnswer.{BookAnswer}
@@ -39,21 +39,21 @@ use Rattle.ffi.proofs.ring_marker.Reads as mark-c
 use Rattle.demands.specs.Promises.{Place, slice}
 
 -- `ring_open(w)` answers h [C1, D8]
-pub record OpenC (w : List ℤ) (h : Head) : Type 0 where
+pub record OpenC (w : List ℤ) (h : HeadAnswer) : Type 0 where
   pub κs : Lfts 1
   pub w-at : Place
   pub promised : open-c.Post κs (slice w-at w, tt) h (slice w-at w, tt)
 
--- `ring_pack(n, points, order, edition, out)` answers r, and the words of `out` are `out′` at its exit [C1, D8]
-pub record PackC (n : ℕ) (points order : List ℤ) (edition : ℕ) (out : List ℤ) (r : ℕ) (out′ : List ℤ) : Type 0 where
+-- `ring_pack(form, n, points, order, edition, out)` answers r, and the words of `out` are `out′` at its exit [C1, D8]
+pub record PackC (form n : ℕ) (points order : List ℤ) (edition : ℕ) (out : List ℤ) (r : ℕ) (out′ : List ℤ) : Type 0 where
   pub κs : Lfts 3
   pub p-at : Place
   pub o-at : Place
   pub out-at : Place
   pub promised : pack-c.Post κs
-      (n, (slice p-at points, (slice o-at order, (edition, (slice out-at out, tt)))))
+      (form, (n, (slice p-at points, (slice o-at order, (edition, (slice out-at out, tt))))))
       r
-      (n, (slice p-at points, (slice o-at order, (edition, (slice out-at out′, tt)))))
+      (form, (n, (slice p-at points, (slice o-at order, (edition, (slice out-at out′, tt))))))
 
 -- `ring_point(w, position)` answers r [C1, D8]
 pub record PointC (w : List ℤ) (position : ℕ) (r : PointAnswer) : Type 0 where
@@ -61,12 +61,13 @@ pub record PointC (w : List ℤ) (position : ℕ) (r : PointAnswer) : Type 0 whe
   pub w-at : Place
   pub promised : point-c.Post κs (slice w-at w, (position, tt)) r (slice w-at w, (position, tt))
 
--- `ring_filter_walk(P, Q, j)` answers r [C1, D8]
-pub record FilterC (P Q : List ℤ) (j : ℕ) (r : Filtered) : Type 0 where
-  pub κs : Lfts 2
+-- `ring_filter_walk(P, Q, j, bits)` answers r, and the lent words are `bits′` at its exit [C1, D8]
+pub record FilterC (P Q : List ℤ) (j : ℕ) (bits : List ℕ) (r : Filtered) (bits′ : List ℕ) : Type 0 where
+  pub κs : Lfts 3
   pub p-at : Place
   pub q-at : Place
-  pub promised : filter-c.Post κs (slice p-at P, (slice q-at Q, (j, tt))) r (slice p-at P, (slice q-at Q, (j, tt)))
+  pub b-at : Place
+  pub promised : filter-c.Post κs (slice p-at P, (slice q-at Q, (j, (slice b-at bits, tt)))) r (slice p-at P, (slice q-at Q, (j, (slice b-at bits′, tt))))
 
 -- `ring_pair_walk(P, Q, j, i)` answers r [C1, D8]
 pub record WalkC (P Q : List ℤ) (j i : ℕ) (r : WalkAnswer) : Type 0 where
@@ -75,32 +76,39 @@ pub record WalkC (P Q : List ℤ) (j i : ℕ) (r : WalkAnswer) : Type 0 where
   pub q-at : Place
   pub promised : walk-c.Post κs (slice p-at P, (slice q-at Q, (j, (i, tt)))) r (slice p-at P, (slice q-at Q, (j, (i, tt))))
 
--- `ring_page(P, Q, ask)` answers r [C1, D8]
-pub record PageC (P Q : List ℤ) (ask : Request) (r : Paged) : Type 0 where
-  pub κs : Lfts 2
+-- `ring_page(P, Q, ask, bits)` answers r, and the lent words are `bits′` at its exit [C1, D8]
+pub record PageC (P Q : List ℤ) (ask : Request) (bits : List ℕ) (r : Paged) (bits′ : List ℕ) : Type 0 where
+  pub κs : Lfts 3
   pub p-at : Place
   pub q-at : Place
-  pub promised : page-c.Post κs (slice p-at P, (slice q-at Q, (ask, tt))) r (slice p-at P, (slice q-at Q, (ask, tt)))
+  pub b-at : Place
+  pub promised : page-c.Post κs (slice p-at P, (slice q-at Q, (ask, (slice b-at bits, tt)))) r (slice p-at P, (slice q-at Q, (ask, (slice b-at bits′, tt))))
 
--- `ring_own_page(S, key, size)` answers r [C1, D8]
-pub record OwnC (S : List ℤ) (key : Key) (size : ℕ) (r : Paged) : Type 0 where
-  pub κs : Lfts 1
+-- `ring_own_page(S, key, size, bits)` answers r, and the lent words are `bits′` at its exit [C1, D8]
+pub record OwnC (S : List ℤ) (key : Key) (size : ℕ) (bits : List ℕ) (r : Paged) (bits′ : List ℕ) : Type 0 where
+  pub κs : Lfts 2
   pub w-at : Place
-  pub promised : own-c.Post κs (slice w-at S, (key, (size, tt))) r (slice w-at S, (key, (size, tt)))
+  pub b-at : Place
+  pub promised : own-c.Post κs (slice w-at S, (key, (size, (slice b-at bits, tt)))) r (slice w-at S, (key, (size, (slice b-at bits′, tt))))
 
--- `ring_partners(P, Q, id, t)` answers r [C1, D8]
-pub record PartnersC (P Q : List ℤ) (id t : ℕ) (r : Partnered) : Type 0 where
-  pub κs : Lfts 2
+-- `ring_partners(P, Q, id, t, bits)` answers r, and the lent words are `bits′` at its exit [C1, D8]
+pub record PartnersC (P Q : List ℤ) (id t : ℕ) (bits : List ℕ) (r : Partnered) (bits′ : List ℕ) : Type 0 where
+  pub κs : Lfts 3
   pub p-at : Place
   pub q-at : Place
-  pub promised : partners-c.Post κs (slice p-at P, (slice q-at Q, (id, (t, tt)))) r (slice p-at P, (slice q-at Q, (id, (t, tt))))
+  pub b-at : Place
+  pub promised : partners-c.Post κs
+      (slice p-at P, (slice q-at Q, (id, (t, (slice b-at bits, tt)))))
+      r
+      (slice p-at P, (slice q-at Q, (id, (t, (slice b-at bits′, tt)))))
 
--- `ring_shortest(P, Q, k)` answers r [C1, D8]
-pub record ShortC (P Q : List ℤ) (k : ℕ) (r : Shortlist) : Type 0 where
-  pub κs : Lfts 2
+-- `ring_shortest(P, Q, k, bits)` answers r, and the lent words are `bits′` at its exit [C1, D8]
+pub record ShortC (P Q : List ℤ) (k : ℕ) (bits : List ℕ) (r : Shortlist) (bits′ : List ℕ) : Type 0 where
+  pub κs : Lfts 3
   pub p-at : Place
   pub q-at : Place
-  pub promised : shortest-c.Post κs (slice p-at P, (slice q-at Q, (k, tt))) r (slice p-at P, (slice q-at Q, (k, tt)))
+  pub b-at : Place
+  pub promised : shortest-c.Post κs (slice p-at P, (slice q-at Q, (k, (slice b-at bits, tt)))) r (slice p-at P, (slice q-at Q, (k, (slice b-at bits′, tt))))
 
 -- `ring_nearest(P, Q, id, size, waiting)` answers r, and the lent numbers are `waiting′` at its exit [C1, D8]
 pub record NearestC (P Q : List ℤ) (id size : ℕ) (waiting : List ℕ) (r : Found) (waiting′ : List ℕ) : Type 0 where
@@ -113,16 +121,17 @@ pub record NearestC (P Q : List ℤ) (id size : ℕ) (waiting : List ℕ) (r : F
       r
       (slice p-at P, (slice q-at Q, (id, (size, (slice w-at waiting′, tt)))))
 
--- `ring_near_filter(P, Q, id, waiting)` answers r, and the lent numbers are `waiting′` at its exit [C1, D8]
-pub record NearFilterC (P Q : List ℤ) (id : ℕ) (waiting : List ℕ) (r : Filtered) (waiting′ : List ℕ) : Type 0 where
-  pub κs : Lfts 3
+-- `ring_near_filter(P, Q, id, waiting, bits)` answers r, and at its exit the lent numbers are `waiting′`, the lent words `bits′` [C1, D8]
+pub record NearFilterC (P Q : List ℤ) (id : ℕ) (waiting bits : List ℕ) (r : Filtered) (waiting′ bits′ : List ℕ) : Type 0 where
+  pub κs : Lfts 4
   pub p-at : Place
   pub q-at : Place
   pub w-at : Place
+  pub b-at : Place
   pub promised : near-filter-c.Post κs
-      (slice p-at P, (slice q-at Q, (id, (slice w-at waiting, tt))))
+      (slice p-at P, (slice q-at Q, (id, (slice w-at waiting, (slice b-at bits, tt)))))
       r
-      (slice p-at P, (slice q-at Q, (id, (slice w-at waiting′, tt))))
+      (slice p-at P, (slice q-at Q, (id, (slice w-at waiting′, (slice b-at bits′, tt)))))
 
 -- `ring_book_begin(source)` answers r [C1, D8]
 pub record BeginC (source : Source) (r : BookAnswer) : Type 0 where

@@ -1,9 +1,9 @@
--- What the shipped calls promise, under one name for each call: `PageAnswers P Q ask r` says that r is an answer which the `ensures` of the page request
--- admits, where the words P and Q, the key, the size and the threshold t are handed in. The theorems of this crate start from these, so whoever weakens an `ensures` breaks them.
+-- What the shipped calls promise, under one name for each call: `PageAnswers P Q ask bits r bits′` says that r is an answer which the `ensures` of the page request
+-- admits, where the words P and Q and the request are handed in and the words `bits` are lent, which are `bits′` at its exit. The theorems of this crate start from these, so whoever weakens an `ensures` breaks them.
 --
 -- `Post` of a call is its `ensures`, read as a plain claim: of the lifetimes κs of what is lent, the arguments, the answer, and the arguments at exit.
 -- Words and slots that are lent are lists that stand at some place of memory, and no promise depends on the place.
--- The calls over slices of records (`Book::next_key`, `Book::take`, `runs::leaf_run`) and over views (`view::open`, `point_at`, `filter_walk_at`, `ring_walk_at`, `page_at`, `own_page_at`, `partners_at`, `nearest_at`) have no such reading.
+-- The calls over slices of records (`Book::next_key`, `Book::take`, `runs::leaf_run`) and over views (`view::open` and its readers) have no such reading.
 -- Theirs is stated here, and proofs/Says shows that it is their `ensures`, word for word.
 use mathlib.Core.Path.{_≡_}
 use mathlib.Core.Bool.{Bool, true, false}
@@ -21,10 +21,10 @@ use Rattle.list.specs.declared.Source.{Source}
 use Rattle.list.specs.declared.Terms.{Terms}
 use Rattle.list.specs.Terms.{requestOf}
 use Rattle.list.specs.declared.Page.{Page}
-use Rattle.ring.specs.Answers.{pointed, filtered, walked}
-use Rattle.ring.specs.Page.{pageAnswer}
-use Rattle.ring.specs.Own.{ownAnswer}
-use Rattle.ring.specs.Partners.{partnersAnswer}
+use Rattle.ring.specs.Answers.{pointed, filtered, filteredBits, walked}
+use Rattle.ring.specs.Page.{pageAnswer, pageBits}
+use Rattle.ring.specs.Own.{ownAnswer, ownBits}
+use Rattle.ring.specs.Partners.{partnersAnswer, partnersBits}
 use Rattle.ring.specs.declared.Head.{Head}
 use Rattle.ring.specs.declared.Pointed.{Pointed}
 use Rattle.ring.specs.declared.Filtered.{Filtered}
@@ -42,11 +42,12 @@ use Rattle.book.specs.declared.TakenArray.{TakenArray}
 use Rattle.book.specs.Rules.{asked, taken, takenSlots}
 use Rattle.marker.specs.declared.Marked.{Marked}
 use Rattle.shortest.specs.declared.Shortlist.{Shortlist}
+use Rattle.shortest.specs.Answer.{shortAnswer, shortBits}
 use Rattle.nearest.specs.declared.Found.{Found}
-use Rattle.nearest.specs.Nearest.{nearestNo, nearestAnswer, waitedBy}
+use Rattle.nearest.specs.Nearest.{nearestNo, nearestAnswer, nearFilterNo, nearFiltered, nearFilteredBits, waitedBy}
 use Rattle.runs.specs.declared.Run.{Run}
 use Rattle.runs.specs.declared.RunArray.{RunArray}
-use Rattle.runs.specs.Run.{runAnswer, runSlots}
+use Rattle.runs.specs.Run.{runAnswer, runSlots, runBits}
 use Rattle.ring.proofs.open.open_no.Reads as open-no
 use Rattle.ring.proofs.open.head_of.Reads as head-of
 use Rattle.ring.proofs.point.point.Reads as point
@@ -96,12 +97,16 @@ pub record PointAnswers (w : List ℤ) (position : ℕ) (r : Pointed) : Type 0 w
   pub w-at : Place
   pub promised : point.Post κs (slice w-at w, (position, tt)) r (slice w-at w, (position, tt))
 
--- `ring::filter::filter_walk(P, Q, j)` answers r [B1, D1, D7, D8]
-pub record FilterAnswers (P Q : List ℤ) (j : ℕ) (r : Filtered) : Type 0 where
-  pub κs : Lfts 2
+-- `ring::filter::filter_walk(P, Q, j, bits)` answers r, and the lent words are `bits′` at its exit [B1, D1, D7, D8]
+pub record FilterAnswers (P Q : List ℤ) (j : ℕ) (bits : List ℕ) (r : Filtered) (bits′ : List ℕ) : Type 0 where
+  pub κs : Lfts 3
   pub p-at : Place
   pub q-at : Place
-  pub promised : filter-walk.Post κs (slice p-at P, (slice q-at Q, (j, tt))) r (slice p-at P, (slice q-at Q, (j, tt)))
+  pub b-at : Place
+  pub promised : filter-walk.Post κs
+      (slice p-at P, (slice q-at Q, (j, (slice b-at bits, tt))))
+      r
+      (slice p-at P, (slice q-at Q, (j, (slice b-at bits′, tt))))
 
 -- `ring::ringwalk::ring_walk(P, Q, j, i)` answers r [B1, D1, D7, D8]
 pub record RingAnswers (P Q : List ℤ) (j i : ℕ) (r : Walked) : Type 0 where
@@ -110,42 +115,49 @@ pub record RingAnswers (P Q : List ℤ) (j i : ℕ) (r : Walked) : Type 0 where
   pub q-at : Place
   pub promised : ring-walk.Post κs (slice p-at P, (slice q-at Q, (j, (i, tt)))) r (slice p-at P, (slice q-at Q, (j, (i, tt))))
 
--- `ring::page::page(P, Q, ask)` answers r [B1, D1, D7, D8]
-pub record PageAnswers (P Q : List ℤ) (ask : Request) (r : Paged) : Type 0 where
-  pub κs : Lfts 2
+-- `ring::page::page(P, Q, ask, bits)` answers r, and the lent words are `bits′` at its exit [B1, D1, D7, D8]
+pub record PageAnswers (P Q : List ℤ) (ask : Request) (bits : List ℕ) (r : Paged) (bits′ : List ℕ) : Type 0 where
+  pub κs : Lfts 3
   pub p-at : Place
   pub q-at : Place
-  pub promised : page.Post κs (slice p-at P, (slice q-at Q, (ask, tt))) r (slice p-at P, (slice q-at Q, (ask, tt)))
+  pub b-at : Place
+  pub promised : page.Post κs (slice p-at P, (slice q-at Q, (ask, (slice b-at bits, tt)))) r (slice p-at P, (slice q-at Q, (ask, (slice b-at bits′, tt))))
 
--- `ring::own::own_page(S, key, size)` answers r [D8]
-pub record OwnAnswers (S : List ℤ) (key : Key) (size : ℕ) (r : Paged) : Type 0 where
-  pub κs : Lfts 1
+-- `ring::own::own_page(S, key, size, bits)` answers r, and the lent words are `bits′` at its exit [D8]
+pub record OwnAnswers (S : List ℤ) (key : Key) (size : ℕ) (bits : List ℕ) (r : Paged) (bits′ : List ℕ) : Type 0 where
+  pub κs : Lfts 2
   pub w-at : Place
-  pub promised : own-page.Post κs (slice w-at S, (key, (size, tt))) r (slice w-at S, (key, (size, tt)))
+  pub b-at : Place
+  pub promised : own-page.Post κs (slice w-at S, (key, (size, (slice b-at bits, tt)))) r (slice w-at S, (key, (size, (slice b-at bits′, tt))))
 
--- An answer of the page request of these terms: of two sheets, or of a self join, which is of the one sheet in both places and has no t.
-abbrev pub OfKind : Bool → Terms → List ℤ → List ℤ → Key → ℕ → Paged → Type 0
-OfKind false a P Q key size r = PageAnswers P Q (requestOf a key size) r
-OfKind true a P Q key size r = (P ≡ Q) × (a .threshold ≡ 0) × OwnAnswers P key size r
+-- An answer of the page request of these terms, for these lent words: of two sheets, or of a self join, which is of the one sheet in both places and has no t.
+abbrev pub OfKind : Bool → Terms → List ℤ → List ℤ → Key → ℕ → List ℕ → Paged → List ℕ → Type 0
+OfKind false a P Q key size bits r bits′ = PageAnswers P Q (requestOf a key size) bits r bits′
+OfKind true a P Q key size bits r bits′ = (P ≡ Q) × (a .threshold ≡ 0) × OwnAnswers P key size bits r bits′
 
-abbrev pub TermsAnswers : Terms → List ℤ → List ℤ → Key → ℕ → Paged → Type 0
-TermsAnswers a P Q key size r = OfKind (a .own) a P Q key size r
+abbrev pub TermsAnswers : Terms → List ℤ → List ℤ → Key → ℕ → List ℕ → Paged → List ℕ → Type 0
+TermsAnswers a P Q key size bits r bits′ = OfKind (a .own) a P Q key size bits r bits′
 
--- `ring::partners::partners(P, Q, id, t)` answers r [D8]
-pub record PartnersAnswers (P Q : List ℤ) (id t : ℕ) (r : Partnered) : Type 0 where
-  pub κs : Lfts 2
+-- `ring::partners::partners(P, Q, id, t, bits)` answers r, and the lent words are `bits′` at its exit [D8]
+pub record PartnersAnswers (P Q : List ℤ) (id t : ℕ) (bits : List ℕ) (r : Partnered) (bits′ : List ℕ) : Type 0 where
+  pub κs : Lfts 3
   pub p-at : Place
   pub q-at : Place
-  pub promised : partners.Post κs (slice p-at P, (slice q-at Q, (id, (t, tt)))) r (slice p-at P, (slice q-at Q, (id, (t, tt))))
+  pub b-at : Place
+  pub promised : partners.Post κs
+      (slice p-at P, (slice q-at Q, (id, (t, (slice b-at bits, tt)))))
+      r
+      (slice p-at P, (slice q-at Q, (id, (t, (slice b-at bits′, tt)))))
 
 -- ---- the shortest circles
 
--- `shortest::shortest(P, Q, k)` answers r [D8]
-pub record ShortAnswers (P Q : List ℤ) (k : ℕ) (r : Shortlist) : Type 0 where
-  pub κs : Lfts 2
+-- `shortest::shortest(P, Q, k, bits)` answers r, and the lent words are `bits′` at its exit [D8]
+pub record ShortAnswers (P Q : List ℤ) (k : ℕ) (bits : List ℕ) (r : Shortlist) (bits′ : List ℕ) : Type 0 where
+  pub κs : Lfts 3
   pub p-at : Place
   pub q-at : Place
-  pub promised : shortest.Post κs (slice p-at P, (slice q-at Q, (k, tt))) r (slice p-at P, (slice q-at Q, (k, tt)))
+  pub b-at : Place
+  pub promised : shortest.Post κs (slice p-at P, (slice q-at Q, (k, (slice b-at bits, tt)))) r (slice p-at P, (slice q-at Q, (k, (slice b-at bits′, tt))))
 
 -- ---- nearest first
 
@@ -160,29 +172,30 @@ pub record NearestAnswers (P Q : List ℤ) (id size : ℕ) (waiting : List ℕ) 
       r
       (slice p-at P, (slice q-at Q, (id, (size, (slice w-at waiting′, tt)))))
 
--- `nearest::near_filter(P, Q, id, waiting)` answers r, and the lent numbers are `waiting′` at its exit [D8]
-pub record NearFilterAnswers (P Q : List ℤ) (id : ℕ) (waiting : List ℕ) (r : Filtered) (waiting′ : List ℕ) : Type 0 where
-  pub κs : Lfts 3
+-- `nearest::near_filter(P, Q, id, waiting, bits)` answers r, and at its exit the lent numbers are `waiting′`, the lent words `bits′` [D8]
+pub record NearFilterAnswers (P Q : List ℤ) (id : ℕ) (waiting bits : List ℕ) (r : Filtered) (waiting′ bits′ : List ℕ) : Type 0 where
+  pub κs : Lfts 4
   pub p-at : Place
   pub q-at : Place
   pub w-at : Place
+  pub b-at : Place
   pub promised : near-filter.Post κs
-      (slice p-at P, (slice q-at Q, (id, (slice w-at waiting, tt))))
+      (slice p-at P, (slice q-at Q, (id, (slice w-at waiting, (slice b-at bits, tt)))))
       r
-      (slice p-at P, (slice q-at Q, (id, (slice w-at waiting′, tt))))
+      (slice p-at P, (slice q-at Q, (id, (slice w-at waiting′, (slice b-at bits′, tt)))))
 
 -- ---- pack, marker
 
--- `pack::pack(n, points, order, edition, out)` answers r, and the words of `out` are `out′` at its exit [B1, D8]
-pub record PackAnswers (n : ℕ) (points order : List ℤ) (edition : ℕ) (out : List ℤ) (r : ℕ) (out′ : List ℤ) : Type 0 where
+-- `pack::pack(form, n, points, order, edition, out)` answers r, and the words of `out` are `out′` at its exit [B1, D8]
+pub record PackAnswers (form n : ℕ) (points order : List ℤ) (edition : ℕ) (out : List ℤ) (r : ℕ) (out′ : List ℤ) : Type 0 where
   pub κs : Lfts 3
   pub p-at : Place
   pub o-at : Place
   pub out-at : Place
   pub promised : pack.Post κs
-      (n, (slice p-at points, (slice o-at order, (edition, (slice out-at out, tt)))))
+      (form, (n, (slice p-at points, (slice o-at order, (edition, (slice out-at out, tt))))))
       r
-      (n, (slice p-at points, (slice o-at order, (edition, (slice out-at out′, tt)))))
+      (form, (n, (slice p-at points, (slice o-at order, (edition, (slice out-at out′, tt))))))
 
 -- `marker::mark(ax, ay, bx, by)` answers r [B1, D8]
 pub record MarkAnswers (ax ay bx by : ℤ) (r : Marked) : Type 0 where
@@ -212,19 +225,21 @@ pub record TakeArrayAnswers (slots : List Pair) (len : ℕ) (b : Book) (page : P
 
 -- ---- one run per leaf
 
--- `runs::leaf_run(P, Q, leaf, slots)` answers r, and the slots are `slots′` at its exit [D8]
-abbrev pub RunAnswers : List ℤ → List ℤ → ℕ → List Pair → Run → List Pair → Type 0
-RunAnswers P Q leaf slots r slots′ = (r ≡ runAnswer P Q leaf (length slots)) × (slots′ ≡ runSlots P Q leaf slots)
+-- `runs::leaf_run(P, Q, leaf, slots, bits)` answers r, and at its exit the slots are `slots′`, the lent words `bits′` [D8]
+abbrev pub RunAnswers : List ℤ → List ℤ → ℕ → List Pair → List ℕ → Run → List Pair → List ℕ → Type 0
+RunAnswers P Q leaf slots bits r slots′ bits′ =
+    (r ≡ runAnswer P Q leaf (length slots) (length bits)) × (slots′ ≡ runSlots P Q leaf slots (length bits)) × (bits′ ≡ runBits P Q leaf (length slots) bits)
 
--- `runs::run_array(P, Q, leaf, slots, len)` answers r
-pub record RunArrayAnswers (P Q : List ℤ) (leaf : ℕ) (slots : List Pair) (len : ℕ) (r : RunArray) : Type 0 where
-  pub κs : Lfts 2
+-- `runs::run_array(P, Q, leaf, slots, len, bits)` answers r, and the lent words are `bits′` at its exit
+pub record RunArrayAnswers (P Q : List ℤ) (leaf : ℕ) (slots : List Pair) (len : ℕ) (bits : List ℕ) (r : RunArray) (bits′ : List ℕ) : Type 0 where
+  pub κs : Lfts 3
   pub p-at : Place
   pub q-at : Place
+  pub b-at : Place
   pub promised : run-array.Post κs
-      (slice p-at P, (slice q-at Q, (leaf, (slots, (len, tt)))))
+      (slice p-at P, (slice q-at Q, (leaf, (slots, (len, (slice b-at bits, tt))))))
       r
-      (slice p-at P, (slice q-at Q, (leaf, (slots, (len, tt)))))
+      (slice p-at P, (slice q-at Q, (leaf, (slots, (len, (slice b-at bits′, tt))))))
 
 -- ---- views
 
@@ -236,31 +251,47 @@ ViewOpens w r = shown r ≡ openOf w
 abbrev pub ViewPoints : Sheet → ℕ → Pointed → Type 0
 ViewPoints sheet position r = r ≡ pointed (now (sheet .words)) position
 
--- `view::filter_walk_at(p, q, j)` answers r [S28, N19, D8]
-abbrev pub ViewFilters : Sheet → Sheet → ℕ → Filtered → Type 0
-ViewFilters p q j r = r ≡ filtered (now (p .words)) (now (q .words)) j
+-- `view::filter_walk_at(p, q, j, bits)` answers r, and the lent words are `bits′` at its exit [S28, N19, D8]
+abbrev pub ViewFilters : Sheet → Sheet → ℕ → List ℕ → Filtered → List ℕ → Type 0
+ViewFilters p q j bits r bits′ = (r ≡ filtered (now (p .words)) (now (q .words)) j (length bits)) × (bits′ ≡ filteredBits (now (p .words)) (now (q .words)) j bits)
 
 -- `view::ring_walk_at(p, q, j, i)` answers r [S28, N19, D8]
 abbrev pub ViewRings : Sheet → Sheet → ℕ → ℕ → Walked → Type 0
 ViewRings p q j i r = r ≡ walked (now (p .words)) (now (q .words)) j i
 
--- `view::page_at(p, q, ask)` answers r [S28, N19, D8]
-abbrev pub ViewPages : Sheet → Sheet → Request → Paged → Type 0
-ViewPages p q ask r = r ≡ pageAnswer (now (p .words)) (now (q .words)) ask
+-- `view::page_at(p, q, ask, bits)` answers r, and the lent words are `bits′` at its exit [S28, N19, D8]
+abbrev pub ViewPages : Sheet → Sheet → Request → List ℕ → Paged → List ℕ → Type 0
+ViewPages p q ask bits r bits′ = (r ≡ pageAnswer (now (p .words)) (now (q .words)) ask (length bits)) × (bits′ ≡ pageBits (now (p .words)) (now (q .words)) ask bits)
 
--- `view::own_page_at(d, key, size)` answers r [S28, D8]
-abbrev pub ViewOwnPages : Sheet → Key → ℕ → Paged → Type 0
-ViewOwnPages d key size r = r ≡ ownAnswer (now (d .words)) key size
+-- `view::own_page_at(d, key, size, bits)` answers r, and the lent words are `bits′` at its exit [S28, D8]
+abbrev pub ViewOwnPages : Sheet → Key → ℕ → List ℕ → Paged → List ℕ → Type 0
+ViewOwnPages d key size bits r bits′ = (r ≡ ownAnswer (now (d .words)) key size (length bits)) × (bits′ ≡ ownBits (now (d .words)) key size bits)
 
--- `view::partners_at(p, q, id, t)` answers r [S28, D8]
-abbrev pub ViewPartners : Sheet → Sheet → ℕ → ℕ → Partnered → Type 0
-ViewPartners p q id t r = r ≡ partnersAnswer (now (p .words)) (now (q .words)) id t
+-- `view::partners_at(p, q, id, t, bits)` answers r, and the lent words are `bits′` at its exit [S28, D8]
+abbrev pub ViewPartners : Sheet → Sheet → ℕ → ℕ → List ℕ → Partnered → List ℕ → Type 0
+ViewPartners p q id t bits r bits′ =
+    (r ≡ partnersAnswer (now (p .words)) (now (q .words)) id t (length bits)) × (bits′ ≡ partnersBits (now (p .words)) (now (q .words)) id t bits)
+
+-- `view::leaf_run_at(p, q, leaf, slots, bits)` answers r, and at its exit the slots are `slots′`, the lent words `bits′`
+abbrev pub ViewRuns : Sheet → Sheet → ℕ → List Pair → List ℕ → Run → List Pair → List ℕ → Type 0
+ViewRuns p q leaf slots bits r slots′ bits′ = RunAnswers (now (p .words)) (now (q .words)) leaf slots bits r slots′ bits′
+
+-- `view::shortest_at(p, q, k, bits)` answers r, and the lent words are `bits′` at its exit
+abbrev pub ViewShortest : Sheet → Sheet → ℕ → List ℕ → Shortlist → List ℕ → Type 0
+ViewShortest p q k bits r bits′ = (r ≡ shortAnswer (now (p .words)) (now (q .words)) k (length bits)) × (bits′ ≡ shortBits (now (p .words)) (now (q .words)) k bits)
 
 -- `view::nearest_at(p, q, id, size, waiting)` answers r, and the lent numbers are `waiting′` at its exit [S28, D8]
 abbrev pub ViewNearest : Sheet → Sheet → ℕ → ℕ → List ℕ → Found → List ℕ → Type 0
 ViewNearest p q id size waiting r waiting′ =
     (r ≡ nearestAnswer (now (p .words)) (now (q .words)) id size (length waiting))
     × (waiting′ ≡ waitedBy (nearestNo (now (p .words)) (now (q .words)) id size (length waiting)) (now (p .words)) waiting)
+
+-- `view::near_filter_at(p, q, id, waiting, bits)` answers r, and at its exit the lent numbers are `waiting′`, the lent words `bits′`
+abbrev pub ViewNearFilters : Sheet → Sheet → ℕ → List ℕ → List ℕ → Filtered → List ℕ → List ℕ → Type 0
+ViewNearFilters p q id waiting bits r waiting′ bits′ =
+    (r ≡ nearFiltered (now (p .words)) (now (q .words)) id (length bits) (length waiting))
+    × (waiting′ ≡ waitedBy (nearFilterNo (now (p .words)) (now (q .words)) id (length bits) (length waiting)) (now (p .words)) waiting)
+    × (bits′ ≡ nearFilteredBits (now (p .words)) (now (q .words)) id (length waiting) bits)
 
 -- `view::open_head(w)` answers h
 pub record OpenHead (w : List ℤ) (h : Head) : Type 0 where

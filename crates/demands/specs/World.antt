@@ -9,16 +9,16 @@ use lib.IntN.{ℤ}
 use lib.ListN.{length, take}
 use Rattle.words.specs.Word.{num}
 use Rattle.plane.specs.Point.{Point}
-use Rattle.sheet.specs.Limits.{form1}
 use Rattle.sheet.specs.Layout.{edition}
 use Rattle.sheet.specs.Places.{pointsOf}
-use Rattle.sheet.specs.Open.{openNo}
+use Rattle.sheet.specs.Open.{sheetNo}
 use Rattle.list.specs.declared.Key.{Key}
 use Rattle.list.specs.declared.Pair.{Pair}
 use Rattle.list.specs.declared.Source.{Source}
 use Rattle.list.specs.declared.Page.{Page}
 use Rattle.list.specs.declared.Terms.{Terms}
 use Rattle.list.specs.Terms.{listFor}
+use Rattle.ring.specs.Lent.{need}
 use Rattle.ring.specs.Page.{sourceOf}
 use Rattle.ring.specs.declared.Paged.{Paged}
 use Rattle.book.specs.declared.Book.{Book}
@@ -34,24 +34,24 @@ pub record Editions : Type 0 where
   pub pumps : ℕ → List ℤ
   pub chambers : ℕ → List ℤ
   pub assets : ℕ → List ℤ
-  pub pumps-open : (e : ℕ) → openNo form1 (pumps e) ≡ 0
-  pub chambers-open : (e : ℕ) → openNo form1 (chambers e) ≡ 0
-  pub assets-open : (e : ℕ) → openNo form1 (assets e) ≡ 0
+  pub pumps-open : (e : ℕ) → sheetNo (pumps e) ≡ 0
+  pub chambers-open : (e : ℕ) → sheetNo (chambers e) ≡ 0
+  pub assets-open : (e : ℕ) → sheetNo (assets e) ≡ 0
 
 module _ (w : Editions) where
   -- a sheet of P in this world: it opens, and its points are those of its edition number. Order and tree are its own. [D9]
   pub record PumpSheet (P : List ℤ) : Type 0 where
-    pub opens : openNo form1 P ≡ 0
+    pub opens : sheetNo P ≡ 0
     pub same : pointsOf P ≡ pointsOf (w .pumps (num (edition P)))
 
   -- [D9]
   pub record ChamberSheet (Q : List ℤ) : Type 0 where
-    pub opens : openNo form1 Q ≡ 0
+    pub opens : sheetNo Q ≡ 0
     pub same : pointsOf Q ≡ pointsOf (w .chambers (num (edition Q)))
 
   -- a sheet given to self joins [J7]
   pub record AssetSheet (S : List ℤ) : Type 0 where
-    pub opens : openNo form1 S ≡ 0
+    pub opens : sheetNo S ≡ 0
     pub same : pointsOf S ≡ pointsOf (w .assets (num (edition S)))
 
   -- the sheets in the two places of a request: of P and of Q, or of a self join one that is given to self joins, in both
@@ -81,8 +81,10 @@ module _ (w : Editions) where
     pub sheets : Sheets terms P Q
     pub key : Key
     pub size : ℕ
+    pub bits : List ℕ
     pub r : Paged
-    pub answers : TermsAnswers terms P Q key size r
+    pub bits′ : List ℕ
+    pub answers : TermsAnswers terms P Q key size bits r bits′
     pub given : r .number ≡ 0
     pub is : g ≡ r .page
 
@@ -100,7 +102,11 @@ module _ (w : Editions) where
     pub Q : List ℤ
     pub sheets : Sheets (of .terms) P Q
     pub of-book : sourceOf P Q (of .terms) ≡ of
-    pub answers : TermsAnswers (of .terms) P Q key size r
+    -- as many words are lent as the points need: else the request is refused, by 24
+    pub bits : List ℕ
+    pub enough : need P ≤ length bits
+    pub bits′ : List ℕ
+    pub answers : TermsAnswers (of .terms) P Q key size bits r bits′
 
   -- a page "that answers its own next request": the book is asked for its next key, and a page of its list is asked for after it, of any size from 1 to 16 [D6]
   pub record OwnPage (b : Book) (slots : List Pair) (g : Page) : Type 0 where

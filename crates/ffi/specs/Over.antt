@@ -1,11 +1,17 @@
--- What crosses to C: of each answer that is an enum, the struct of numbers, its number of refusal first.
+-- What crosses to C: of each answer that is an enum, the struct of numbers, its number of refusal first; and of a check, with what the sheet says of itself.
 -- "Every refusal gives only its number [..]. An array or number in a refused answer is all zero."
--- The answers of open, filter walk, page, of the question for partners and of take are structs of numbers already, and cross as they are.
+-- The answers of filter walk, page, of the question for partners, of leaf runs, of the shortest, of the nearest and of take are structs of numbers already, and
+-- cross as they are.
 use mathlib.Core.Bool.{false}
+use mathlib.Core.List.{List}
 use Prim.Native.Nat.{ℕ}
 use lib.IntN.{ℤ, pos, _+ℤ_}
 use lib.Ieee.{Float, binary64, ofBits}
+use lib.ListN.{length}
+use Rattle.words.specs.Word.{num}
 use Rattle.words.specs.First.{answer}
+use Rattle.sheet.specs.Layout.{points, nodes, edition, form}
+use Rattle.sheet.specs.Open.{sheetNo}
 use Rattle.list.specs.Terms.{full}
 use Rattle.list.specs.Pairs.{start}
 use Rattle.walk.specs.declared.Hit.{Hit}
@@ -24,11 +30,18 @@ use Rattle.marker.specs.Half.{halfOf}
 use Rattle.marker.specs.Mark.{markNo}
 use Rattle.marker.specs.declared.Marked.{Marked}
 use Rattle.marker.specs.declared.Marked.the-variants as marked
+use Rattle.ffi.specs.declared.HeadAnswer.{HeadAnswer}
 use Rattle.ffi.specs.declared.PointAnswer.{PointAnswer}
 use Rattle.ffi.specs.declared.WalkAnswer.{WalkAnswer}
 use Rattle.ffi.specs.declared.BookAnswer.{BookAnswer}
 use Rattle.ffi.specs.declared.KeyAnswer.{KeyAnswer}
 use Rattle.ffi.specs.declared.MarkAnswer.{MarkAnswer}
+
+-- a check of words: 0 with the sheet's length, counts, edition and form, or the number and zeros
+unfoldable pub headOver : List ℤ → HeadAnswer
+headOver w =
+    answer (sheetNo w) (record { number = 0; len = length w; n = points w; m = nodes w; edition = num (edition w); form = num (form w) })
+    (λ k. record { number = k; len = 0; n = 0; m = 0; edition = 0; form = 0 })
 
 -- the point reader: 0 and the record, or the number and zeros [C1, C2]
 abbrev pub pointOver : Pointed → PointAnswer

@@ -10,24 +10,33 @@ use list::Source;
 use list::Terms;
 use nearest::Found;
 use ring::Filtered;
-use ring::Head;
 use ring::Paged;
 use ring::Partnered;
 use runs::Run;
 use shortest::Shortlist;
 ghost use mathlib.Core.Path.{_≡_};
 ghost use lib.ListN.{length};
-ghost use Rattle.sheet.specs.Limits.{form1};
 ghost use Rattle.pack.specs.Pack.{packNo, packOut};
-ghost use Rattle.ring.specs.Answers.{headOf, pointed, filtered, walked};
-ghost use Rattle.ring.specs.Page.{pageAnswer};
-ghost use Rattle.ring.specs.Own.{ownAnswer};
-ghost use Rattle.shortest.specs.Answer.{shortAnswer};
-ghost use Rattle.ring.specs.Partners.{partnersAnswer};
+ghost use Rattle.ring.specs.Answers.{pointed, filtered, filteredBits, walked};
+ghost use Rattle.ring.specs.Page.{pageAnswer, pageBits};
+ghost use Rattle.ring.specs.Own.{ownAnswer, ownBits};
+ghost use Rattle.shortest.specs.Answer.{shortAnswer, shortBits};
+ghost use Rattle.ring.specs.Partners.{partnersAnswer, partnersBits};
 ghost use Rattle.book.specs.Rules.{begunFor, asked, taken, takenSlots};
-ghost use Rattle.runs.specs.Run.{runAnswer, runSlots};
-ghost use Rattle.nearest.specs.Nearest.{nearestNo, nearFilterNo, nearestAnswer, nearFiltered, waitedBy};
-ghost use Rattle.ffi.specs.Over.{pointOver, hitOver, walkOver, bookOver, nextOver, keyOver, markOver, markedAt};
+ghost use Rattle.runs.specs.Run.{runAnswer, runSlots, runBits};
+ghost use Rattle.nearest.specs.Nearest.{nearestNo, nearFilterNo, nearestAnswer, nearFiltered, nearFilteredBits, waitedBy};
+ghost use Rattle.ffi.specs.Over.{headOver, pointOver, hitOver, walkOver, bookOver, nextOver, keyOver, markOver, markedAt};
+
+// What a check of words finds: the sheet's length, points, nodes, edition and form, or zeros.
+#[repr(C)]
+pub struct HeadAnswer {
+    pub number: u32,
+    pub len: usize,
+    pub n: usize,
+    pub m: usize,
+    pub edition: u32,
+    pub form: u32,
+}
 
 // The point reader's answer: the record, or zeros.
 #[repr(C)]
@@ -207,27 +216,47 @@ fn of_marked(v: marker::Marked) -> MarkAnswer
     }
 }
 
-// Opens words: 0 with the sheet's length and counts, or 1 to 8.
+// Opens words: 0 with the sheet's length and counts, its edition and its form, or 1 to 8.
 #[no_mangle]
-pub extern "C" fn ring_open(words: &[i32]) -> Head
-    ensures { λ r. ⌜ r ≡ headOf (now (words .entry)) ⌝ }
+pub extern "C" fn ring_open(words: &[i32]) -> HeadAnswer
+    ensures { λ r. ⌜ r ≡ headOver (now (words .entry)) ⌝ }
 {
-    ring::open::head_of(words)
+    let h = ring::open::head_of(words);
+    if h.number != 0 {
+        return HeadAnswer {
+            number: h.number,
+            len: 0,
+            n: 0,
+            m: 0,
+            edition: 0,
+            form: 0,
+        };
+    }
+    let len = words.len();
+    HeadAnswer {
+        number: 0,
+        len: len,
+        n: h.n,
+        m: h.m,
+        edition: words::num_at(words, len - 2) as u32,
+        form: words::num_at(words, len - 1) as u32,
+    }
 }
 
-// Packs a sheet into the lent words: 0, or 18, 3, 5, 6, 17 with the words as they were.
+// Packs a sheet of this form into the lent words: 0, or 18, 2, 3, 5, 6, 17 with the words as they were.
 #[no_mangle]
 pub extern "C" fn ring_pack(
+    form: u32,
     n: usize,
     points: &[i32],
     order: &[i32],
     edition: u32,
     out: &mut [i32],
 ) -> u32
-    ensures { λ r. ⌜ r ≡ packNo form1 n (now (points .entry)) (now (order .entry)) edition (length (now (out .entry))) ⌝ }
-    ensures { λ r. ⌜ now (out .exit) ≡ packOut form1 n (now (points .entry)) (now (order .entry)) edition (now (out .entry)) ⌝ }
+    ensures { λ r. ⌜ r ≡ packNo form n (now (points .entry)) (now (order .entry)) edition (length (now (out .entry))) ⌝ }
+    ensures { λ r. ⌜ now (out .exit) ≡ packOut form n (now (points .entry)) (now (order .entry)) edition (now (out .entry)) ⌝ }
 {
-    pack::pack(n, points, order, edition, out)
+    pack::pack(form, n, points, order, edition, out)
 }
 
 // The record at a position: 0, or 1 to 8, 9.
@@ -238,12 +267,12 @@ pub extern "C" fn ring_point(words: &[i32], position: usize) -> PointAnswer
     of_pointed(ring::point::point(words, position))
 }
 
-// The filter walk for position j of Q over P: 0, or 1 to 8 of P, of Q, 9.
+// The filter walk for position j of Q over P, its kept set in the lent words: 0, or 1 to 8 of P, of Q, 9, 24 with the words as they were.
 #[no_mangle]
-pub extern "C" fn ring_filter_walk(p: &[i32], q: &[i32], j: usize) -> Filtered
-    ensures { λ r. ⌜ r ≡ filtered (now (p .entry)) (now (q .entry)) j ⌝ }
+pub extern "C" fn ring_filter_walk(p: &[i32], q: &[i32], j: usize, bits: &mut [u64]) -> Filtered
+    ensures { λ r. ⌜ (r ≡ filtered (now (p .entry)) (now (q .entry)) j (length (now (bits .entry)))) × (now (bits .exit) ≡ filteredBits (now (p .entry)) (now (q .entry)) j (now (bits .entry))) ⌝ }
 {
-    ring::filter::filter_walk(p, q, j)
+    ring::filter::filter_walk(p, q, j, bits)
 }
 
 // The ring walk for position j of Q and position i of P: 0, or 1 to 8 of P, of Q, 9.
@@ -254,36 +283,42 @@ pub extern "C" fn ring_pair_walk(p: &[i32], q: &[i32], j: usize, i: usize) -> Wa
     of_walked(ring::ringwalk::ring_walk(p, q, j, i))
 }
 
-// The page of the first `size` ring pairs after a key, of chambers with at least so many as the threshold says: 0, or 1 to 8 of P, of Q, 9, 10, 21.
+// The page of the first `size` ring pairs after a key, of chambers with at least so many as the threshold says: 0, or 1 to 8 of P, of Q, 9, 10, 21, 24.
 #[no_mangle]
-pub extern "C" fn ring_page(p: &[i32], q: &[i32], request: Request) -> Paged
-    ensures { λ r. ⌜ r ≡ pageAnswer (now (p .entry)) (now (q .entry)) request ⌝ }
+pub extern "C" fn ring_page(p: &[i32], q: &[i32], request: Request, bits: &mut [u64]) -> Paged
+    ensures { λ r. ⌜ (r ≡ pageAnswer (now (p .entry)) (now (q .entry)) request (length (now (bits .entry)))) × (now (bits .exit) ≡ pageBits (now (p .entry)) (now (q .entry)) request (now (bits .entry))) ⌝ }
 {
-    ring::page::page(p, q, request)
+    ring::page::page(p, q, request, bits)
 }
 
-// The k ring pairs with the smallest squared size, in order: 0, or 1 to 8 of P, of Q, 10.
+// The k ring pairs with the smallest squared size, in order: 0, or 1 to 8 of P, of Q, 10, 24.
 #[no_mangle]
-pub extern "C" fn ring_shortest(p: &[i32], q: &[i32], k: usize) -> Shortlist
-    ensures { λ r. ⌜ r ≡ shortAnswer (now (p .entry)) (now (q .entry)) k ⌝ }
+pub extern "C" fn ring_shortest(p: &[i32], q: &[i32], k: usize, bits: &mut [u64]) -> Shortlist
+    ensures { λ r. ⌜ (r ≡ shortAnswer (now (p .entry)) (now (q .entry)) k (length (now (bits .entry)))) × (now (bits .exit) ≡ shortBits (now (p .entry)) (now (q .entry)) k (now (bits .entry))) ⌝ }
 {
-    shortest::shortest(p, q, k)
+    shortest::shortest(p, q, k, bits)
 }
 
-// The page of the first `size` pairs after a key of the self join of one sheet, lower id first: 0, or 1 to 8, 9, 10.
+// The page of the first `size` pairs after a key of the self join of one sheet, lower id first: 0, or 1 to 8, 9, 10, 24.
 #[no_mangle]
-pub extern "C" fn ring_own_page(words: &[i32], key: Key, size: usize) -> Paged
-    ensures { λ r. ⌜ r ≡ ownAnswer (now (words .entry)) key size ⌝ }
+pub extern "C" fn ring_own_page(words: &[i32], key: Key, size: usize, bits: &mut [u64]) -> Paged
+    ensures { λ r. ⌜ (r ≡ ownAnswer (now (words .entry)) key size (length (now (bits .entry)))) × (now (bits .exit) ≡ ownBits (now (words .entry)) key size (now (bits .entry))) ⌝ }
 {
-    ring::own::own_page(words, key, size)
+    ring::own::own_page(words, key, size, bits)
 }
 
-// The smaller of t and the number of ring partners of the chamber with this id, and whether that is t: 0, or 1 to 8 of P, of Q, 20, 21.
+// The smaller of t and the number of ring partners of the chamber with this id, and whether that is t: 0, or 1 to 8 of P, of Q, 20, 21, 24.
 #[no_mangle]
-pub extern "C" fn ring_partners(p: &[i32], q: &[i32], id: u32, t: u32) -> Partnered
-    ensures { λ r. ⌜ r ≡ partnersAnswer (now (p .entry)) (now (q .entry)) id t ⌝ }
+pub extern "C" fn ring_partners(
+    p: &[i32],
+    q: &[i32],
+    id: u32,
+    t: u32,
+    bits: &mut [u64],
+) -> Partnered
+    ensures { λ r. ⌜ (r ≡ partnersAnswer (now (p .entry)) (now (q .entry)) id t (length (now (bits .entry)))) × (now (bits .exit) ≡ partnersBits (now (p .entry)) (now (q .entry)) id t (now (bits .entry))) ⌝ }
 {
-    ring::partners::partners(p, q, id, t)
+    ring::partners::partners(p, q, id, t, bits)
 }
 
 // The pump houses nearest to the chamber with this id, at most `size`, in order: 0, or 1 to 8 of P, of Q, 20, 10, 25 with the lent numbers as they were.
@@ -300,12 +335,18 @@ pub extern "C" fn ring_nearest(
     nearest::nearest(p, q, id, size, waiting)
 }
 
-// The filter walk for the chamber with this id that goes nearest first: 0, or 1 to 8 of P, of Q, 20, 25 with the lent numbers as they were.
+// The filter walk for the chamber with this id that goes nearest first: 0, or 1 to 8 of P, of Q, 20, 24, 25 with all that is lent as it was.
 #[no_mangle]
-pub extern "C" fn ring_near_filter(p: &[i32], q: &[i32], id: u32, waiting: &mut [u64]) -> Filtered
-    ensures { λ r. ⌜ (r ≡ nearFiltered (now (p .entry)) (now (q .entry)) id (length (now (waiting .entry)))) × (now (waiting .exit) ≡ waitedBy (nearFilterNo (now (p .entry)) (now (q .entry)) id (length (now (waiting .entry)))) (now (p .entry)) (now (waiting .entry))) ⌝ }
+pub extern "C" fn ring_near_filter(
+    p: &[i32],
+    q: &[i32],
+    id: u32,
+    waiting: &mut [u64],
+    bits: &mut [u64],
+) -> Filtered
+    ensures { λ r. ⌜ (r ≡ nearFiltered (now (p .entry)) (now (q .entry)) id (length (now (bits .entry))) (length (now (waiting .entry)))) × (now (waiting .exit) ≡ waitedBy (nearFilterNo (now (p .entry)) (now (q .entry)) id (length (now (bits .entry))) (length (now (waiting .entry)))) (now (p .entry)) (now (waiting .entry))) × (now (bits .exit) ≡ nearFilteredBits (now (p .entry)) (now (q .entry)) id (length (now (waiting .entry))) (now (bits .entry))) ⌝ }
 {
-    nearest::near_filter(p, q, id, waiting)
+    nearest::near_filter(p, q, id, waiting, bits)
 }
 
 // A book of two editions, a threshold and a kind with nothing held: 0, or 3, 21.
@@ -340,10 +381,16 @@ pub extern "C" fn ring_book_take(b: Book, slots: &mut [Pair], page: Page) -> Tak
     b.take(slots, page)
 }
 
-// The ring pairs of the chambers of a leaf of Q, by place, then p id, in the lent slots: 0, or 1 to 8 of P, of Q, 19, 16 with the slots as they were.
+// The ring pairs of the chambers of a leaf of Q, by place, then p id, in the lent slots: 0, or 1 to 8 of P, of Q, 19, 24, 16 with all that is lent as it was.
 #[no_mangle]
-pub extern "C" fn ring_leaf_run(p: &[i32], q: &[i32], leaf: usize, slots: &mut [Pair]) -> Run
-    ensures { λ r. ⌜ (r ≡ runAnswer (now (p .entry)) (now (q .entry)) leaf (length (now (slots .entry)))) × (now (slots .exit) ≡ runSlots (now (p .entry)) (now (q .entry)) leaf (now (slots .entry))) ⌝ }
+pub extern "C" fn ring_leaf_run(
+    p: &[i32],
+    q: &[i32],
+    leaf: usize,
+    slots: &mut [Pair],
+    bits: &mut [u64],
+) -> Run
+    ensures { λ r. ⌜ (r ≡ runAnswer (now (p .entry)) (now (q .entry)) leaf (length (now (slots .entry))) (length (now (bits .entry)))) × (now (slots .exit) ≡ runSlots (now (p .entry)) (now (q .entry)) leaf (now (slots .entry)) (length (now (bits .entry)))) × (now (bits .exit) ≡ runBits (now (p .entry)) (now (q .entry)) leaf (length (now (slots .entry))) (now (bits .entry))) ⌝ }
 {
-    runs::leaf_run(p, q, leaf, slots)
+    runs::leaf_run(p, q, leaf, slots, bits)
 }

@@ -1,7 +1,7 @@
 -- What the page maker makes, for every two sheets that open, in any form: P of np points, Q of nq, the kept sets on words that have a position for each of np.
 --
 --     points-rise       the ids of a sheet's points ascend, from 1 to 2,000,000,000: what the laws of the list ask for
---     points-sound      of a sheet of form 1 they also stand within 1,000,000: what demand 3 asks for
+--     points-sound      and they stand where a sheet's points may: what demand 3 asks for
 --     join-page-pairs        the pairs, their number and the end mark are those of the page of the terms' list, `listFor a (pointsOf P) (pointsOf Q)`
 --     join-page-opened       the count is that of the walks, `pageOpened` of `walksFor` of `walksBy`
 --     sheet-pages       following the pages from (0, 0), whatever their sizes, gives the list
@@ -12,15 +12,12 @@ use mathlib.Core.Bool.{Bool, true, false, _&&_}
 use mathlib.Core.List.{List}
 use Prim.Native.Nat.{ℕ, _*_, _≤_, _<_}
 use native.Mathlib.Omega.{arith}
-use lib.IntN.{ℤ, pos}
+use lib.IntN.{ℤ}
 use lib.ListN.{length}
-use lib.Signed.{_≤ℤ_}
 use Rattle.plane.specs.Point.{Point, idAt}
-use Rattle.sheet.specs.declared.Limits.{Limits}
-use Rattle.sheet.specs.Limits.{form1}
 use Rattle.sheet.specs.Layout.{points}
 use Rattle.sheet.specs.Places.{pointsOf}
-use Rattle.sheet.specs.Open.{openNo, Opens}
+use Rattle.sheet.specs.Open.{sheetNo, Opens}
 use Rattle.sheet.proofs.PointsLaws.{length-points, spot-of, id-low, id-high, id-rises}
 use Rattle.walk.proofs.Meaning.{walk-pair-exact}
 use Rattle.walk.proofs.SelfLaws.{self-walked}
@@ -42,8 +39,8 @@ use Rattle.join.specs.Threshold.{walksFor}
 use Rattle.join.proofs.MakerLaws.{Exact, maker-page}
 use Rattle.join.proofs.WorkLaws.{maker-opened}
 use Rattle.join.proofs.ThresholdLaws.{exact-for, for-named, for-rising, for-pair}
-use Rattle.sheet.proofs.SheetLaws.{open-facts, open-lim, form1-fair, by-counts}
-use Rattle.sheet.proofs.RangeLaws.{spot-within}
+use Rattle.sheet.proofs.SheetLaws.{sheet-facts, by-counts}
+use Rattle.sheet.proofs.RangeLaws.{spot-in}
 
 module _ {w : List ℤ} {n m : ℕ} (o : Opens w n m) where
   pub points-rise : Rising (idAt (pointsOf w)) (length (pointsOf w))
@@ -52,19 +49,11 @@ module _ {w : List ℤ} {n m : ℕ} (o : Opens w n m) where
   pub ids-rise : Rising (idAt (pointsOf w)) n
   ids-rise = subst (Rising (idAt (pointsOf w))) (length-points w ∙ o .n-is) points-rise
 
--- the points of a sheet of form 1 are sound: their ids ascend strictly, and they stand within 1,000,000
-pub points-sound : (w : List ℤ) → openNo form1 w ≡ 0 → Sound (pointsOf w)
-unfolding form1
+-- the points of a sheet are sound: their ids ascend strictly, and they stand where a sheet's points may
+pub points-sound : (w : List ℤ) → sheetNo w ≡ 0 → Sound (pointsOf w)
 points-sound w e =
-    let o = open-facts form1 form1-fair w e in
-    let c : o .lim .coordinate ≤ℤ pos 1_000_000 = subst (λ (l : Limits). l .coordinate ≤ℤ pos 1_000_000) (sym (open-lim form1 form1-fair w e)) (record { le = tt }) in
-    record {
-      rising = points-rise o;
-      near = λ i h.
-          let k : i < points w = omega (arith, length-points w) in
-          let z = spot-within o 1_000_000 c i k in
-          rw (spot-of w i k) (record { x-near = z .0; y-near = z .1 });
-    }
+    let o = sheet-facts w e in
+    record { rising = points-rise o; near = λ i h. let k : i < points w = omega (arith, length-points w) in rw (spot-of w i k) (spot-in o i k) }
 
 -- what holds of two sheets, and of one in both places, holds of the terms
 pub by-kind : (F : Terms → List ℤ → Type 0) (a : Terms) (P Q : List ℤ) → Alone a P Q → ((t : Terms) → F (ofKind false t) Q) → ((t : Terms) → F (ofKind true t) P) → F a Q

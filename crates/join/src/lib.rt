@@ -328,15 +328,6 @@ pub fn made_on(p: &[i32], hp: Size, q: &[i32], hq: Size, ask: Ask, bits: &mut [u
     r
 }
 
-// The page maker's work for sheets of at most 1,024 pump houses: the kept sets on sixteen words of its own.
-pub fn page_made(p: &[i32], hp: Size, q: &[i32], hq: Size, ask: Ask) -> Draft
-    requires { ⌜ Opens (now p) (hp .n) (hp .m) × Opens (now q) (hq .n) (hq .m) × (ask .size ≤ 16) × (hp .n ≤ 1024) × Alone (ask .terms) (now p) (now q) ⌝ }
-    ensures { λ r. ⌜ r ≡ pageMade (walksFor (walksBy (ask .terms) 16 (now (p .entry)) (now (q .entry))) (hp .n) (ask .terms .threshold)) (ask .key) (ask .size) (hp .n) (hq .n) ⌝ }
-{
-    let mut bits = [0u64; 16];
-    made_on(p, hp, q, hq, ask, &mut bits)
-}
-
 // The page of what was made.
 pub fn page_from(source: Source, key: Key, d: Draft) -> Page
     ensures { λ r. ⌜ r ≡ pageFrom source key d ⌝ }

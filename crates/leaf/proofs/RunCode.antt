@@ -474,8 +474,8 @@ module _ {P Q : List ℤ} {np mp nq mq v words : ℕ} (told : Told P np mp Q nq 
   chambers-few c e = omega (arith, count-is, leaf-few Q (by-counts (told .q-opens)) v in-q leaf-q)
 
   -- the words that all chambers take
-  pub words-few : (c : ℕ) → c ≡ countOf Q nq v → words * c ≤ 16000
-  words-few c e = mul-le-mul {n₁ = words} {m₁ = c} {n₂ = 1000} {m₂ = 16} (told .small) (chambers-few c e)
+  pub run-words-few : (c : ℕ) → c ≡ countOf Q nq v → words * c ≤ 16000
+  run-words-few c e = mul-le-mul {n₁ = words} {m₁ = c} {n₂ = 1000} {m₂ = 16} (told .small) (chambers-few c e)
 
   -- where the chamber of a bit stands, and which it is
   pub place-in : (first x : ℕ) → first ≡ firstOf Q nq v → x / (64 * words) < countOf Q nq v → first + x / (64 * words) < nq
@@ -517,12 +517,12 @@ module _ {P Q : List ℤ} {np mp nq mq v words : ℕ} (told : Told P np mp Q nq 
           }
 
       pub going-few : count ≤ 1024000
-      going-few = omega (arith, words-few c e, sift-few (walkOf P Q v words) _ _ b count opened x s)
+      going-few = omega (arith, run-words-few c e, sift-few (walkOf P Q v words) _ _ b count opened x s)
 
       -- the counts have room for one ring walk more
       pub leaf-going-room : (a : Answer) (j i : ℕ) → a ≡ pairWalk P Q j i → opened + a .opened < 9223372036854775808
       leaf-going-room a j i f =
-          let m : x * (mp + mq) ≤ 1024000 * 48000 = mul-le-mul {n₁ = x} {m₁ = mp + mq} {n₂ = 1024000} {m₂ = 48000} (omega (arith, words-few c e)) (omega (arith, told .p-opens .m-le, told .q-opens .m-le)) in
+          let m : x * (mp + mq) ≤ 1024000 * 48000 = mul-le-mul {n₁ = x} {m₁ = mp + mq} {n₂ = 1024000} {m₂ = 48000} (omega (arith, run-words-few c e)) (omega (arith, told .p-opens .m-le, told .q-opens .m-le)) in
           omega (
             arith,
             told .p-opens .m-is,

@@ -17,13 +17,13 @@ use Rattle.integers.proofs.Order.{in-+, in--, in-*, in-up}
 use Rattle.words.specs.Range.{lastId, idOk, sizeOk}
 use Rattle.words.proofs.RangeLaws.{id-make, id-bounds, size-make}
 use Rattle.plane.specs.declared.Spot.{Spot}
-use Rattle.plane.specs.Rule.{size}
+use Rattle.plane.specs.Rule.{SpotIn, size}
 use Rattle.plane.specs.Point.{Point, idAt, spotAt}
 use Rattle.list.specs.declared.Key.{Key}
 use Rattle.list.specs.declared.Pair.{Pair}
 use Rattle.list.specs.Pairs.{start, none, keyOf, follows, ascends, lastOr}
 use Rattle.list.specs.Rows.{row, rows, listBy, Rising, Named}
-use Rattle.list.specs.RingList.{ringPair, sizeOf, pairAt, ringList, MayStand, Sound}
+use Rattle.list.specs.RingList.{ringPair, sizeOf, pairAt, ringList, Sound}
 use Rattle.list.proofs.Order.{by-q, by-p, asc-append, once}
 
 -- ids of later positions are greater
@@ -188,10 +188,10 @@ pub pair-made : (P Q : List Point) (j i a b d : ℕ) (y z : Spot) → a ≡ idAt
 pair-made P Q j i a b d y z ea eb ey ez ed = λ t. record { q = ea t; p = eb t; size = (ap natAbs ed ∙ ap₂ sizeOf ey ez) t }
 
 -- the size of two places where points of sheets may stand is in range
-pub size-most : (a b : Spot) → MayStand a → MayStand b → sizeOk (sizeOf a b) ≡ true
+pub size-most : (a b : Spot) → SpotIn a → SpotIn b → sizeOk (sizeOf a b) ≡ true
 size-most a b h k =
-    let x = in-- (h .x-near) (k .x-near) in
-    let y = in-- (h .y-near) (k .y-near) in
+    let x = in-- (h .x-in) (k .x-in) in
+    let y = in-- (h .y-in) (k .y-in) in
     size-make (sizeOf a b) (in-up (in-+ (in-* x x) (in-* y y)) tt .abs)
 
 pub id-in : (id : ℕ → ℕ) (n : ℕ) → Rising id n → (i : ℕ) → i < n → idOk (id i) ≡ true

@@ -11,11 +11,11 @@ use Rattle.list.specs.declared.Source.{Source}
 use Rattle.list.specs.declared.Page.{Page}
 use Rattle.list.specs.Pairs.{none, after, lastOr, isNone}
 
--- 21 "t outside 0 to 1,000": the number for the list of t, 0 where t is in range
+-- 21 "t outside 0 to 1,000"; "Request 5's threshold goes to 60,000": the number for the list of t, 0 where t is in range [Y13]
 abbrev pub lastThreshold : ℕ
-lastThreshold = 1000
+lastThreshold = 60000
 
--- [T9]
+-- [T9, Y13]
 unfoldable pub thresholdNo : ℕ → ℕ
 thresholdNo t = given (not (leb t lastThreshold)) 21
 

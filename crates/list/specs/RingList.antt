@@ -4,10 +4,9 @@ use mathlib.Core.List.{List}
 use Prim.Native.Nat.{ℕ, _<_}
 use lib.IntN.{natAbs}
 use lib.ListN.{length}
-use Rattle.integers.specs.Bounds.{Within}
 use Rattle.words.specs.All.{allB}
 use Rattle.plane.specs.declared.Spot.{Spot}
-use Rattle.plane.specs.Rule.{blocks, size}
+use Rattle.plane.specs.Rule.{SpotIn, blocks, size}
 use Rattle.plane.specs.Point.{Point, idAt, spotAt}
 use Rattle.list.specs.declared.Pair.{Pair}
 use Rattle.list.specs.Rows.{row, listBy, Rising}
@@ -36,12 +35,7 @@ ringList P Q = listBy (ringPair P Q) (pairAt P Q) (length P) (length Q)
 unfoldable pub partnersOf : List Point → List Point → ℕ → ℕ
 partnersOf P Q j = length (row (ringPair P Q) (pairAt P Q) j (length P) 0)
 
--- a place where a point of a sheet may stand: "x and y from -1,000,000 to 1,000,000"
-pub record MayStand (z : Spot) : Type 0 where
-  pub x-near : Within 1_000_000 (z .x)
-  pub y-near : Within 1_000_000 (z .y)
-
--- a set of points as a sheet holds them: ids ascending strictly, and each point where one may stand
+-- a set of points as a sheet holds them: ids ascending strictly, and each point where one of some form's may stand
 pub record Sound (s : List Point) : Type 0 where
   pub rising : Rising (idAt s) (length s)
-  pub near : (i : ℕ) → i < length s → MayStand (spotAt s i)
+  pub near : (i : ℕ) → i < length s → SpotIn (spotAt s i)

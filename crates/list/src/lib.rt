@@ -71,7 +71,7 @@ pub fn is_after(k: Key, v: Key) -> bool
 pub fn threshold_no(t: u32) -> u32
     ensures { λ r. ⌜ r ≡ thresholdNo t ⌝ }
 {
-    if t <= 1000 {
+    if t <= 60000 {
         return 0;
     }
     21

@@ -12,23 +12,22 @@ use lib.Seq.{take-at}
 use Rattle.integers.proofs.Bools.{or-false-left, or-false-right}
 use Rattle.words.specs.Bytes.{wordAt, wordsOf}
 use Rattle.words.proofs.FirstLaws.{answer-given, answer-refused}
-use Rattle.sheet.specs.Open.{sheetNo}
 use Rattle.lister.specs.Split.{badInput}
-use Rattle.lister.specs.Outcome.{pairsOf, sheetsOutcome, wordsOutcome, outcome}
+use Rattle.lister.specs.Outcome.{pairsOf, firstNo, sheetsOutcome, wordsOutcome, outcome}
 use Rattle.lister.specs.declared.Outcome.{Outcome}
 use Rattle.lister.specs.declared.Outcome.the-variants.{BadInput, BadQ, BadP, Listed}
 
 -- ---- two sheets, Q opened first
 
-pub q-refused : (P Q : List ℤ) (k : ℕ) → k ≡ sheetNo Q → (k ≡ 0 → ⊥) → BadQ k ≡ sheetsOutcome P Q
+pub q-refused : (P Q : List ℤ) (k : ℕ) → k ≡ firstNo Q → (k ≡ 0 → ⊥) → BadQ k ≡ sheetsOutcome P Q
 unfolding sheetsOutcome
 q-refused P Q k e f = sym (answer-refused _ BadQ _ k (sym e) f)
 
-pub p-refused : (P Q : List ℤ) (k : ℕ) → sheetNo Q ≡ 0 → k ≡ sheetNo P → (k ≡ 0 → ⊥) → BadP k ≡ sheetsOutcome P Q
+pub p-refused : (P Q : List ℤ) (k : ℕ) → firstNo Q ≡ 0 → k ≡ firstNo P → (k ≡ 0 → ⊥) → BadP k ≡ sheetsOutcome P Q
 unfolding sheetsOutcome
 p-refused P Q k z e f = sym (answer-given _ BadQ _ z ∙ answer-refused _ BadP _ k (sym e) f)
 
-pub lister-listed : (P Q : List ℤ) (n : ℕ) → sheetNo Q ≡ 0 → sheetNo P ≡ 0 → n ≡ length (pairsOf P Q) → Listed n ≡ sheetsOutcome P Q
+pub lister-listed : (P Q : List ℤ) (n : ℕ) → firstNo Q ≡ 0 → firstNo P ≡ 0 → n ≡ length (pairsOf P Q) → Listed n ≡ sheetsOutcome P Q
 unfolding sheetsOutcome
 lister-listed P Q n y z e = ap Listed e ∙ sym (answer-given _ BadQ _ y ∙ answer-given _ BadP _ z)
 

@@ -31,8 +31,9 @@ use Rattle.ring.specs.Page.{sourceOf, pageGiven, pageAnswer}
 use Rattle.ring.proofs.HeadLaws.{sheets-both}
 use Rattle.ring.proofs.PageLaws.{ring-page-served}
 use Rattle.lister.specs.Listing.{Has, standsAt, HasBoth}
-use Rattle.lister.specs.Outcome.{Both, InRange, pairsOf}
+use Rattle.lister.specs.Outcome.{firstNo, Both, InRange, pairsOf}
 use Rattle.sheet.specs.Find.{positionOf}
+use Rattle.lister.proofs.FormLaws.{listed-first, first-need}
 
 has : (s : List Point) (j : ℕ) → j < length s → Has s (idAt s j)
 unfolding positionOf
@@ -54,6 +55,15 @@ last-some k l n m e h = sym (last-at k l m h) ∙ ap (λ (i : ℕ). lastOr k (ta
 
 -- ---- two sheets that open
 
+-- a request for sixteen pairs after a key in range, for which sixteen words are lent, is answered
+pub page-is : (P Q : List ℤ) → firstNo P ≡ 0 → firstNo Q ≡ 0 → (key : Key) → InRange key → (a : Paged) → a ≡ pageAnswer P Q (requestOf full key 16) 16
+    → a .page ≡ pageOf (sourceOf P Q full) (pairsOf P Q) key 16
+unfolding pageGiven
+page-is P Q p q key h a e =
+    ap (λ (x : Paged). x .page)
+    (e ∙ ring-page-served P Q (requestOf full key 16) 16 (sheets-both P Q (listed-first P p) (listed-first Q q)) (h .0) (h .1) (omega arith) (omega arith) (omega arith) (first-need P p))
+    ∙ ap (λ (l : List Pair). pageOf (sourceOf P Q full) l key 16) (full-ring-list (pointsOf P) (pointsOf Q))
+
 module _ {P Q : List ℤ} {hp hq : Head} (b : Both P hp Q hq) where
   pub ascending : ascends start (pairsOf P Q) ≡ true
   ascending = ring-ascends (pointsOf P) (pointsOf Q) (points-rise (b .p-opens)) (points-rise (b .q-opens))
@@ -69,13 +79,6 @@ module _ {P Q : List ℤ} {hp hq : Head} (b : Both P hp Q hq) where
   line-size v m =
       let h = member-has v m in
       ring-size (pointsOf P) (pointsOf Q) (points-rise (b .p-opens)) (points-rise (b .q-opens)) v m (positionOf (pointsOf Q) (v .q)) (positionOf (pointsOf P) (v .p)) (h .0) (h .1) (named (pointsOf Q) (v .q) (h .0)) (named (pointsOf P) (v .p) (h .1))
-
-  -- a request for sixteen pairs after a key in range is answered
-  pub page-is : (key : Key) → InRange key → (a : Paged) → a ≡ pageAnswer P Q (requestOf full key 16) → a .page ≡ pageOf (sourceOf P Q full) (pairsOf P Q) key 16
-  unfolding pageGiven
-  page-is key h a e =
-      ap (λ (x : Paged). x .page) (e ∙ ring-page-served P Q (requestOf full key 16) (sheets-both P Q (b .p-no) (b .q-no)) (h .0) (h .1) (omega arith) (omega arith) (omega arith))
-      ∙ ap (λ (l : List Pair). pageOf (sourceOf P Q full) l key 16) (full-ring-list (pointsOf P) (pointsOf Q))
 
   module _ (key : Key) (s : Source) (g : Page) (e : g ≡ pageOf s (pairsOf P Q) key 16) where
     pub page-count : g .count ≡ length (shown (pairsOf P Q) key 16)

@@ -11,7 +11,8 @@ use Rattle.words.specs.Bytes.{wordsOf}
 use Rattle.words.specs.Range.{lastId}
 use Rattle.words.specs.First.{answer}
 use Rattle.sheet.specs.Places.{pointsOf}
-use Rattle.sheet.specs.Open.{sheetNo, Opens}
+use Rattle.sheet.specs.Limits.{form1}
+use Rattle.sheet.specs.Open.{openNo, Opens}
 use Rattle.list.specs.declared.Key.{Key}
 use Rattle.list.specs.declared.Pair.{Pair}
 use Rattle.list.specs.Pairs.{lastOr, after, isNone}
@@ -29,9 +30,13 @@ use Rattle.lister.specs.declared.Outcome.the-variants.{BadInput, BadQ, B
 abbrev pub pairsOf : List ℤ → List ℤ → List Pair
 pairsOf P Q = ringList (pointsOf P) (pointsOf Q)
 
--- "It opens Q first. It prints `refused q N` or `refused p N` alone"
+-- the number of a sheet of form 1: "2 for a form other than 1 or 2 [..], and from the listing program for form 2" [Y16]
+abbrev pub firstNo : List ℤ → ℕ
+firstNo w = openNo form1 w
+
+-- "It opens Q first. It prints `refused q N` or `refused p N` alone" [Y16]
 unfoldable pub sheetsOutcome : List ℤ → List ℤ → Outcome
-sheetsOutcome P Q = answer (sheetNo Q) (answer (sheetNo P) (Listed (length (pairsOf P Q))) BadP) BadQ
+sheetsOutcome P Q = answer (firstNo Q) (answer (firstNo P) (Listed (length (pairsOf P Q))) BadP) BadQ
 
 -- P's words, then Q's
 unfoldable pub wordsOutcome : List ℤ → Outcome
@@ -60,10 +65,10 @@ printed P Q (BadQ n) = refusal (BadQ n)
 printed P Q (BadP n) = refusal (BadP n)
 printed P Q (Listed n) = listingOf (pointsOf P) (pointsOf Q)
 
--- two sheets that open, as the functions inside ask it
+-- two sheets of form 1 that open, as the functions inside ask it
 pub record Both (P : List ℤ) (hp : Head) (Q : List ℤ) (hq : Head) : Type 0 where
-  pub p-no : sheetNo P ≡ 0
-  pub q-no : sheetNo Q ≡ 0
+  pub p-no : firstNo P ≡ 0
+  pub q-no : firstNo Q ≡ 0
   pub p-opens : Opens P (hp .n) (hp .m)
   pub q-opens : Opens Q (hq .n) (hq .m)
 

@@ -55,18 +55,20 @@ fn say(o: Outcome) -> bool {
     io::write_all(STDOUT_FILENO, &out[..n])
 }
 
-// Opens Q, then P, and lists their ring pairs.
+// Opens Q, then P, both of form 1, and lists their ring pairs. A sheet of form 2 is refused by 2.
 pub fn list_sheets(p: &[i32], q: &[i32]) -> Outcome
     ensures { λ r. ⌜ r ≡ sheetsOutcome (now (p .entry)) (now (q .entry)) ⌝ }
 {
+    let q_no = sheet::open_first(q);
+    if q_no != 0 {
+        return Outcome::BadQ(q_no);
+    }
+    let p_no = sheet::open_first(p);
+    if p_no != 0 {
+        return Outcome::BadP(p_no);
+    }
     let hq = ring::open::head_of(q);
-    if hq.number != 0 {
-        return Outcome::BadQ(hq.number);
-    }
     let hp = ring::open::head_of(p);
-    if hp.number != 0 {
-        return Outcome::BadP(hp.number);
-    }
     Outcome::Listed(pages::list_pairs(p, hp, q, hq))
 }
 

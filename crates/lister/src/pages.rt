@@ -9,10 +9,12 @@ ghost use Prim.Native.Nat.{_+_, _≤_};
 ghost use lib.ListN.{length};
 ghost use Rattle.sheet.specs.Places.{pointsOf};
 ghost use Rattle.list.specs.Pairs.{lastOr};
-ghost use Rattle.list.specs.Pages.{pagePairs, shown};
+ghost use Rattle.list.specs.Pages.{pageOf, pagePairs, shown};
+ghost use Rattle.list.specs.Terms.{full};
+ghost use Rattle.ring.specs.Page.{sourceOf};
 ghost use Rattle.text.specs.Text.{Grown};
 ghost use Rattle.lister.specs.Listing.{linesOf};
-ghost use Rattle.lister.specs.Outcome.{Both, InRange, pairsOf, ShownBy};
+ghost use Rattle.lister.specs.Outcome.{firstNo, Both, InRange, pairsOf, ShownBy};
 
 // The key of the last pair that a page shows, or the page's own key.
 fn last_key(g: Page) -> Key
@@ -26,6 +28,21 @@ fn last_key(g: Page) -> Key
     list::key_of(g.pairs[n - 1])
 }
 
+// The page of sixteen pairs that follows a key. Sixteen words hold the kept bits of a sheet of form 1.
+fn page_after(p: &[i32], q: &[i32], key: Key) -> Page
+    requires { ⌜ (firstNo (now p) ≡ 0) × (firstNo (now q) ≡ 0) × InRange key ⌝ }
+    ensures { λ r. ⌜ r ≡ pageOf (sourceOf (now (p .entry)) (now (q .entry)) full) (pairsOf (now (p .entry)) (now (q .entry))) key 16 ⌝ }
+{
+    let request = list::Request {
+        key: key,
+        size: 16,
+        threshold: 0,
+    };
+    let mut bits = [0u64; 16];
+    let a = ring::page::page(p, q, request, &mut bits);
+    a.page
+}
+
 // The lines of the page that follows a key.
 fn put_next(p: &[i32], hp: Head, q: &[i32], hq: Head, key: Key, out: &mut [u8], at: usize) -> Shown
     requires { ⌜ Both (now p) hp (now q) hq × InRange key × (at + 1712 ≤ length (now out)) ⌝ }
@@ -33,13 +50,7 @@ fn put_next(p: &[i32], hp: Head, q: &[i32], hq: Head, key: Key, out: &mut [u8], 
     ensures { λ r. ⌜ ShownBy (pairsOf (now (p .entry)) (now (q .entry))) key r ⌝ }
     ensures { λ r. ⌜ r .to ≤ at + 1712 ⌝ }
 {
-    let request = list::Request {
-        key: key,
-        size: 16,
-        threshold: 0,
-    };
-    let a = ring::page::page(p, q, request);
-    let g = a.page;
+    let g = page_after(p, q, key);
     let to = crate::lines::put_page(p, hp, q, hq, g, out, at);
     let last = last_key(g);
     Shown {

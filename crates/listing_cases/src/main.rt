@@ -1,4 +1,4 @@
-// Lists each of the files c00 to c59 of its folder, under its name.
+// Lists each of the files c00 to c65 of its folder, under its name.
 fn list_file(i: u8) {
     let name = [b'c', b'0' + i / 10, b'0' + i % 10];
     io::write_all(libc::STDOUT_FILENO, &name);
@@ -14,7 +14,7 @@ fn list_file(i: u8) {
 }
 
 fn main() {
-    for i in 0..60u8 {
+    for i in 0..66u8 {
         list_file(i);
     }
 }

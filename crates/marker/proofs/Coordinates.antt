@@ -10,15 +10,15 @@ use Rattle.integers.proofs.Bools.{and-left, and-right}
 use Rattle.integers.specs.Bounds.{Within}
 use Rattle.integers.proofs.Order.{in-+, in-up, sfits-in}
 use Rattle.words.proofs.RangeLaws.{coord-in}
-use Rattle.sheet.specs.Limits.{form1}
+use Rattle.sheet.specs.Limits.{form2}
 use Rattle.marker.specs.Mark.{coordinate, onMap}
 
-limit : form1 .coordinate ≤ℤ pos 1000000000
-unfolding form1
+limit : form2 .coordinate ≤ℤ pos 1000000000
+unfolding form2
 limit = record { le = tt }
 
 pub sum-in : (a b : ℤ) → coordinate a ≡ true → coordinate b ≡ true → Within 2000000000 (a +ℤ b)
-sum-in a b h k = in-up (in-+ (coord-in (form1 .coordinate) a 1000000000 limit h) (coord-in (form1 .coordinate) b 1000000000 limit k)) tt
+sum-in a b h k = in-up (in-+ (coord-in (form2 .coordinate) a 1000000000 limit h) (coord-in (form2 .coordinate) b 1000000000 limit k)) tt
 
 -- a sum, read back from its bits
 pub read-back : {r z : ℤ} → r ≡ z → Within 2000000000 z → toZ w64 (ofZ w64 r) ≡ z

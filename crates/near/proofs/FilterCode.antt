@@ -14,12 +14,12 @@ use Rattle.integers.proofs.Bools.{decide}
 use Rattle.plane.specs.declared.Spot.{Spot}
 use Rattle.sheet.specs.Layout.{points, nodes}
 use Rattle.sheet.specs.Open.{Opens}
-use Rattle.bits.specs.Set.{none, some, Finds}
+use Rattle.bits.specs.Set.{none, some, Finds, wiped}
 use Rattle.bits.proofs.SomeLaws.{finds-some}
 use Rattle.walk.specs.FilterWalk.{Kept, soFar, shut, consider}
 use Rattle.near.specs.Waiting.{withCovered}
 use Rattle.near.specs.NearWalk.{nearAll, rootWaits, nearKept}
-use Rattle.near.specs.Room.{wiped, listed, Past}
+use Rattle.near.specs.Room.{listed, Past}
 use Rattle.near.proofs.WaitingLaws.{past-same, past-wider, past-past, wiped-past}
 use Rattle.near.proofs.WalkCode.{load, Going, going-start, going-less, going-meet, going-skip, going-under, going-open, going-end}
 

@@ -26,9 +26,10 @@ use Rattle.walk.specs.Walk.{inTurn}
 use Rattle.walk.proofs.TurnLaws.{Turn, turn-start, turn-step, turn-end}
 use Rattle.near.specs.Waiting.{boxEntry, away, distance, before, insert, covered, withCovered}
 use Rattle.near.specs.NearWalk.{rootWaits}
-use Rattle.near.specs.Room.{wiped, listed, Kind, box, point, InRun, Each, Past}
+use Rattle.near.specs.Room.{listed, Kind, box, point, InRun, Each, Past}
 use Rattle.near.proofs.ListLaws.{each-head, each-tail, insert-each}
 use Rattle.near.proofs.EntryLaws.{covered-kind, run-small}
+use Rattle.bits.specs.Set.{wiped}
 
 -- ---- distances
 

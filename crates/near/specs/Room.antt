@@ -7,10 +7,6 @@ use lib.ListN.{length, getD, drop, replicate}
 use Rattle.sheet.specs.Nodes.{firstOf, countOf}
 use Rattle.near.specs.Waiting.{boxEntry, pointEntry}
 
--- "the first n + m zero after an answer, the rest untouched": the first k of the lent numbers are 0, and the others as they were [G7, G8]
-unfoldable pub wiped : ℕ → List ℕ → List ℕ
-wiped k ws = replicate k 0 ++ drop k ws
-
 -- sixteen numbers: those of the list, and then 0
 unfoldable pub zeroFilled : List ℕ → List ℕ
 zeroFilled l = l ++ replicate (16 - length l) 0

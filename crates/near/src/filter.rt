@@ -5,10 +5,9 @@ ghost use Prim.Native.Nat.{_+_, _≤_, _<_};
 ghost use lib.ListN.{length};
 ghost use Rattle.plane.specs.Rule.{SpotIn};
 ghost use Rattle.sheet.specs.Open.{Opens};
-ghost use Rattle.bits.specs.Set.{Holds};
+ghost use Rattle.bits.specs.Set.{Holds, wiped};
 ghost use Rattle.walk.specs.FilterWalk.{shut, consider};
 ghost use Rattle.near.specs.NearWalk.{nearKept};
-ghost use Rattle.near.specs.Room.{wiped};
 
 // Whether a kept one drops all of the box of node j, for q.
 fn is_shut(w: &[i32], n: usize, m: usize, q: Spot, j: usize, bits: &[u64]) -> bool

@@ -6,7 +6,8 @@ ghost use lib.ListN.{length, take};
 ghost use Rattle.plane.specs.Rule.{SpotIn};
 ghost use Rattle.sheet.specs.Open.{Opens};
 ghost use Rattle.near.specs.NearWalk.{nearOrder};
-ghost use Rattle.near.specs.Room.{wiped, zeroFilled};
+ghost use Rattle.near.specs.Room.{zeroFilled};
+ghost use Rattle.bits.specs.Set.{wiped};
 
 // So many positions; the rest are 0.
 pub struct Firsts {

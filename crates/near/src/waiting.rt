@@ -10,7 +10,8 @@ ghost use Rattle.sheet.specs.Nodes.{levelOf, countOf};
 ghost use Rattle.sheet.specs.Open.{Opens};
 ghost use Rattle.near.specs.Waiting.{away, distance, before, insert, covered, withCovered};
 ghost use Rattle.near.specs.NearWalk.{rootWaits};
-ghost use Rattle.near.specs.Room.{wiped, listed, Kind, InRun, Each, Past};
+ghost use Rattle.near.specs.Room.{listed, Kind, InRun, Each, Past};
+ghost use Rattle.bits.specs.Set.{wiped};
 
 // The squared distance of q to a box.
 fn box_distance(q: Spot, o: Boxed) -> u64

@@ -1,4 +1,4 @@
--- The answers of the calls, by their numbers; and the lent numbers after them.
+-- The answers of the calls, by their numbers; and the lent numbers and words after them.
 -- Assumes nothing.
 use mathlib.Core.Path.{_≡_, refl, sym, ap, _∙_}
 use mathlib.Core.List.{List, [], _∷_, _++_, map, append-assoc}
@@ -6,10 +6,10 @@ use Prim.Native.Nat.{ℕ, suc, _+_, _-_, _≤_, _<_}
 use native.Mathlib.Omega.{arith}
 use native.Mathlib.Numerals.{add-one}
 use lib.IntN.{ℤ, pos}
-use lib.ListN.{length, getD, take, set, replicate, length-map, length-take, List·getD-append}
+use lib.ListN.{length, getD, take, drop, set, replicate, length-map, length-take, List·getD-append}
 use lib.Seq.{take-suc, take-all, set-at, length-take-le, getD-take}
 use borrow.Author.Tests.{lt-ltb, le-ltb}
-use Rattle.words.specs.First.{given}
+use Rattle.words.specs.First.{given, first}
 use Rattle.words.proofs.FirstLaws.{first-passes, first-stops, first-last, answer-given, answer-refused}
 use Rattle.plane.specs.declared.Spot.{Spot}
 use Rattle.plane.specs.Rule.{size}
@@ -19,19 +19,23 @@ use Rattle.sheet.specs.Layout.{points, nodes}
 use Rattle.sheet.specs.Places.{spotOf, pointsOf}
 use Rattle.sheet.specs.Open.{Opens}
 use Rattle.sheet.proofs.SheetLaws.{by-counts}
-use Rattle.bits.specs.Set.{card}
+use Rattle.bits.specs.Set.{wordsFor, wiped, Holds}
+use Rattle.bits.proofs.LentLaws.{words-enough, lent-holds, part-long}
 use Rattle.walk.specs.FilterWalk.{Kept}
 use Rattle.near.specs.NearWalk.{nearOrder, nearKept}
-use Rattle.near.specs.Room.{wiped, zeroFilled}
+use Rattle.near.specs.Room.{zeroFilled}
 use Rattle.near.specs.Claims.{distanceTo}
 use Rattle.near.proofs.OrderLaws.{order-small}
+use Rattle.near.proofs.Meaning.{near-words}
 use Rattle.ring.specs.declared.Filtered.{Filtered}
 use Rattle.list.specs.Pages.{sizeNo}
+use Rattle.ring.specs.Lent.{need, bitsNo}
 use Rattle.ring.specs.Answers.{filteredTo, unfiltered}
+use Rattle.ring.proofs.LentLaws.{bits-short, bits-enough, kept-refused, wiped-refused, kept-given, wiped-given}
 use Rattle.nearest.specs.declared.Near.{Near}
 use Rattle.nearest.specs.declared.Found.{Found}
 use Rattle.nearest.specs.declared.Chamber.{Chamber}
-use Rattle.nearest.specs.Nearest.{waitNo, chamberNo, nearestNo, nearFilterNo, standsAt, chamberFound, noPoint, nearAt, sixteen, nearestAt, nearestRefused, nearestAnswer, nearFiltered, waitedBy}
+use Rattle.nearest.specs.Nearest.{waitNo, chamberNo, nearestNo, nearFilterNo, standsAt, chamberFound, noPoint, nearAt, sixteen, nearestAt, nearestRefused, nearestAnswer, nearKeptFor, nearFiltered, nearFilteredBits, waitedBy}
 use Rattle.nearest.proofs.ChamberLaws.{chamber-number, chamber-front, Placed, placed-facts}
 
 -- ---- the pump houses, one by one
@@ -105,7 +109,7 @@ module _ (P Q : List ℤ) (id k : ℕ) (ws : List ℕ) where
 
   nearest-refused : (i : ℕ) → no ≡ i → (i ≡ 0 → ⊥) → (r : Found) → r ≡ nearestRefused i → Answered r ws
   unfolding nearestAnswer waitedBy
-  nearest-refused i e ne r f = (f ∙ sym (answer-refused _ nearestRefused _ i e ne), sym (answer-refused _ (λ n. ws) _ i e ne))
+  nearest-refused i e ne r f = (f ∙ sym (answer-refused _ nearestRefused _ i e ne), wiped-refused ws _ _ i e ne)
 
   module _ (c : Chamber) (e : c ≡ chamberFound P Q id) where
     pub nearest-chamber : (c .number ≡ 0 → ⊥) → (r : Found) → r ≡ nearestRefused (c .number) → Answered r ws
@@ -136,47 +140,67 @@ module _ (P Q : List ℤ) (id k : ℕ) (ws : List ℕ) where
         nearest-call-given h r q ws′ i f d =
             let v : no ≡ 0 = passes ∙ (rw (le-ltb (length ws) (points P + nodes P) (omega (arith, at .n-is, at .m-is)))) in
             let s : c .n + c .m ≡ points P + nodes P = omega (arith, at .n-is, at .m-is) in
-            (f ∙ ap (λ (x : Spot). nearestAt P x k) (i ∙ at .at-is) ∙ sym (answer-given _ nearestRefused _ v), d ∙ ap (λ (x : ℕ). wiped x ws) s ∙ sym (answer-given _ (λ n. ws) _ v))
+            (f ∙ ap (λ (x : Spot). nearestAt P x k) (i ∙ at .at-is) ∙ sym (answer-given _ nearestRefused _ v), d ∙ ap (λ (x : ℕ). wiped x ws) s ∙ wiped-given ws _ _ v)
 
 -- ---- near_filter
 
-module _ (P Q : List ℤ) (id : ℕ) (ws : List ℕ) where
+module _ (P Q : List ℤ) (id : ℕ) (ws bs : List ℕ) where
   abbrev filter-no : ℕ
-  filter-no = nearFilterNo P Q id (length ws)
+  filter-no = nearFilterNo P Q id (length bs) (length ws)
 
-  abbrev Filters : Filtered → List ℕ → Type 0
-  Filters r ws′ = (r ≡ nearFiltered P Q id (length ws)) × (ws′ ≡ waitedBy filter-no P ws)
+  -- the answer, the lent numbers and the lent words after it
+  abbrev Filters : Filtered → List ℕ → List ℕ → Type 0
+  Filters r ws′ bs′ = (r ≡ nearFiltered P Q id (length bs) (length ws)) × (ws′ ≡ waitedBy filter-no P ws) × (bs′ ≡ nearFilteredBits P Q id (length ws) bs)
 
-  filter-refused : (i : ℕ) → filter-no ≡ i → (i ≡ 0 → ⊥) → (r : Filtered) → r ≡ unfiltered i → Filters r ws
-  unfolding nearFiltered waitedBy
-  filter-refused i e ne r f = (f ∙ sym (answer-refused _ unfiltered _ i e ne), sym (answer-refused _ (λ n. ws) _ i e ne))
+  stops : (i : ℕ) → filter-no ≡ i → (i ≡ 0 → ⊥) → (r : Filtered) → r ≡ unfiltered i → Filters r ws bs
+  unfolding nearFiltered waitedBy nearFilteredBits
+  stops i e ne r f = (f ∙ sym (answer-refused _ unfiltered _ i e ne), wiped-refused ws _ _ i e ne, kept-refused bs _ _ i e ne)
 
   module _ (c : Chamber) (e : c ≡ chamberFound P Q id) where
-    pub filter-chamber : (c .number ≡ 0 → ⊥) → (r : Filtered) → r ≡ unfiltered (c .number) → Filters r ws
+    pub near-filter-chamber : (c .number ≡ 0 → ⊥) → (r : Filtered) → r ≡ unfiltered (c .number) → Filters r ws bs
     unfolding nearFilterNo
-    filter-chamber ne r f =
+    near-filter-chamber ne r f =
         let n = chamber-number P Q id c e in
-        filter-refused (c .number) (chamber-front P Q id _ ∙ first-stops (chamberNo P Q id) _ (λ x. ne (n ∙ x)) ∙ sym n) ne r f
+        stops (c .number) (chamber-front P Q id _ ∙ first-stops (chamberNo P Q id) _ (λ x. ne (n ∙ x)) ∙ sym n) ne r f
 
-    module _ (z : c .number ≡ 0) where
+    module _ (z : c .number ≡ 0) (w : ℕ) (as-many : w ≡ wordsFor (c .n)) where
       filter-at : Placed P Q id c
       filter-at = placed-facts P Q id c e z
 
-      filter-passes : filter-no ≡ waitNo P (length ws)
+      needed : w ≡ need P
+      needed = as-many ∙ ap wordsFor (filter-at .n-is)
+
+      after : filter-no ≡ first (bitsNo (need P) (length bs) ∷ waitNo P (length ws) ∷ [])
       unfolding nearFilterNo
-      filter-passes = chamber-front P Q id _ ∙ first-passes (chamberNo P Q id) _ (filter-at .no) ∙ first-last _
+      after = chamber-front P Q id _ ∙ first-passes (chamberNo P Q id) _ (filter-at .no)
 
-      pub filter-room : length ws < c .n + c .m → (r : Filtered) → r ≡ unfiltered 25 → Filters r ws
-      unfolding waitNo given
-      filter-room h r f = filter-refused 25 (filter-passes ∙ (rw (lt-ltb (length ws) (points P + nodes P) (omega (arith, filter-at .n-is, filter-at .m-is))))) (λ x. omega arith) r f
+      pub near-filter-few : length bs < w → (r : Filtered) → r ≡ unfiltered 24 → Filters r ws bs
+      near-filter-few h r f =
+          let no = bits-short (need P) (length bs) (omega (arith, needed)) in
+          stops 24 (after ∙ first-stops _ _ (λ x. omega (arith, x, no)) ∙ no) (λ x. omega arith) r f
 
-      pub nearest-filter-given : c .n + c .m ≤ length ws → (q : Spot) (b : List ℕ) (count opened : ℕ) (ws′ : List ℕ) → q ≡ c .at → b ≡ nearKept 16 P q .bits → opened ≡ nearKept 16 P q .opened → count ≡ card b → ws′ ≡ wiped (c .n + c .m) ws → Filters (record { number = 0; bits = b; count = count; opened = opened }) ws′
-      unfolding waitNo given nearFiltered waitedBy filteredTo
-      nearest-filter-given h q b count opened ws′ i eb eo ec d =
-          let v : filter-no ≡ 0 = filter-passes ∙ (rw (le-ltb (length ws) (points P + nodes P) (omega (arith, filter-at .n-is, filter-at .m-is)))) in
-          let s : c .n + c .m ≡ points P + nodes P = omega (arith, filter-at .n-is, filter-at .m-is) in
-          let k : nearKept 16 P q ≡ nearKept 16 P (standsAt Q id) = ap (nearKept 16 P) (i ∙ filter-at .at-is) in
-          let x : b ≡ nearKept 16 P (standsAt Q id) .bits = eb ∙ ap (λ (f : Kept). f .bits) k in
-          let y : opened ≡ nearKept 16 P (standsAt Q id) .opened = eo ∙ ap (λ (f : Kept). f .opened) k in
-          let u : count ≡ card (nearKept 16 P (standsAt Q id) .bits) = ec ∙ ap card x in
-          ((λ t. record { number = 0; bits = x t; count = u t; opened = y t }) ∙ sym (answer-given _ unfiltered _ v), d ∙ ap (λ (a : ℕ). wiped a ws) s ∙ sym (answer-given _ (λ n. ws) _ v))
+      module _ (fits : w ≤ length bs) where
+        last : filter-no ≡ waitNo P (length ws)
+        last = after ∙ first-passes _ _ (bits-enough (need P) (length bs) (omega (arith, needed))) ∙ first-last _
+
+        pub near-filter-room : length ws < c .n + c .m → (r : Filtered) → r ≡ unfiltered 25 → Filters r ws bs
+        unfolding waitNo given
+        near-filter-room h r f = stops 25 (last ∙ (rw (lt-ltb (length ws) (points P + nodes P) (omega (arith, filter-at .n-is, filter-at .m-is))))) (λ x. omega arith) r f
+
+        -- what the walk asks of the first words
+        pub near-filter-asked : Holds (take w bs) (c .n)
+        near-filter-asked = lent-holds (take w bs) (c .n) (omega (arith, filter-at .opens .n-le)) (part-long bs w fits ∙ as-many)
+
+        -- what the walk over P left for the place of the chamber on the first words, and in the lent numbers
+        pub near-filter-walks : c .n + c .m ≤ length ws → (q : Spot) → q ≡ c .at → (r : Filtered) → r ≡ filteredTo (nearKept (length (take w bs)) P q) → (ws′ : List ℕ)
+            → ws′ ≡ wiped (c .n + c .m) ws → (b : List ℕ) → b ≡ nearKept (length (take w bs)) P q .bits → Filters r ws′ (b ++ drop w bs)
+        unfolding waitNo given nearFiltered waitedBy nearFilteredBits
+        near-filter-walks h q at-q r r-is ws′ ws-is b b-is =
+            let o = filter-at in
+            let no : filter-no ≡ 0 = last ∙ (rw (le-ltb (length ws) (points P + nodes P) (omega (arith, o .n-is, o .m-is)))) in
+            let s : c .n + c .m ≡ points P + nodes P = omega (arith, o .n-is, o .m-is) in
+            let long : length (take w bs) ≡ need P = part-long bs w fits ∙ needed in
+            let k : nearKept (length (take w bs)) P q ≡ nearKeptFor P Q id = ap (λ (n : ℕ). nearKept n P q) long ∙ ap (nearKept (need P) P) (at-q ∙ o .at-is) in
+            let x : b ≡ nearKeptFor P Q id .bits = b-is ∙ ap (λ (f : Kept). f .bits) k in
+            let l : w ≡ length (nearKeptFor P Q id .bits) = needed ∙ sym (near-words (need P) P (standsAt Q id) (by-counts (o .opens)) (words-enough (points P))) in
+            (r-is ∙ ap filteredTo k ∙ sym (answer-given _ unfiltered _ no), ws-is ∙ ap (λ (a : ℕ). wiped a ws) s ∙ wiped-given ws _ _ no, (λ i. x i ++ drop (l i) bs) ∙ kept-given bs _ _ no)

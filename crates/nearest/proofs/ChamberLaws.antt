@@ -62,7 +62,6 @@ module _ (P Q : List ℤ) (id : ℕ) where
     pub n-is : c .n ≡ points P
     pub m-is : c .m ≡ nodes P
     pub at-is : c .at ≡ standsAt Q id
-    pub n-le : c .n ≤ 1000
     pub opens : Opens P (c .n) (c .m)
     pub within : SpotIn (c .at)
 
@@ -80,7 +79,6 @@ module _ (P Q : List ℤ) (id : ℕ) where
         n-is = ap (λ (g : Chamber). g .n) f;
         m-is = ap (λ (g : Chamber). g .m) f;
         at-is = ap (λ (g : Chamber). g .at) f;
-        n-le = omega (arith, ap (λ (g : Chamber). g .n) f, o .np-is, o .np-le);
         opens = subst (λ (g : Chamber). Opens P (g .n) (g .m)) (sym f) (by-counts (o .p-facts));
         within = subst (λ (g : Chamber). SpotIn (g .at)) (sym f) (spot-in (o .q-facts) (positionOf (pointsOf Q) id) j);
       }

@@ -1,8 +1,9 @@
 -- What the answers of the calls mean, from their promises alone.
 --
 --     nearest-call-no, near-filter-call-no      the number is the first that applies
---     nearest-refused, near-filter-refused, waited-refused      refused, all else is zero, and what was lent is as it was
---     nearest-served, near-filter-served      sheets that open, the id of a chamber, a size from 1 to 16 and enough numbers lent are served
+--     nearest-refused, near-filter-refused, waited-refused, near-filter-words-refused      refused, all else is zero, and what was lent is as it was
+--     near-filter-words-given      the filter's kept set stands in the first of the lent words
+--     nearest-served, near-filter-served      sheets that open, the id of a chamber, a size from 1 to 16, enough numbers and enough words lent are served
 --     nearest-chamber-is      the chamber with an id
 --     nearest-count, nearest-at, nearest-unused     the pump houses given are the first of the order in which the walk comes to them, which near's Meaning speaks of
 --     near-pairs      a ring partner of the chamber is a kept position whose ring walk is clear, and no other
@@ -10,8 +11,8 @@
 -- Assumes nothing.
 use mathlib.Core.Path.{_≡_, refl, sym, ap, _∙_}
 use mathlib.Core.Bool.{_&&_}
-use mathlib.Core.List.{List, [], _∷_, map}
-use Prim.Native.Nat.{ℕ, zero, suc, min, _+_, _-_, _*_, _≤_, _<_}
+use mathlib.Core.List.{List, [], _∷_, _++_, map}
+use Prim.Native.Nat.{ℕ, zero, suc, min, _+_, _-_, _≤_, _<_}
 use native.Mathlib.Omega.{arith}
 use lib.IntN.{ℤ}
 use lib.ListN.{length, getD, take, drop, replicate, length-map, length-take, List·getD-append}
@@ -30,20 +31,22 @@ use Rattle.sheet.proofs.PointsLaws.{length-points}
 use Rattle.list.specs.RingList.{ringPair}
 use Rattle.list.proofs.RowLaws.{by-id}
 use Rattle.join.proofs.Meaning.{points-rise}
-use Rattle.bits.specs.Set.{kept}
+use Rattle.bits.specs.Set.{kept, wiped}
+use Rattle.bits.proofs.LentLaws.{words-enough}
 use Rattle.walk.specs.RingWalk.{clear, pairWalk}
 use Rattle.near.specs.NearWalk.{nearOrder, nearKept}
-use Rattle.near.specs.Room.{wiped}
-use Rattle.near.proofs.Meaning.{near-all, near-exact}
+use Rattle.near.proofs.Meaning.{near-all, near-words, near-exact}
 use Rattle.ring.specs.declared.Filtered.{Filtered}
 use Rattle.ring.specs.Numbers.{sheetsNo}
 use Rattle.list.specs.Pages.{sizeNo}
 use Rattle.list.proofs.PageLaws.{size-taken}
+use Rattle.ring.specs.Lent.{need}
 use Rattle.ring.specs.Answers.{filteredTo, unfiltered}
+use Rattle.ring.proofs.LentLaws.{bits-enough, kept-refused, wiped-refused, kept-given, wiped-given}
 use Rattle.ring.proofs.HeadLaws.{sheets-open}
 use Rattle.nearest.specs.declared.Near.{Near}
 use Rattle.nearest.specs.declared.Found.{Found}
-use Rattle.nearest.specs.Nearest.{waitNo, chamberNo, nearestNo, nearFilterNo, standsAt, noPoint, nearAt, sixteen, nearestAt, nearestRefused, nearestAnswer, nearFiltered, waitedBy}
+use Rattle.nearest.specs.Nearest.{waitNo, chamberNo, nearestNo, nearFilterNo, standsAt, noPoint, nearAt, sixteen, nearestAt, nearestRefused, nearestAnswer, nearKeptFor, nearFiltered, nearFilteredBits, waitedBy}
 use Rattle.nearest.proofs.ChamberLaws.{chamber-front}
 use Rattle.sheet.specs.Find.{positionOf}
 use Rattle.ring.specs.Partners.{idNo}
@@ -54,11 +57,11 @@ use Rattle.sheet.proofs.FindLaws.{has}
 -- what was lent, by the number of the call
 pub waited-refused : (k : ℕ) (P : List ℤ) (ws : List ℕ) → (k ≡ 0 → ⊥) → waitedBy k P ws ≡ ws
 unfolding waitedBy
-waited-refused k P ws ne = answer-refused _ (λ n. ws) k k refl ne
+waited-refused k P ws ne = sym (wiped-refused ws (points P + nodes P) k k refl ne)
 
 pub waited-given : (k : ℕ) (P : List ℤ) (ws : List ℕ) → k ≡ 0 → waitedBy k P ws ≡ wiped (points P + nodes P) ws
 unfolding waitedBy
-waited-given k P ws e = answer-given _ (λ n. ws) k e
+waited-given k P ws e = sym (wiped-given ws (points P + nodes P) k e)
 
 module _ (P Q : List ℤ) (id k len : ℕ) where
   pub nearest-refused : (i : ℕ) → nearestNo P Q id k len ≡ i → (i ≡ 0 → ⊥) → nearestAnswer P Q id k len ≡ nearestRefused i
@@ -73,18 +76,30 @@ module _ (P Q : List ℤ) (id k len : ℕ) where
   unfolding nearestAnswer nearestAt nearestRefused
   nearest-call-no = answer-number (nearestAt P (standsAt Q id) k) nearestRefused (λ r. r .number) refl (λ i. refl) (nearestNo P Q id k len)
 
-module _ (P Q : List ℤ) (id len : ℕ) where
-  pub near-filter-refused : (i : ℕ) → nearFilterNo P Q id len ≡ i → (i ≡ 0 → ⊥) → nearFiltered P Q id len ≡ unfiltered i
+module _ (P Q : List ℤ) (id bits len : ℕ) where
+  pub near-filter-refused : (i : ℕ) → nearFilterNo P Q id bits len ≡ i → (i ≡ 0 → ⊥) → nearFiltered P Q id bits len ≡ unfiltered i
   unfolding nearFiltered
   near-filter-refused i e ne = answer-refused _ unfiltered _ i e ne
 
-  pub near-filter-call-given : nearFilterNo P Q id len ≡ 0 → nearFiltered P Q id len ≡ filteredTo (nearKept 16 P (standsAt Q id))
+  pub near-filter-call-given : nearFilterNo P Q id bits len ≡ 0 → nearFiltered P Q id bits len ≡ filteredTo (nearKeptFor P Q id)
   unfolding nearFiltered
   near-filter-call-given e = answer-given _ unfiltered _ e
 
-  pub near-filter-call-no : nearFiltered P Q id len .number ≡ nearFilterNo P Q id len
+  pub near-filter-call-no : nearFiltered P Q id bits len .number ≡ nearFilterNo P Q id bits len
   unfolding nearFiltered filteredTo unfiltered
-  near-filter-call-no = answer-number (filteredTo (nearKept 16 P (standsAt Q id))) unfiltered (λ r. r .number) refl (λ i. refl) (nearFilterNo P Q id len)
+  near-filter-call-no = answer-number (filteredTo (nearKeptFor P Q id)) unfiltered (λ r. r .number) refl (λ i. refl) (nearFilterNo P Q id bits len)
+
+-- the lent words, by the number of the call: as they were, or the kept set in the first, as many as the points of P need
+module _ (P Q : List ℤ) (id len : ℕ) (bs : List ℕ) where
+  pub near-filter-words-refused : (nearFilterNo P Q id (length bs) len ≡ 0 → ⊥) → nearFilteredBits P Q id len bs ≡ bs
+  unfolding nearFilteredBits
+  near-filter-words-refused ne = sym (kept-refused bs _ _ _ refl ne)
+
+  pub near-filter-words-given : Opens P (points P) (nodes P) → nearFilterNo P Q id (length bs) len ≡ 0 → nearFilteredBits P Q id len bs ≡ nearKeptFor P Q id .bits ++ drop (need P) bs
+  unfolding nearFilteredBits
+  near-filter-words-given o e =
+      let set = nearKeptFor P Q id .bits in
+      sym (kept-given bs set _ e) ∙ ap (λ (n : ℕ). set ++ drop n bs) (near-words (need P) P (standsAt Q id) o (words-enough (points P)))
 
 -- ---- what is served
 
@@ -101,9 +116,10 @@ module _ (P Q : List ℤ) (id len : ℕ) (opens : sheetsNo P Q ≡ 0) (j : ℕ) 
   unfolding chamberNo
   chamber = sheets-open P Q _ opens ∙ first-last _ ∙ known
 
-  pub near-filter-served : nearFilterNo P Q id len ≡ 0
+  pub near-filter-served : (bits : ℕ) → need P ≤ bits → nearFilterNo P Q id bits len ≡ 0
   unfolding nearFilterNo
-  near-filter-served = chamber-front P Q id _ ∙ first-passes (chamberNo P Q id) _ chamber ∙ first-last _ ∙ enough
+  near-filter-served bits most =
+      chamber-front P Q id _ ∙ first-passes (chamberNo P Q id) _ chamber ∙ first-passes _ _ (bits-enough (need P) bits most) ∙ first-last _ ∙ enough
 
   pub nearest-served : (k : ℕ) → 1 ≤ k → k ≤ 16 → nearestNo P Q id k len ≡ 0
   unfolding nearestNo
@@ -154,11 +170,10 @@ module _ (P : List ℤ) (q : Spot) (k : ℕ) where
 
 -- ---- the filter
 
--- "Pairs made with its kept set equal the list"
-pub near-pairs : (P Q : List ℤ) → Opens P (points P) (nodes P) → Opens Q (points Q) (nodes Q) → points P ≤ 64 * 16 → (j i : ℕ) → j < points Q → i < points P
-    → ringPair (pointsOf P) (pointsOf Q) j i ≡ (kept (filteredTo (nearKept 16 P (spotOf Q j)) .bits) i && clear (pairWalk P Q j i .hit))
-unfolding filteredTo
-near-pairs P Q p-opens q-opens fits j i j-in i-in = near-exact 16 P Q p-opens fits j i j-in i-in q-opens
+-- "Pairs made with its kept set equal the list": the kept set on as many words as the points of P need
+pub near-pairs : (P Q : List ℤ) → Opens P (points P) (nodes P) → Opens Q (points Q) (nodes Q) → (j i : ℕ) → j < points Q → i < points P
+    → ringPair (pointsOf P) (pointsOf Q) j i ≡ (kept (nearKept (need P) P (spotOf Q j) .bits) i && clear (pairWalk P Q j i .hit))
+near-pairs P Q p-opens q-opens j i j-in i-in = near-exact (need P) P Q p-opens (words-enough (points P)) j i j-in i-in q-opens
 
 -- ---- one input, one answer, one final state
 
@@ -167,7 +182,8 @@ pub nearest-call-once : (P Q : List ℤ) (id k : ℕ) (ws : List ℕ) (r r′ : 
     → (r ≡ r′) × (t ≡ t′)
 nearest-call-once P Q id k ws r r′ t t′ a b = (a .0 ∙ sym (b .0), a .1 ∙ sym (b .1))
 
-pub near-filter-call-once : (P Q : List ℤ) (id : ℕ) (ws : List ℕ) (r r′ : Filtered) (t t′ : List ℕ)
-    → (r ≡ nearFiltered P Q id (length ws)) × (t ≡ waitedBy (nearFilterNo P Q id (length ws)) P ws) → (r′ ≡ nearFiltered P Q id (length ws)) × (t′ ≡ waitedBy (nearFilterNo P Q id (length ws)) P ws)
-    → (r ≡ r′) × (t ≡ t′)
-near-filter-call-once P Q id ws r r′ t t′ a b = (a .0 ∙ sym (b .0), a .1 ∙ sym (b .1))
+pub near-filter-call-once : (P Q : List ℤ) (id : ℕ) (ws bs : List ℕ) (r r′ : Filtered) (t t′ b b′ : List ℕ)
+    → (r ≡ nearFiltered P Q id (length bs) (length ws)) × (t ≡ waitedBy (nearFilterNo P Q id (length bs) (length ws)) P ws) × (b ≡ nearFilteredBits P Q id (length ws) bs)
+    → (r′ ≡ nearFiltered P Q id (length bs) (length ws)) × (t′ ≡ waitedBy (nearFilterNo P Q id (length bs) (length ws)) P ws) × (b′ ≡ nearFilteredBits P Q id (length ws) bs)
+    → (r ≡ r′) × (t ≡ t′) × (b ≡ b′)
+near-filter-call-once P Q id ws bs r r′ t t′ b b′ x y = (x .0 ∙ sym (y .0), x .1 ∙ sym (y .1), x .2 ∙ sym (y .2))

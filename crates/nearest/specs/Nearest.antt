@@ -15,15 +15,16 @@ use Rattle.sheet.specs.Places.{spotOf, pointsOf}
 use Rattle.sheet.specs.Open.{sheetNo}
 use Rattle.list.specs.Pages.{sizeNo}
 use Rattle.near.specs.NearWalk.{nearOrder, nearKept}
-use Rattle.near.specs.Room.{wiped}
 use Rattle.near.specs.Claims.{distanceTo}
 use Rattle.ring.specs.declared.Filtered.{Filtered}
 use Rattle.sheet.specs.Find.{positionOf}
 use Rattle.ring.specs.Partners.{idNo}
+use Rattle.ring.specs.Lent.{need, bitsNo, keptBy, wipedBy}
 use Rattle.ring.specs.Answers.{filteredTo, unfiltered}
 use Rattle.nearest.specs.declared.Near.{Near}
 use Rattle.nearest.specs.declared.Found.{Found}
 use Rattle.nearest.specs.declared.Chamber.{Chamber}
+use Rattle.walk.specs.FilterWalk.{Kept}
 
 -- ---- numbers
 
@@ -39,9 +40,9 @@ chamberNo P Q id = first (sheetNo P ∷ sheetNo Q ∷ idNo (pointsOf Q) id ∷ [
 unfoldable pub nearestNo : List ℤ → List ℤ → ℕ → ℕ → ℕ → ℕ
 nearestNo P Q id size len = first (sheetNo P ∷ sheetNo Q ∷ idNo (pointsOf Q) id ∷ sizeNo size ∷ waitNo P len ∷ [])
 
--- "the filter has no size" [G9, G10]
-unfoldable pub nearFilterNo : List ℤ → List ℤ → ℕ → ℕ → ℕ
-nearFilterNo P Q id len = first (sheetNo P ∷ sheetNo Q ∷ idNo (pointsOf Q) id ∷ waitNo P len ∷ [])
+-- "the filter has no size"; "24 bit slice too short, after all others but 16 and 25": for so many lent words and numbers [G9, G10, Y15]
+unfoldable pub nearFilterNo : List ℤ → List ℤ → ℕ → ℕ → ℕ → ℕ
+nearFilterNo P Q id bits len = first (sheetNo P ∷ sheetNo Q ∷ idNo (pointsOf Q) id ∷ bitsNo (need P) bits ∷ waitNo P len ∷ [])
 
 -- ---- answers
 
@@ -81,10 +82,18 @@ nearestRefused k = record { number = k; count = 0; points = replicate 16 noPoint
 unfoldable pub nearestAnswer : List ℤ → List ℤ → ℕ → ℕ → ℕ → Found
 nearestAnswer P Q id size len = answer (nearestNo P Q id size len) (nearestAt P (standsAt Q id) size) nearestRefused
 
--- the kept set on sixteen words, the number of bits set and the nodes opened; or the refusal
-unfoldable pub nearFiltered : List ℤ → List ℤ → ℕ → ℕ → Filtered
-nearFiltered P Q id len = answer (nearFilterNo P Q id len) (filteredTo (nearKept 16 P (standsAt Q id))) unfiltered
+-- what the walk for the chamber with this id keeps, on as many words as the points need
+abbrev pub nearKeptFor : List ℤ → List ℤ → ℕ → Kept
+nearKeptFor P Q id = nearKept (need P) P (standsAt Q id)
+
+-- the number of bits set and the nodes opened; or the refusal
+unfoldable pub nearFiltered : List ℤ → List ℤ → ℕ → ℕ → ℕ → Filtered
+nearFiltered P Q id bits len = answer (nearFilterNo P Q id bits len) (filteredTo (nearKeptFor P Q id)) unfiltered
+
+-- the lent words after it: "a filter walk leaves its kept set there" [Y9]
+unfoldable pub nearFilteredBits : List ℤ → List ℤ → ℕ → ℕ → List ℕ → List ℕ
+nearFilteredBits P Q id len ws = keptBy (nearFilterNo P Q id (length ws) len) (nearKeptFor P Q id .bits) ws
 
 -- ---- the lent numbers after a call by its number: "the first n + m zero after an answer, the rest untouched"; a refusal "leaves lent memory [..] as they stood" [G7, G8, G11]
 unfoldable pub waitedBy : ℕ → List ℤ → List ℕ → List ℕ
-waitedBy k P ws = answer k (wiped (points P + nodes P) ws) (λ n. ws)
+waitedBy k P ws = wipedBy k (points P + nodes P) ws

@@ -5,11 +5,12 @@ use ring::Filtered;
 ghost use mathlib.Core.Path.{_≡_};
 ghost use Prim.Native.Nat.{_+_, _≤_, _<_};
 ghost use lib.ListN.{length};
+ghost use Rattle.bits.specs.Set.{wiped, Holds};
 ghost use Rattle.plane.specs.Rule.{SpotIn};
 ghost use Rattle.sheet.specs.Open.{Opens};
-ghost use Rattle.near.specs.Room.{wiped};
-ghost use Rattle.ring.specs.Answers.{unfiltered};
-ghost use Rattle.nearest.specs.Nearest.{nearestNo, nearFilterNo, unplacedAt, chamberFound, nearAt, nearestAt, nearestRefused, nearestAnswer, nearFiltered, waitedBy};
+ghost use Rattle.near.specs.NearWalk.{nearKept};
+ghost use Rattle.ring.specs.Answers.{filteredTo, unfiltered};
+ghost use Rattle.nearest.specs.Nearest.{nearestNo, nearFilterNo, unplacedAt, chamberFound, nearAt, nearestAt, nearestRefused, nearestAnswer, nearFiltered, nearFilteredBits, waitedBy};
 
 // A pump house: its id and its squared distance to the chamber.
 #[repr(C)]
@@ -51,7 +52,6 @@ fn unkept(number: u32) -> Filtered
 {
     Filtered {
         number: number,
-        bits: [0u64; 16],
         count: 0,
         opened: 0,
     }
@@ -148,25 +148,43 @@ pub fn nearest(p: &[i32], q: &[i32], id: u32, size: usize, waiting: &mut [u64]) 
     given(p, c.n, c.m, at, size, waiting)
 }
 
-// The filter walk for the chamber with this id over P that goes nearest first: the positions of P that may be ring partners.
-// The lent numbers as `nearest` leaves them. Refused as it is, but for the size.
-pub fn near_filter(p: &[i32], q: &[i32], id: u32, waiting: &mut [u64]) -> Filtered
-    ensures { λ r. ⌜ (r ≡ nearFiltered (now (p .entry)) (now (q .entry)) id (length (now (waiting .entry)))) × (now (waiting .exit) ≡ waitedBy (nearFilterNo (now (p .entry)) (now (q .entry)) id (length (now (waiting .entry)))) (now (p .entry)) (now (waiting .entry))) ⌝ }
+// The walk over a sheet that opens for the place q: the words lent are its kept set, and what waits stands in the lent numbers.
+fn kept_on(
+    p: &[i32],
+    n: usize,
+    m: usize,
+    q: Spot,
+    waiting: &mut [u64],
+    bits: &mut [u64],
+) -> Filtered
+    requires { ⌜ Opens (now p) n m × SpotIn q × (n + m ≤ length (now waiting)) × Holds (now bits) n ⌝ }
+    ensures { λ r. ⌜ (r ≡ filteredTo (nearKept (length (now (bits .entry))) (now (p .entry)) q)) × (now (waiting .exit) ≡ wiped (n + m) (now (waiting .entry))) × (now (bits .exit) ≡ nearKept (length (now (bits .entry))) (now (p .entry)) q .bits) ⌝ }
+{
+    let opened = near::filter::near_kept(p, n, m, q, bits, waiting);
+    Filtered {
+        number: 0,
+        count: bits::len(bits),
+        opened: opened,
+    }
+}
+
+// The filter walk for the chamber with this id over P that goes nearest first: the positions of P that may be ring partners, one bit each in the words lent, as many as the points
+// of P need. The lent numbers as `nearest` leaves them. Refused as it is, but for the size; by 24 before 25 where fewer words are lent. No word and no number is touched then, nor
+// ever one past them.
+pub fn near_filter(p: &[i32], q: &[i32], id: u32, waiting: &mut [u64], bits: &mut [u64]) -> Filtered
+    ensures { λ r. ⌜ (r ≡ nearFiltered (now (p .entry)) (now (q .entry)) id (length (now (bits .entry))) (length (now (waiting .entry)))) × (now (waiting .exit) ≡ waitedBy (nearFilterNo (now (p .entry)) (now (q .entry)) id (length (now (bits .entry))) (length (now (waiting .entry)))) (now (p .entry)) (now (waiting .entry))) × (now (bits .exit) ≡ nearFilteredBits (now (p .entry)) (now (q .entry)) id (length (now (waiting .entry))) (now (bits .entry))) ⌝ }
 {
     let c = placed(p, q, id);
     if c.number != 0 {
         return unkept(c.number);
     }
+    let w = bits::words_for(c.n);
+    if bits.len() < w {
+        return unkept(24);
+    }
     if waiting.len() < c.n + c.m {
         return unkept(25);
     }
     let at = c.at;
-    let mut kept = [0u64; 16];
-    let opened = near::filter::near_kept(p, c.n, c.m, at, &mut kept, waiting);
-    Filtered {
-        number: 0,
-        bits: kept,
-        count: bits::len(&kept),
-        opened: opened,
-    }
+    kept_on(p, c.n, c.m, at, waiting, &mut bits[..w])
 }

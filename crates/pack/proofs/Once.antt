@@ -5,12 +5,11 @@ use mathlib.Core.List.{List}
 use Prim.Native.Nat.{ℕ}
 use lib.IntN.{ℤ}
 use lib.ListN.{length}
-use Rattle.sheet.specs.Limits.{form1}
 use Rattle.pack.specs.Pack.{packNo, packOut}
 
-module _ (n : ℕ) (p o : List ℤ) (ed : ℕ) (out : List ℤ) where
-  pub pack-call-once : (r r′ : ℕ) → r ≡ packNo form1 n p o ed (length out) → r′ ≡ packNo form1 n p o ed (length out) → r ≡ r′
+module _ (form n : ℕ) (p o : List ℤ) (ed : ℕ) (out : List ℤ) where
+  pub pack-call-once : (r r′ : ℕ) → r ≡ packNo form n p o ed (length out) → r′ ≡ packNo form n p o ed (length out) → r ≡ r′
   pack-call-once r r′ e f = e ∙ sym f
 
-  pub pack-words-once : (w w′ : List ℤ) → w ≡ packOut form1 n p o ed out → w′ ≡ packOut form1 n p o ed out → w ≡ w′
+  pub pack-words-once : (w w′ : List ℤ) → w ≡ packOut form n p o ed out → w′ ≡ packOut form n p o ed out → w ≡ w′
   pack-words-once w w′ e f = e ∙ sym f

@@ -1,23 +1,27 @@
 -- Laws of what `pack` answers.
 -- Assumes nothing.
-use mathlib.Core.Path.{_≡_, refl, sym}
-use mathlib.Core.Bool.{true, false, _&&_}
+use mathlib.Core.Path.{_≡_, refl, sym, ap, subst, _∙_}
+use mathlib.Core.Bool.{Bool, true, false, _&&_, _||_}
+use mathlib.Core.Logic.{_⊎_, inl, inr, ⊎-elim}
 use mathlib.Core.List.{List}
 use Prim.Native.Nat.{ℕ, _+_, _*_, _/_, _%_, _≤_}
 use native.Mathlib.Omega.{arith}
 use lib.Dec.{eqb, leb}
-use lib.IntN.{ℤ}
+use lib.IntN.{ℤ, pos}
 use lib.ListN.{length}
 use borrow.Author.Tests.{eqb-true, eq-eqb, ne-eqb, leb-true}
 use Rattle.integers.proofs.Bools.{and-left, and-right, and-both, test-iff}
+use Rattle.words.specs.Word.{eqZ}
 use Rattle.words.specs.Range.{editionOk}
-use Rattle.words.proofs.FirstLaws.{none-applies, given-held, answer-given, answer-refused}
+use Rattle.words.specs.First.{given, first, answer}
+use Rattle.words.proofs.FirstLaws.{first-last, none-applies, given-held, answer-given, answer-refused}
 use Rattle.sheet.specs.declared.Limits.{Limits}
+use Rattle.sheet.specs.Limits.{form1, form2, limitsOf}
 use Rattle.sheet.specs.Points.{pointsOk}
 use Rattle.pack.specs.Tree.{nodesFor}
 use Rattle.pack.specs.Order.{orderListOk}
 use Rattle.pack.specs.Packed.{sheetSize, packed}
-use Rattle.pack.specs.Pack.{shapeOk, rangeOk, packNo, packOut}
+use Rattle.pack.specs.Pack.{shapeOk, formOk, rangeOk, withinNo, packNo, packOut}
 
 -- a length is three times n where it is divided by three without rest, n times
 pub thirds : (k n : ℕ) → (eqb (k % 3) 0 && eqb (k / 3) n) ≡ eqb k (3 * n)
@@ -58,31 +62,77 @@ size-differs n m size e h = ne-eqb size (5 * n + 7 * nodesFor n + 6) (λ (x : si
 
 -- ---- what the answer says
 
--- no refusal means that every test holds
+-- no refusal under limits means that every test under them holds
 pub record Packs (lim : Limits) (n : ℕ) (p o : List ℤ) (ed size : ℕ) : Type 0 where
-  pub shaped : shapeOk n p o ≡ true
   pub ranged : rangeOk lim n ed ≡ true
   pub pointed : pointsOk lim p n ≡ true
   pub ordered : orderListOk o n ≡ true
   pub sized : size ≡ sheetSize n
 
-pub pack-facts : (lim : Limits) (n : ℕ) (p o : List ℤ) (ed size : ℕ) → packNo lim n p o ed size ≡ 0 → Packs lim n p o ed size
-unfolding packNo
-pack-facts lim n p o ed size e =
+pub within-facts : (lim : Limits) (n : ℕ) (p o : List ℤ) (ed size : ℕ) → withinNo lim n p o ed size ≡ 0 → Packs lim n p o ed size
+unfolding withinNo
+within-facts lim n p o ed size e =
     let z = none-applies _ .0 e in
     record {
-      shaped = given-held _ (z 0);
-      ranged = given-held _ (z 1);
-      pointed = given-held _ (z 2);
-      ordered = given-held _ (z 3);
-      sized = eqb-true size (sheetSize n) (given-held _ (z 4));
+      ranged = given-held _ (z 0);
+      pointed = given-held _ (z 1);
+      ordered = given-held _ (z 2);
+      sized = eqb-true size (sheetSize n) (given-held _ (z 3));
     }
 
-module _ (lim : Limits) (n : ℕ) (p o : List ℤ) (ed : ℕ) (out : List ℤ) where
-  pub out-refused : (packNo lim n p o ed (length out) ≡ 0 → ⊥) → out ≡ packOut lim n p o ed out
+-- what is answered and left under limits, where these are a form's
+pub pack-under : (lim form : Limits) (n : ℕ) (p o : List ℤ) (ed : ℕ) (out : List ℤ) (r : ℕ) (w : List ℤ) → lim ≡ form → r ≡ withinNo lim n p o ed (length out) → w ≡ answer (withinNo lim n p o ed (length out)) (packed (lim .form) p o n ed) (λ k. out) → (r ≡ withinNo form n p o ed (length out)) × (w ≡ answer (withinNo form n p o ed (length out)) (packed (form .form) p o n ed) (λ k. out))
+pack-under lim form n p o ed out r w e =
+    subst (λ (l : Limits). r ≡ withinNo l n p o ed (length out) → w ≡ answer (withinNo l n p o ed (length out)) (packed (l .form) p o n ed) (λ k. out) → (r ≡ withinNo form n p o ed (length out)) × (w ≡ answer (withinNo form n p o ed (length out)) (packed (form .form) p o n ed) (λ k. out)))
+    (sym e) (λ a b. (a, b))
+
+-- a form that the packer takes is 1 or 2
+or-cases : (a b : Bool) → (a || b) ≡ true → (a ≡ true) ⊎ (b ≡ true)
+or-cases true b e = inl refl
+or-cases false b e = inr e
+
+pub form-cases : (form : ℕ) → formOk form ≡ true → (form ≡ 1) ⊎ (form ≡ 2)
+unfolding formOk
+form-cases form e = ⊎-elim (λ (t : eqb form 1 ≡ true). inl (eqb-true form 1 t)) (λ (t : eqb form 2 ≡ true). inr (eqb-true form 2 t)) (or-cases (eqb form 1) (eqb form 2) e)
+
+module _ (form n : ℕ) (p o : List ℤ) (ed size : ℕ) where
+  -- no refusal: the form is one of these, and nothing is refused under its limits
+  pub pack-formed : packNo form n p o ed size ≡ 0 → formOk form ≡ true
+  unfolding packNo
+  pack-formed e = given-held _ (none-applies _ .0 e 1)
+
+  pub pack-within : packNo form n p o ed size ≡ 0 → withinNo (limitsOf (pos form)) n p o ed size ≡ 0
+  unfolding packNo
+  pack-within e = none-applies _ .0 e 2
+
+  -- 18, whatever the form; 2 for any form but these; else what is refused under the form's limits
+  pub pack-shapeless : shapeOk n p o ≡ false → 18 ≡ packNo form n p o ed size
+  unfolding packNo first given
+  pack-shapeless e = rw e
+
+  pub pack-formless : shapeOk n p o ≡ true → (form ≡ 1 → ⊥) → (form ≡ 2 → ⊥) → 2 ≡ packNo form n p o ed size
+  unfolding packNo formOk first given
+  pack-formless e a b = rw (e, ne-eqb form 1 a, ne-eqb form 2 b)
+
+  pub pack-by-first : shapeOk n p o ≡ true → form ≡ 1 → withinNo form1 n p o ed size ≡ packNo form n p o ed size
+  unfolding packNo formOk limitsOf eqZ first given
+  pack-by-first e f = subst (λ (k : ℕ). withinNo form1 n p o ed size ≡ packNo k n p o ed size) (sym f) (rw e (sym (first-last (withinNo form1 n p o ed size))))
+
+  pub pack-by-second : shapeOk n p o ≡ true → form ≡ 2 → withinNo form2 n p o ed size ≡ packNo form n p o ed size
+  unfolding packNo formOk limitsOf eqZ first given
+  pack-by-second e f = subst (λ (k : ℕ). withinNo form2 n p o ed size ≡ packNo k n p o ed size) (sym f) (rw e (sym (first-last (withinNo form2 n p o ed size))))
+
+module _ (form n : ℕ) (p o : List ℤ) (ed : ℕ) (out : List ℤ) where
+  pub out-refused : (packNo form n p o ed (length out) ≡ 0 → ⊥) → out ≡ packOut form n p o ed out
   unfolding packOut
   out-refused ne = sym (answer-refused _ (λ k. out) _ _ refl ne)
 
-  pub out-packed : packNo lim n p o ed (length out) ≡ 0 → packed p o n ed ≡ packOut lim n p o ed out
+  pub out-packed : packNo form n p o ed (length out) ≡ 0 → packed form p o n ed ≡ packOut form n p o ed out
   unfolding packOut
   out-packed e = sym (answer-given _ (λ k. out) _ e)
+
+  -- what is left under the limits of a form is what is left
+  pub out-by : (r g : ℕ) → r ≡ packNo form n p o ed (length out) → form ≡ g → answer r (packed g p o n ed) (λ k. out) ≡ packOut form n p o ed out
+  unfolding packOut
+  out-by r g e f =
+      ap (λ (i : ℕ). answer r (packed i p o n ed) (λ k. out)) (sym f) ∙ ap (λ (i : ℕ). answer i (packed form p o n ed) (λ k. out)) e

@@ -79,13 +79,13 @@ module _ (p o : List ℤ) (n : ℕ) where
       z : 3 + q - 3 ≡ q
       z = omega arith
 
-  pub pack-body : (ed i : ℕ) → i < 5 * n + 7 * nodesFor n → packWord p o n ed i ≡ bodyWord p o n i
+  pub pack-body : (form ed i : ℕ) → i < 5 * n + 7 * nodesFor n → packWord form p o n ed i ≡ bodyWord p o n i
   unfolding packWord
-  pack-body ed i h = rw (lt-ltb i (5 * n + 7 * nodesFor n) h)
+  pack-body form ed i h = rw (lt-ltb i (5 * n + 7 * nodesFor n) h)
 
-  pub pack-trail : (ed i t : ℕ) → i ≡ 5 * n + 7 * nodesFor n + t → packWord p o n ed i ≡ trailerWord n (nodesFor n) ed t
+  pub pack-trail : (form ed i t : ℕ) → i ≡ 5 * n + 7 * nodesFor n + t → packWord form p o n ed i ≡ trailerWord form n (nodesFor n) ed t
   unfolding packWord
-  pack-trail ed i t e = rw (le-ltb i (5 * n + 7 * nodesFor n) (omega arith)) (ap (trailerWord n (nodesFor n) ed) z)
+  pack-trail form ed i t e = rw (le-ltb i (5 * n + 7 * nodesFor n) (omega arith)) (ap (trailerWord form n (nodesFor n) ed) z)
     where
       z : i - (5 * n + 7 * nodesFor n) ≡ t
       z = omega arith
@@ -125,22 +125,22 @@ holds-all w f n l h =
 
 -- ---- the packed sheet
 
-module _ (p o : List ℤ) (n ed : ℕ) where
-  pub packed-size : length (packed p o n ed) ≡ 5 * n + 7 * nodesFor n + 6
+module _ (form : ℕ) (p o : List ℤ) (n ed : ℕ) where
+  pub packed-size : length (packed form p o n ed) ≡ 5 * n + 7 * nodesFor n + 6
   unfolding packed sheetSize
   packed-size = length-tab _ _
 
-  packed-at : (i : ℕ) → i < 5 * n + 7 * nodesFor n + 6 → at (packed p o n ed) i ≡ packWord p o n ed i
+  packed-at : (i : ℕ) → i < 5 * n + 7 * nodesFor n + 6 → at (packed form p o n ed) i ≡ packWord form p o n ed i
   unfolding packed sheetSize
   packed-at i h = at-tab _ _ (pos 0) i h
 
-  pub packed-body : Holds (packed p o n ed) (bodyWord p o n) (5 * n + 7 * nodesFor n)
-  packed-body = record { word = λ k h. packed-at k (omega arith) ∙ pack-body p o n ed k h }
+  pub packed-body : Holds (packed form p o n ed) (bodyWord p o n) (5 * n + 7 * nodesFor n)
+  packed-body = record { word = λ k h. packed-at k (omega arith) ∙ pack-body p o n form ed k h }
 
-  pub packed-trail : (i t : ℕ) → t < 6 → i ≡ 5 * n + 7 * nodesFor n + t → at (packed p o n ed) i ≡ trailerWord n (nodesFor n) ed t
-  packed-trail i t h e = packed-at i (omega arith) ∙ pack-trail p o n ed i t e
+  pub packed-trail : (i t : ℕ) → t < 6 → i ≡ 5 * n + 7 * nodesFor n + t → at (packed form p o n ed) i ≡ trailerWord form n (nodesFor n) ed t
+  packed-trail i t h e = packed-at i (omega arith) ∙ pack-trail p o n form ed i t e
 
-  pub packed-plan : Planned (packed p o n ed) n
+  pub packed-plan : Planned (packed form p o n ed) n
   unfolding nodeWord
   packed-plan =
       record {
@@ -163,20 +163,20 @@ unfolding sheetSize
 sheet-size n = refl
 
 module _ (p o : List ℤ) (n : ℕ) where
-  pub trail-start : (ed : ℕ) (w : List ℤ) → Holds w (bodyWord p o n) (5 * n + 7 * nodesFor n) → Holds w (packWord p o n ed) (5 * n + 7 * nodesFor n + 0)
-  trail-start ed w h = record { word = λ k g. let b : k < 5 * n + 7 * nodesFor n = omega arith in h .word k b ∙ sym (pack-body p o n ed k b) }
+  pub trail-start : (form ed : ℕ) (w : List ℤ) → Holds w (bodyWord p o n) (5 * n + 7 * nodesFor n) → Holds w (packWord form p o n ed) (5 * n + 7 * nodesFor n + 0)
+  trail-start form ed w h = record { word = λ k g. let b : k < 5 * n + 7 * nodesFor n = omega arith in h .word k b ∙ sym (pack-body p o n form ed k b) }
 
-  pub trail-more : (m ed : ℕ) (w : List ℤ) (t : ℕ) (v : ℤ) → m ≡ nodesFor n → t < 6 → length w ≡ sheetSize n → v ≡ trailerWord n m ed t → Holds w (packWord p o n ed) (5 * n + 7 * nodesFor n + t) → Holds (set w (5 * n + 7 * m + t) v) (packWord p o n ed) (5 * n + 7 * nodesFor n + (t + 1))
-  trail-more m ed w t v e g l x h =
+  pub trail-more : (form m ed : ℕ) (w : List ℤ) (t : ℕ) (v : ℤ) → m ≡ nodesFor n → t < 6 → length w ≡ sheetSize n → v ≡ trailerWord form n m ed t → Holds w (packWord form p o n ed) (5 * n + 7 * nodesFor n + t) → Holds (set w (5 * n + 7 * m + t) v) (packWord form p o n ed) (5 * n + 7 * nodesFor n + (t + 1))
+  trail-more form m ed w t v e g l x h =
       let i : 5 * n + 7 * m + t ≡ 5 * n + 7 * nodesFor n + t = omega arith in
       holds-fewer _ _ (5 * n + 7 * m + t + 1) _ (omega arith)
-      (holds-more w (packWord p o n ed) (5 * n + 7 * m + t) v (omega (arith, sheet-size n))
-      (x ∙ ap (λ (y : ℕ). trailerWord n y ed t) e ∙ sym (pack-trail p o n ed (5 * n + 7 * m + t) t i))
+      (holds-more w (packWord form p o n ed) (5 * n + 7 * m + t) v (omega (arith, sheet-size n))
+      (x ∙ ap (λ (y : ℕ). trailerWord form n y ed t) e ∙ sym (pack-trail p o n form ed (5 * n + 7 * m + t) t i))
       (holds-fewer _ _ _ _ (omega arith) h))
 
-  pub trail-done : (ed : ℕ) (w : List ℤ) (t : ℕ) → 6 ≤ t → length w ≡ sheetSize n → Holds w (packWord p o n ed) (5 * n + 7 * nodesFor n + t) → w ≡ packed p o n ed
+  pub trail-done : (form ed : ℕ) (w : List ℤ) (t : ℕ) → 6 ≤ t → length w ≡ sheetSize n → Holds w (packWord form p o n ed) (5 * n + 7 * nodesFor n + t) → w ≡ packed form p o n ed
   unfolding packed
-  trail-done ed w t g l h = holds-all w (packWord p o n ed) (sheetSize n) l (holds-fewer _ _ _ _ (omega (arith, sheet-size n)) h)
+  trail-done form ed w t g l h = holds-all w (packWord form p o n ed) (sheetSize n) l (holds-fewer _ _ _ _ (omega (arith, sheet-size n)) h)
 
 -- ---- the ranks, put where each position stands in the order list
 
@@ -270,13 +270,13 @@ module _ (p o w : List ℤ) (n j : ℕ) (ok : orderListOk o n ≡ true) (h : Hol
     unfolding boxSide partOf
     part-best q zero g e =
         let c = count-range (planOf n j) (node-stood n j b .some) in
-        best-cong q _ _ _ _ (λ k x y. coord-read q k (plan-leaf (packed p o n 0) n (packed-plan p o n 0) le j b e k (omega arith)))
+        best-cong q _ _ _ _ (λ k x y. coord-read q k (plan-leaf (packed 1 p o n 0) n (packed-plan 1 p o n 0) le j b e k (omega arith)))
     part-best q (suc l) g e =
         let c = count-range (planOf n j) (node-stood n j b .some) in
         rw (ne-eqb (suc l) 0 (λ (z : suc l ≡ 0). omega arith))
         (best-cong q _ _ _ _
         (λ k x y.
-        let d = plan-child (packed p o n 0) n (packed-plan p o n 0) le j l b e k x (omega arith) in
+        let d = plan-child (packed 1 p o n 0) n (packed-plan 1 p o n 0) le j l b e k x (omega arith) in
         side-read q k g (d .1) ∙ ap (λ (i : ℕ). boxSide p o n q i k) (d .0)))
 
     -- what is made from the words before node j is what belongs there
@@ -309,7 +309,7 @@ node-more p o w n j ok d s le b f v g l e h =
 pub leaf-reach : (n j : ℕ) (d : Due) → n ≤ 60000 → j < nodesFor n → d ≡ planOf n j → d .level ≡ 0 → d .next + (planCount d - 1) < n
 leaf-reach n j d g h e =
     subst (λ (x : Due). x .level ≡ 0 → x .next + (planCount x - 1) < n) (sym e)
-    (λ l. plan-leaf (packed [] [] n 0) n (packed-plan [] [] n 0) (omega arith) j h l _ (omega (arith, count-range (planOf n j) (node-stood n j h .some))))
+    (λ l. plan-leaf (packed 1 [] [] n 0) n (packed-plan 1 [] [] n 0) (omega arith) j h l _ (omega (arith, count-range (planOf n j) (node-stood n j h .some))))
 
 pub child-reach : (n j : ℕ) (d : Due) → n ≤ 60000 → j < nodesFor n → d ≡ planOf n j → (d .level ≡ 0 → ⊥) → d .next + (planCount d - 1) < j
 child-reach n j d g h e =
@@ -319,7 +319,7 @@ child-reach n j d g h e =
     reach zero q u = absurd (u q)
     reach (suc l) q u =
         let c = count-range (planOf n j) (node-stood n j h .some) in
-        plan-child (packed [] [] n 0) n (packed-plan [] [] n 0) (omega arith) j l h q (planOf n j .next + (planCount (planOf n j) - 1)) (omega arith) (omega arith) .1
+        plan-child (packed 1 [] [] n 0) n (packed-plan 1 [] [] n 0) (omega arith) j l h q (planOf n j .next + (planCount (planOf n j) - 1)) (omega arith) (omega arith) .1
 
 -- its first words are told by the plan
 pub head-is : (w : List ℤ) (n : ℕ) (d : Due) (f : ℕ) → f < 3 → headWord d f ≡ nodeRead w n d f

@@ -4,10 +4,9 @@ use mathlib.Core.List.{List}
 use Prim.Native.Nat.{ℕ, _+_, _*_, _≤_}
 use lib.IntN.{ℤ, pos}
 use Rattle.sheet.specs.declared.Limits.{Limits}
-use Rattle.sheet.specs.Limits.{form1}
-use Rattle.sheet.specs.Layout.{edition, points, nodes}
+use Rattle.sheet.specs.Layout.{form, edition, points, nodes}
 use Rattle.sheet.specs.Places.{pointsOf}
-use Rattle.sheet.specs.Open.{openNo}
+use Rattle.sheet.specs.Open.{sheetNo}
 use Rattle.pack.specs.Tree.{nodesFor}
 use Rattle.pack.specs.Pack.{pointsIn}
 
@@ -17,8 +16,9 @@ pub record Roomy (lim : Limits) : Type 0 where
   pub nodes-enough : lim .points + 15 ≤ 5 * lim .nodes
 
 -- what the words say that `pack` leaves where it answers 0 [S25]
-pub record Returned (n : ℕ) (p : List ℤ) (ed : ℕ) (w : List ℤ) : Type 0 where
-  pub opens : openNo form1 w ≡ 0
+pub record Returned (f n : ℕ) (p : List ℤ) (ed : ℕ) (w : List ℤ) : Type 0 where
+  pub opens : sheetNo w ≡ 0
+  pub same-form : form w ≡ pos f
   pub same-points : pointsOf w ≡ pointsIn n p
   pub same-number : points w ≡ n
   pub same-edition : edition w ≡ pos ed

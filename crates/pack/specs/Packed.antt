@@ -35,20 +35,20 @@ nodeWord p o n j f =
 unfoldable pub bodyWord : List ℤ → List ℤ → ℕ → ℕ → ℤ
 bodyWord p o n i = cond (ltb i (5 * n)) (flatWord p o n i) (nodeWord p o n ((i - 5 * n) / 7) ((i - 5 * n) % 7))
 
--- "trailer, 6 words, pointing back: span 5n+7m (words back to the start), root (7 words back, or 0 when m is 0), n, m, edition, form number 1"
-unfoldable pub trailerWord : ℕ → ℕ → ℕ → ℕ → ℤ
-trailerWord n m ed t =
-    cond (eqb t 0) (pos (5 * n + 7 * m)) (cond (eqb t 1) (pos (rootWord m)) (cond (eqb t 2) (pos n) (cond (eqb t 3) (pos m) (cond (eqb t 4) (pos ed) (pos 1)))))
+-- "trailer, 6 words, pointing back: span 5n+7m (words back to the start), root (7 words back, or 0 when m is 0), n, m, edition, form number 1", or the form
+unfoldable pub trailerWord : ℕ → ℕ → ℕ → ℕ → ℕ → ℤ
+trailerWord form n m ed t =
+    cond (eqb t 0) (pos (5 * n + 7 * m)) (cond (eqb t 1) (pos (rootWord m)) (cond (eqb t 2) (pos n) (cond (eqb t 3) (pos m) (cond (eqb t 4) (pos ed) (pos form)))))
 
 -- word i of the sheet
-unfoldable pub packWord : List ℤ → List ℤ → ℕ → ℕ → ℕ → ℤ
-packWord p o n ed i =
-    cond (ltb i (5 * n + 7 * nodesFor n)) (bodyWord p o n i) (trailerWord n (nodesFor n) ed (i - (5 * n + 7 * nodesFor n)))
+unfoldable pub packWord : ℕ → List ℤ → List ℤ → ℕ → ℕ → ℕ → ℤ
+packWord form p o n ed i =
+    cond (ltb i (5 * n + 7 * nodesFor n)) (bodyWord p o n i) (trailerWord form n (nodesFor n) ed (i - (5 * n + 7 * nodesFor n)))
 
 -- "A sheet is exactly span+6 words" [N17]
 unfoldable pub sheetSize : ℕ → ℕ
 sheetSize n = 5 * n + 7 * nodesFor n + 6
 
 -- [S23]
-unfoldable pub packed : List ℤ → List ℤ → ℕ → ℕ → List ℤ
-packed p o n ed = tab (sheetSize n) (packWord p o n ed)
+unfoldable pub packed : ℕ → List ℤ → List ℤ → ℕ → ℕ → List ℤ
+packed form p o n ed = tab (sheetSize n) (packWord form p o n ed)

@@ -142,9 +142,9 @@ fn put_nodes(n: usize, m: usize, out: &mut [i32])
 }
 
 // Word t of the trailer.
-fn trailer_word(n: usize, m: usize, edition: u32, t: usize) -> i32
-    requires { ⌜ (n ≤ 60000) × (m ≤ 24000) × (edition < 2147483648) ⌝ }
-    ensures { λ r. ⌜ r ≡ trailerWord n m edition t ⌝ }
+fn trailer_word(form: usize, n: usize, m: usize, edition: u32, t: usize) -> i32
+    requires { ⌜ (form < 2147483648) × (n ≤ 60000) × (m ≤ 24000) × (edition < 2147483648) ⌝ }
+    ensures { λ r. ⌜ r ≡ trailerWord form n m edition t ⌝ }
 {
     if t == 0 {
         return word(5 * n + 7 * m);
@@ -161,30 +161,30 @@ fn trailer_word(n: usize, m: usize, edition: u32, t: usize) -> i32
     if t == 4 {
         return word(edition as usize);
     }
-    1
+    word(form)
 }
 
 // Writes the trailer, behind all else.
-fn put_trailer(n: usize, m: usize, edition: u32, out: &mut [i32])
-    requires { ⌜ (n ≤ 60000) × (m ≡ nodesFor n) × (edition < 2147483648) × (length (now out) ≡ sheetSize n) ⌝ }
-    ensures { λ _. ⌜ ((p o : List ℤ) → Holds (now (out .entry)) (bodyWord p o n) (5 * n + 7 * nodesFor n) → now (out .exit) ≡ packed p o n edition) ⌝ }
+fn put_trailer(form: usize, n: usize, m: usize, edition: u32, out: &mut [i32])
+    requires { ⌜ (form < 2147483648) × (n ≤ 60000) × (m ≡ nodesFor n) × (edition < 2147483648) × (length (now out) ≡ sheetSize n) ⌝ }
+    ensures { λ _. ⌜ ((p o : List ℤ) → Holds (now (out .entry)) (bodyWord p o n) (5 * n + 7 * nodesFor n) → now (out .exit) ≡ packed form p o n edition) ⌝ }
 {
     let mut t = 0;
     while t < 6 {
-        out[5 * n + 7 * m + t] = trailer_word(n, m, edition, t);
+        out[5 * n + 7 * m + t] = trailer_word(form, n, m, edition, t);
         t += 1;
     }
 }
 
 // Writes the sheet.
-pub(crate) fn put_sheet(n: usize, p: &[i32], o: &[i32], edition: u32, out: &mut [i32])
-    requires { ⌜ (n ≤ 60000) × (3 * n ≤ length (now p)) × (n ≤ length (now o)) × (orderListOk (now o) n ≡ true) × (edition < 2147483648) × (length (now out) ≡ sheetSize n) ⌝ }
-    ensures { λ _. ⌜ now (out .exit) ≡ packed (now (p .entry)) (now (o .entry)) n edition ⌝ }
+pub(crate) fn put_sheet(form: usize, n: usize, p: &[i32], o: &[i32], edition: u32, out: &mut [i32])
+    requires { ⌜ (form < 2147483648) × (n ≤ 60000) × (3 * n ≤ length (now p)) × (n ≤ length (now o)) × (orderListOk (now o) n ≡ true) × (edition < 2147483648) × (length (now out) ≡ sheetSize n) ⌝ }
+    ensures { λ _. ⌜ now (out .exit) ≡ packed form (now (p .entry)) (now (o .entry)) n edition ⌝ }
 {
     put_points(p, n, out);
     put_order(o, n, out);
     put_ranks(o, n, out);
     let m = tree::nodes_for(n);
     put_nodes(n, m, out);
-    put_trailer(n, m, edition, out);
+    put_trailer(form, n, m, edition, out);
 }

@@ -3,7 +3,7 @@ use mathlib.Core.Path.{_≡_, refl, sym, ap}
 use mathlib.Core.Bool.{Bool, true, false, not, _&&_, true≢false}
 use mathlib.Core.List.{List, [], _∷_, _++_}
 use Prim.Native.Nat.{ℕ, _+_, _-_}
-use lib.Dec.{eqb, ltb}
+use lib.Dec.{eqb, leb, ltb}
 use lib.Seq.{paste}
 use lib.ListN.{length, getD, replicate}
 use Rattle.words.specs.Range.{idOk, editionOk, sizeOk}
@@ -69,7 +69,7 @@ own-with-t-wrong = (refl, refl)
 abbrev thresholdFirst : Source → ℕ
 thresholdFirst s = first (thresholdNo (s .terms .threshold) ∷ editionsAlone s ∷ [])
 
-pub begin-t-first-wrong : (thresholdFirst (source 0 9 (withT 1001)) ≡ 21) × (beginNo (source 0 9 (withT 1001)) ≡ 3)
+pub begin-t-first-wrong : (thresholdFirst (source 0 9 (withT 60001)) ≡ 21) × (beginNo (source 0 9 (withT 60001)) ≡ 3)
 unfolding beginNo first given editionOk thresholdNo
 begin-t-first-wrong = (refl, refl)
 
@@ -126,13 +126,21 @@ pub past-held-wrong :
 unfolding takenSlots taken decided accepted refused advanced takeNo takeNoAt sourceNo first given answer sameKey pageBad pairsOk pairOk idOk sizeOk ascends follows pagePairs lastKey
 past-held-wrong = (refl, refl)
 
--- A pair of any size. "15 is also given when a size lies outside 0 to 8,000,000,000,000." [Z3]
+-- A pair of any size. "Refusal 15's size limit becomes 8,000,000,000,000,000,000 for every page." [Z3]
 abbrev anySize : Pair → Bool
 anySize v = idOk (v .q) && idOk (v .p)
 
-pub any-size-wrong : (anySize (to 5 2 8000000000001) ≡ true) × (pairOk (to 5 2 8000000000001) ≡ false)
+pub any-size-wrong : (anySize (to 5 2 8000000000000000001) ≡ true) × (pairOk (to 5 2 8000000000000000001) ≡ false)
 unfolding pairOk idOk sizeOk
 any-size-wrong = (refl, refl)
+
+-- The limit of form 1's sizes. "8,000,000,000,000,000,000 for every page". [Y5]
+abbrev oldLimit : Pair → Bool
+oldLimit v = idOk (v .q) && idOk (v .p) && leb (v .size) 8000000000000
+
+pub old-limit-wrong : (oldLimit (to 5 2 8000000000000000000) ≡ false) × (pairOk (to 5 2 8000000000000000000) ≡ true)
+unfolding pairOk idOk sizeOk
+old-limit-wrong = (refl, refl)
 
 -- A full book takes nothing more. "A full book still takes an empty page with the end mark." [N33]
 abbrev fullRefused : Book → List Pair → ℕ

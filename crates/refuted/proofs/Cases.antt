@@ -43,4 +43,4 @@ abbrev pub nothing : List ℤ
 nothing = words (0 ∷ 0 ∷ 0 ∷ 0 ∷ 3 ∷ 1 ∷ [])
 
 abbrev pub noForm : List ℤ
-noForm = words (0 ∷ 0 ∷ 0 ∷ 0 ∷ 3 ∷ 2 ∷ [])
+noForm = words (0 ∷ 0 ∷ 0 ∷ 0 ∷ 3 ∷ 3 ∷ [])

@@ -85,11 +85,11 @@ pub first-t-wrong : (firstOnes 1 pumps chambers ≡ to 5 1 16 ∷ []) × (listFo
 unfolding listBy rows row atLeast pairFor listedFor listFor ringPair unblocked allB sameSpot blocks
 first-t-wrong = (refl, refl)
 
--- t up to 999. 21 is given for "t outside 0 to 1,000". [T9]
+-- t below 1,000. "Request 5's threshold goes to 60,000." [T9, Y13]
 abbrev belowThousand : ℕ → ℕ
 belowThousand t = given (not (ltb t 1000)) 21
 
-pub below-thousand-wrong : (belowThousand 1000 ≡ 21) × (thresholdNo 1000 ≡ 0)
+pub below-thousand-wrong : (belowThousand 60000 ≡ 21) × (thresholdNo 60000 ≡ 0)
 unfolding thresholdNo given
 below-thousand-wrong = (refl, refl)
 

@@ -4,13 +4,13 @@ use mathlib.Core.Bool.{Bool, true, false, _&&_}
 use lib.IntN.{ℤ, pos}
 use Rattle.words.specs.Word.{within}
 use Rattle.words.specs.Range.{coordWord}
-use Rattle.sheet.specs.Limits.{form1}
+use Rattle.sheet.specs.Limits.{form2}
 use Rattle.marker.specs.Mark.{coordinate, onMap}
 
 -- Three coordinates of the four are tested. "5 [..] an id or coordinate breaks its rule". [N34]
 abbrev threeTested : ℤ → ℤ → ℤ → ℤ → Bool
 threeTested ax ay bx by = coordinate ax && coordinate ay && coordinate bx
 
-pub three-tested-wrong : (threeTested (pos 0) (pos 0) (pos 0) (pos 1000001) ≡ true) × (onMap (pos 0) (pos 0) (pos 0) (pos 1000001) ≡ false)
-unfolding onMap coordWord within form1
+pub three-tested-wrong : (threeTested (pos 0) (pos 0) (pos 0) (pos 1000000001) ≡ true) × (onMap (pos 0) (pos 0) (pos 0) (pos 1000000001) ≡ false)
+unfolding onMap coordWord within form2
 three-tested-wrong = (refl, refl)

@@ -13,7 +13,7 @@ use Rattle.words.specs.Range.{idWord, editionWord, coordWord}
 use Rattle.plane.specs.declared.Spot.{Spot}
 use Rattle.plane.specs.Rule.{spot, sameSpot, inBox, blocks, drops, dropsBox}
 use Rattle.plane.specs.Point.{spotAt}
-use Rattle.sheet.specs.Limits.{form1}
+use Rattle.sheet.specs.Limits.{form1, limitsOf}
 use Rattle.sheet.specs.Layout.{points, nodes, countsOk, rootWord, layoutOk, trailerNo}
 use Rattle.sheet.specs.Points.{fieldsOk, risesOk, pointOk, pointsOk}
 use Rattle.sheet.specs.Order.{orderOf, rankOf, placeOk, orderOk}
@@ -22,16 +22,16 @@ use Rattle.sheet.specs.Boxes.{sideOf, coordOf, better, best, tightSide, tightOk
 use Rattle.sheet.specs.Open.{bodyNo, openNo}
 use Rattle.sheet.specs.Places.{spotOf, boxOf, pointsOf}
 use Rattle.sheet.specs.Find.{positionOf}
-use Rattle.bits.specs.Set.{digit, at as bitAt, kept, with, none, some}
+use Rattle.bits.specs.Set.{digit, at as bitAt, kept, with, none, wordsFor, some, wiped}
 use Rattle.list.specs.Pages.{sizeNo}
 use Rattle.list.specs.RingList.{unblocked, ringPair}
 use Rattle.walk.specs.Walk.{inTurn}
 use Rattle.walk.specs.FilterWalk.{Kept, soFar, dropped, shut, consider}
 use Rattle.near.specs.Waiting.{pointEntry, boxEntry, covered, distance, before, insert, withCovered}
 use Rattle.near.specs.NearWalk.{rootWaits, nearSteps, nearAll, nearOrder, nearKept, nearKeeps}
-use Rattle.near.specs.Room.{wiped}
+use Rattle.ring.specs.Lent.{need, bitsNo, wipedBy}
 use Rattle.ring.specs.Partners.{idNo}
-use Rattle.nearest.specs.Nearest.{waitNo, nearestNo, waitedBy}
+use Rattle.nearest.specs.Nearest.{waitNo, nearestNo, nearFilterNo, waitedBy}
 use Rattle.refuted.proofs.Cases.{pumps, chambers, pumpSheet, chamberSheet, line}
 
 -- ---- the order
@@ -105,12 +105,12 @@ abbrev allZero : List ℕ → List ℕ
 allZero ws = replicate (length ws) 0
 
 pub rest-wiped-wrong : (allZero lent ≡ 0 ∷ 0 ∷ 0 ∷ 0 ∷ []) × (waitedBy 0 pumpSheet lent ≡ 0 ∷ 0 ∷ 0 ∷ 9 ∷ [])
-unfolding waitedBy answer wiped num
+unfolding waitedBy wipedBy answer wiped num
 rest-wiped-wrong = (refl, refl)
 
 -- A refused call writes. A refusal "leaves lent memory [..] as they stood". [G11]
 pub refused-writes-wrong : (wiped 1 lent ≡ 0 ∷ 9 ∷ 9 ∷ 9 ∷ []) × (waitedBy 25 pumpSheet lent ≡ lent)
-unfolding waitedBy answer wiped
+unfolding waitedBy wipedBy answer wiped
 refused-writes-wrong = (refl, refl)
 
 -- ---- numbers of refusal
@@ -120,7 +120,7 @@ abbrev sizeFirst : List ℤ → ℕ → ℕ → ℕ
 sizeFirst Q id size = first (sizeNo size ∷ idNo (pointsOf Q) id ∷ [])
 
 pub size-first-wrong : (sizeFirst chamberSheet 1 0 ≡ 10) × (nearestNo pumpSheet chamberSheet 1 0 0 ≡ 20)
-unfolding nearestNo sizeNo idNo positionOf firstB pointsOf tab spotOf openNo bodyNo trailerNo first given countsOk within editionWord layoutOk rootWord pointsOk pointOk fieldsOk risesOk idWord coordWord wordBefore orderOk placeOk isBelow rankOf orderOf nodesOk tableOk nodeOk nodeRule runOk endOk isLast sameLevel dueOf dueNext tightOk tightSide best better minZ maxZ coordOf sideOf levelOf firstOf countOf eqZ num allB form1
+unfolding nearestNo sizeNo idNo positionOf firstB pointsOf tab spotOf openNo bodyNo trailerNo first given countsOk within editionWord layoutOk rootWord pointsOk pointOk fieldsOk risesOk idWord coordWord wordBefore orderOk placeOk isBelow rankOf orderOf nodesOk tableOk nodeOk nodeRule runOk endOk isLast sameLevel dueOf dueNext tightOk tightSide best better minZ maxZ coordOf sideOf levelOf firstOf countOf eqZ num allB limitsOf form1
 size-first-wrong = (refl, refl)
 
 abbrev sliceFirst : List ℤ → ℕ → ℕ → ℕ
@@ -128,5 +128,13 @@ sliceFirst P size len = first (waitNo P len ∷ sizeNo size ∷ [])
 
 -- [G10]
 pub slice-first-wrong : (sliceFirst pumpSheet 0 0 ≡ 25) × (nearestNo pumpSheet chamberSheet 5 0 0 ≡ 10)
-unfolding nearestNo sizeNo idNo positionOf firstB pointsOf tab spotOf waitNo openNo bodyNo trailerNo first given countsOk within editionWord layoutOk rootWord pointsOk pointOk fieldsOk risesOk idWord coordWord wordBefore orderOk placeOk isBelow rankOf orderOf nodesOk tableOk nodeOk nodeRule runOk endOk isLast sameLevel dueOf dueNext tightOk tightSide best better minZ maxZ coordOf sideOf levelOf firstOf countOf eqZ num allB form1
+unfolding nearestNo sizeNo idNo positionOf firstB pointsOf tab spotOf waitNo openNo bodyNo trailerNo first given countsOk within editionWord layoutOk rootWord pointsOk pointOk fieldsOk risesOk idWord coordWord wordBefore orderOk placeOk isBelow rankOf orderOf nodesOk tableOk nodeOk nodeRule runOk endOk isLast sameLevel dueOf dueNext tightOk tightSide best better minZ maxZ coordOf sideOf levelOf firstOf countOf eqZ num allB limitsOf form1
 slice-first-wrong = (refl, refl)
+
+-- 25 before 24. "24 bit slice too short, after all others but 16 and 25": with neither words nor numbers lent it is 24. [Y15]
+abbrev numbersFirst : List ℤ → ℕ → ℕ → ℕ
+numbersFirst P bits len = first (waitNo P len ∷ bitsNo (need P) bits ∷ [])
+
+pub numbers-before-bits-wrong : (numbersFirst pumpSheet 0 0 ≡ 25) × (nearFilterNo pumpSheet chamberSheet 5 0 0 ≡ 24)
+unfolding nearFilterNo bitsNo wordsFor idNo positionOf firstB pointsOf tab spotOf waitNo openNo bodyNo trailerNo first given countsOk within editionWord layoutOk rootWord pointsOk pointOk fieldsOk risesOk idWord coordWord wordBefore orderOk placeOk isBelow rankOf orderOf nodesOk tableOk nodeOk nodeRule runOk endOk isLast sameLevel dueOf dueNext tightOk tightSide best better minZ maxZ coordOf sideOf levelOf firstOf countOf eqZ num allB limitsOf form1
+numbers-before-bits-wrong = (refl, refl)

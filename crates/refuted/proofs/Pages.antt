@@ -6,14 +6,14 @@ use Prim.Native.Nat.{ℕ, suc}
 use native.Mathlib.Omega.{arith}
 use lib.Dec.{eqb, leb, ltb}
 use lib.IntN.{ℤ}
-use lib.ListN.{length, getD}
+use lib.ListN.{length, getD, replicate}
 use Rattle.words.specs.Word.{num, eqZ, within, before, isBelow, minZ, maxZ}
 use Rattle.words.specs.All.{allB, firstB, tab}
 use Rattle.words.specs.First.{given, first, answer}
 use Rattle.words.specs.Range.{lastId, idWord, editionWord, coordWord}
 use Rattle.plane.specs.Rule.{sameSpot, inBox, blocks, drops, dropsBox, far, inside, sideIn}
 use Rattle.plane.specs.Point.{Point, idAt}
-use Rattle.sheet.specs.Limits.{form1}
+use Rattle.sheet.specs.Limits.{form1, limitsOf}
 use Rattle.sheet.specs.Layout.{countsOk, rootWord, layoutOk, trailerNo}
 use Rattle.sheet.specs.Points.{fieldsOk, risesOk, pointOk, pointsOk}
 use Rattle.sheet.specs.Order.{orderOf, rankOf, placeOk, orderOk}
@@ -22,7 +22,7 @@ use Rattle.sheet.specs.Boxes.{sideOf, coordOf, better, best, tightSide, tightOk
 use Rattle.sheet.specs.Open.{bodyNo, openNo, sheetNo}
 use Rattle.sheet.specs.Places.{spotOf, boxOf, pointsOf}
 use Rattle.sheet.specs.Find.{positionOf}
-use Rattle.bits.specs.Set.{digit, at as bitAt, kept, with, none, some}
+use Rattle.bits.specs.Set.{digit, at as bitAt, kept, with, none, wordsFor, wiped, some}
 use Rattle.list.specs.declared.Key.{Key}
 use Rattle.list.specs.declared.Pair.{Pair}
 use Rattle.list.specs.declared.Request.{Request}
@@ -40,8 +40,9 @@ use Rattle.join.specs.Work.{firstFrom, ringSteps, steps, spentOn, pageOpened}
 use Rattle.join.specs.Sheets.{walksOf, selfWalks}
 use Rattle.join.specs.Threshold.{foundFor, ringOpened, allWalked, walksFor, smaller}
 use Rattle.ring.specs.declared.Paged.{Paged}
-use Rattle.ring.specs.Numbers.{sheetsNo}
-use Rattle.ring.specs.Page.{keyNo, askedNo, pageNo, pageGiven, pageRefused, pageAnswer}
+use Rattle.ring.specs.Lent.{need, bitsNo, wipedBy}
+use Rattle.ring.specs.Numbers.{sheetsNo, positionNo, filterNo}
+use Rattle.ring.specs.Page.{keyNo, askedNo, pageNo, pageGiven, pageRefused, pageAnswer, pageBits}
 use Rattle.ring.specs.Partners.{idNo, leastNo, partnersNo, partnersCount, partnersGiven}
 use Rattle.refuted.proofs.Cases.{key, chambers, pumpSheet, chamberSheet, words, nothing, noForm}
 
@@ -122,23 +123,23 @@ walked-twice-wrong = (refl, refl)
 abbrev request : Request
 request = record { key = start; size = 2; threshold = 0 }
 
--- "refusing all": the document's own request is served. [N22, D2, V1]
-pub refusing-all-wrong : (k : ℕ) → pageAnswer pumpSheet chamberSheet request ≡ pageRefused (suc k) → ⊥
-unfolding pageAnswer pageNo pageGiven pageRefused answer keyNo sizeNo thresholdNo openNo bodyNo trailerNo first given countsOk within editionWord layoutOk rootWord pointsOk pointOk fieldsOk risesOk idWord coordWord before orderOk placeOk isBelow rankOf orderOf nodesOk tableOk nodeOk nodeRule runOk endOk isLast sameLevel dueOf dueNext tightOk tightSide best better minZ maxZ coordOf sideOf levelOf firstOf countOf eqZ num allB form1
+-- "refusing all": the document's own request, with the one word that two points need, is served. [N22, D2, V1]
+pub refusing-all-wrong : (k : ℕ) → pageAnswer pumpSheet chamberSheet request 1 ≡ pageRefused (suc k) → ⊥
+unfolding pageAnswer pageNo pageGiven pageRefused answer keyNo sizeNo thresholdNo bitsNo wordsFor openNo bodyNo trailerNo first given countsOk within editionWord layoutOk rootWord pointsOk pointOk fieldsOk risesOk idWord coordWord before orderOk placeOk isBelow rankOf orderOf nodesOk tableOk nodeOk nodeRule runOk endOk isLast sameLevel dueOf dueNext tightOk tightSide best better minZ maxZ coordOf sideOf levelOf firstOf countOf eqZ num allB limitsOf form1
 refusing-all-wrong k e = let z : 0 ≡ suc k = ap (λ (r : Paged). r .number) e in omega arith
 
 -- "an unchanging list", of what ships: of sheets that open, the pages' pairs are not always the same. [D2, V2]
-pub unchanging-page-wrong : (l : List Pair) → ((P Q : List ℤ) → sheetsNo P Q ≡ 0 → pageAnswer P Q request .page .pairs ≡ l) → ⊥
-unfolding pageAnswer pageNo pageGiven pageRefused answer keyNo sizeNo thresholdNo openNo bodyNo trailerNo first given countsOk within editionWord layoutOk rootWord pointsOk pointOk fieldsOk risesOk idWord coordWord before orderOk placeOk isBelow rankOf orderOf nodesOk tableOk nodeOk nodeRule runOk endOk isLast sameLevel dueOf dueNext tightOk tightSide best better minZ maxZ coordOf sideOf levelOf firstOf countOf eqZ num allB form1 sheetsNo pageOf shown padded after follows listFor listedFor pairFor atLeast listBy rows row ringPair unblocked blocks sameSpot pointsOf tab spotOf
+pub unchanging-page-wrong : (l : List Pair) → ((P Q : List ℤ) → sheetsNo P Q ≡ 0 → pageAnswer P Q request (need P) .page .pairs ≡ l) → ⊥
+unfolding pageAnswer pageNo pageGiven pageRefused answer keyNo sizeNo thresholdNo bitsNo wordsFor openNo bodyNo trailerNo first given countsOk within editionWord layoutOk rootWord pointsOk pointOk fieldsOk risesOk idWord coordWord before orderOk placeOk isBelow rankOf orderOf nodesOk tableOk nodeOk nodeRule runOk endOk isLast sameLevel dueOf dueNext tightOk tightSide best better minZ maxZ coordOf sideOf levelOf firstOf countOf eqZ num allB limitsOf form1 sheetsNo pageOf shown padded after follows listFor listedFor pairFor atLeast listBy rows row ringPair unblocked blocks sameSpot pointsOf tab spotOf
 unchanging-page-wrong l same =
     true≢false (ap (λ (k : List Pair). eqb (getD k 0 nonePair .q) 5) (same pumpSheet chamberSheet refl ∙ sym (same nothing chamberSheet refl)))
 
--- Q before P. "1 to 8 for P, then for Q": P has another form number, and Q has under 6 words. [N18]
+-- Q before P. "1 to 8 for P, then for Q": P has a form number that is none, and Q has under 6 words. [N18]
 abbrev chambersFirst : List ℤ → List ℤ → ℕ
 chambersFirst P Q = first (sheetNo Q ∷ sheetNo P ∷ [])
 
 pub chambers-first-wrong : (chambersFirst noForm [] ≡ 1) × (sheetsNo noForm [] ≡ 2)
-unfolding sheetsNo openNo trailerNo first given eqZ
+unfolding sheetsNo openNo trailerNo first given eqZ limitsOf form1
 chambers-first-wrong = (refl, refl)
 
 -- A key's ids are from 1. "each 0 to 2,000,000,000". [P1, N22]
@@ -153,9 +154,27 @@ key-from-one-wrong = (refl, refl)
 abbrev tBeforeSize : Key → ℕ → ℕ → ℕ
 tBeforeSize k size t = first (keyNo k ∷ thresholdNo t ∷ sizeNo size ∷ [])
 
-pub t-before-size-wrong : (tBeforeSize start 0 1001 ≡ 21) × (askedNo start 0 1001 ≡ 10)
+pub t-before-size-wrong : (tBeforeSize start 0 60001 ≡ 21) × (askedNo start 0 60001 ≡ 10)
 unfolding askedNo keyNo sizeNo thresholdNo first given
 t-before-size-wrong = (refl, refl)
+
+-- 24 before 9. "24 bit slice too short, after all others but 16 and 25": of a position past Q's points and no words it is 9. [Y15]
+abbrev bitsFirst : List ℤ → List ℤ → ℕ → ℕ → ℕ
+bitsFirst P Q j len = first (bitsNo (need P) len ∷ positionNo Q j ∷ [])
+
+pub bits-before-position-wrong : (bitsFirst pumpSheet chamberSheet 2 0 ≡ 24) × (filterNo pumpSheet chamberSheet 2 0 ≡ 9)
+unfolding filterNo positionNo bitsNo wordsFor openNo bodyNo trailerNo first given countsOk within editionWord layoutOk rootWord pointsOk pointOk fieldsOk risesOk idWord coordWord before orderOk placeOk isBelow rankOf orderOf nodesOk tableOk nodeOk nodeRule runOk endOk isLast sameLevel dueOf dueNext tightOk tightSide best better minZ maxZ coordOf sideOf levelOf firstOf countOf eqZ num allB limitsOf form1
+bits-before-position-wrong = (refl, refl)
+
+-- ---- the lent words
+
+-- All lent words are 0 after a page. "any other call zeros, and none touches words past them": two points need one word. [Y11]
+abbrev allCleared : List ℕ → List ℕ
+allCleared ws = replicate (length ws) 0
+
+pub clears-all-wrong : (allCleared (9 ∷ 9 ∷ []) ≡ 0 ∷ 0 ∷ []) × (pageBits pumpSheet chamberSheet request (9 ∷ 9 ∷ []) ≡ 0 ∷ 9 ∷ [])
+unfolding pageBits wipedBy wiped pageNo answer keyNo sizeNo thresholdNo bitsNo wordsFor openNo bodyNo trailerNo first given countsOk within editionWord layoutOk rootWord pointsOk pointOk fieldsOk risesOk idWord coordWord before orderOk placeOk isBelow rankOf orderOf nodesOk tableOk nodeOk nodeRule runOk endOk isLast sameLevel dueOf dueNext tightOk tightSide best better minZ maxZ coordOf sideOf levelOf firstOf countOf eqZ num allB limitsOf form1
+clears-all-wrong = (refl, refl)
 
 -- ---- a chamber's partners
 
@@ -164,7 +183,7 @@ pub pump-id-wrong : (idNo (pointsOf pumpSheet) 1 ≡ 0) × (idNo (pointsOf chamb
 unfolding idNo given positionOf firstB pointsOf tab spotOf num
 pump-id-wrong = (refl, refl)
 
--- t of 0 in the single question, as in a page's. "21 t outside 0 to 1,000, or 0 in the single question". [T9]
+-- t of 0 in the single question, as in a page's. "21 t outside [its range], or 0 in the single question". [T9]
 pub t-of-none-wrong : (thresholdNo 0 ≡ 0) × (leastNo 0 ≡ 21)
 unfolding thresholdNo leastNo given
 t-of-none-wrong = (refl, refl)
@@ -173,8 +192,8 @@ t-of-none-wrong = (refl, refl)
 abbrev tBeforeId : List Point → ℕ → ℕ → ℕ
 tBeforeId Q id t = first (leastNo t ∷ idNo Q id ∷ [])
 
-pub t-before-id-wrong : (tBeforeId chambers 1 0 ≡ 21) × (partnersNo nothing nothing 1 0 ≡ 20)
-unfolding partnersNo idNo leastNo positionOf firstB pointsOf tab openNo bodyNo trailerNo first given countsOk within editionWord layoutOk rootWord pointsOk pointOk fieldsOk risesOk idWord coordWord before orderOk placeOk isBelow rankOf orderOf nodesOk tableOk nodeOk nodeRule runOk endOk isLast sameLevel dueOf dueNext tightOk tightSide best better minZ maxZ coordOf sideOf levelOf firstOf countOf eqZ num allB form1
+pub t-before-id-wrong : (tBeforeId chambers 1 0 ≡ 21) × (partnersNo nothing nothing 1 0 0 ≡ 20)
+unfolding partnersNo idNo leastNo positionOf firstB pointsOf tab openNo bodyNo trailerNo first given countsOk within editionWord layoutOk rootWord pointsOk pointOk fieldsOk risesOk idWord coordWord before orderOk placeOk isBelow rankOf orderOf nodesOk tableOk nodeOk nodeRule runOk endOk isLast sameLevel dueOf dueNext tightOk tightSide best better minZ maxZ coordOf sideOf levelOf firstOf countOf eqZ num allB limitsOf form1
 t-before-id-wrong = (refl, refl)
 
 -- All partners. "the smaller of t and the number of its pairs in the list". [T1]

@@ -12,7 +12,7 @@ use Rattle.words.specs.First.{given, first, answer}
 use Rattle.words.specs.Range.{idWord, editionWord, coordWord}
 use Rattle.plane.specs.declared.Spot.{Spot}
 use Rattle.plane.specs.Rule.{spot, sameSpot, inBox, blocks, behind, drops, dropsBox, far, inside, sideIn}
-use Rattle.sheet.specs.Limits.{form1}
+use Rattle.sheet.specs.Limits.{form1, limitsOf}
 use Rattle.sheet.specs.Layout.{points, nodes, countsOk, rootWord, layoutOk, trailerNo}
 use Rattle.sheet.specs.Points.{fieldsOk, risesOk, pointOk, pointsOk}
 use Rattle.sheet.specs.Order.{orderOf, rankOf, placeOk, orderOk}
@@ -20,7 +20,7 @@ use Rattle.sheet.specs.Nodes.{levelOf, firstOf, countOf, sameLevel, dueNext, du
 use Rattle.sheet.specs.Boxes.{sideOf, coordOf, better, best, tightSide, tightOk, sumOver}
 use Rattle.sheet.specs.Open.{bodyNo, openNo}
 use Rattle.sheet.specs.Places.{spotOf, boxOf, pointsOf}
-use Rattle.bits.specs.Set.{digit, at as bitAt, kept, with, none as noBits}
+use Rattle.bits.specs.Set.{digit, at as bitAt, kept, with, none as noBits, wordsFor}
 use Rattle.list.specs.declared.Pair.{Pair}
 use Rattle.list.specs.Pairs.{none}
 use Rattle.list.specs.Rows.{row, rows, listBy}
@@ -30,7 +30,8 @@ use Rattle.walk.specs.FilterWalk.{Kept, soFar}
 use Rattle.walk.specs.RingWalk.{meet, ringTake, enter, ringVisit, ringOn, ringWalk, pairWalk}
 use Rattle.leaf.specs.LeafWalk.{slot, someB, chamberAt, chamberSpot, ruledOut, weigh, leafTake, skips, leafVisit, leafKept, leafKeeps}
 use Rattle.leaf.specs.LeafRun.{leafList, leafOpened}
-use Rattle.runs.specs.Run.{leafNo, roomNo, runNo, runSlots}
+use Rattle.ring.specs.Lent.{need, bitsNo}
+use Rattle.runs.specs.Run.{leafNo, roomNo, runNeed, runNo, runSlots}
 use Rattle.refuted.proofs.Cases.{words, to, pumpSheet, chamberSheet}
 
 -- ---- numbers of refusal
@@ -70,9 +71,25 @@ just-fits-wrong = (refl, refl)
 abbrev roomFirst : ℕ → List ℤ → ℕ → ℕ
 roomFirst len Q v = first (given (eqb len 0) 16 ∷ leafNo Q v ∷ [])
 
-pub room-first-wrong : (roomFirst 0 chamberSheet 9 ≡ 16) × (runNo pumpSheet chamberSheet 9 0 ≡ 19)
-unfolding runNo leafNo roomNo openNo bodyNo trailerNo first given countsOk within editionWord layoutOk rootWord pointsOk pointOk fieldsOk risesOk idWord coordWord before orderOk placeOk isBelow rankOf orderOf nodesOk tableOk nodeOk nodeRule runOk endOk isLast sameLevel dueOf dueNext tightOk tightSide best better minZ maxZ coordOf sideOf levelOf firstOf countOf eqZ num allB form1
+pub room-first-wrong : (roomFirst 0 chamberSheet 9 ≡ 16) × (runNo pumpSheet chamberSheet 9 0 0 ≡ 19)
+unfolding runNo leafNo roomNo openNo bodyNo trailerNo first given countsOk within editionWord layoutOk rootWord pointsOk pointOk fieldsOk risesOk idWord coordWord before orderOk placeOk isBelow rankOf orderOf nodesOk tableOk nodeOk nodeRule runOk endOk isLast sameLevel dueOf dueNext tightOk tightSide best better minZ maxZ coordOf sideOf levelOf firstOf countOf eqZ num allB limitsOf form1
 room-first-wrong = (refl, refl)
+
+-- 16 before 24. "24 bit slice too short, after all others but 16 and 25": with neither slots nor words lent it is 24. [Y15]
+abbrev roomBeforeBits : List ℤ → List Pair → ℕ → ℕ → ℕ
+roomBeforeBits P l len bits = first (roomNo l len ∷ bitsNo (runNeed P) bits ∷ [])
+
+pub room-before-bits-wrong : (roomBeforeBits pumpSheet three 0 0 ≡ 16) × (runNo pumpSheet chamberSheet 0 0 0 ≡ 24)
+unfolding runNo leafNo bitsNo wordsFor roomNo openNo bodyNo trailerNo first given countsOk within editionWord layoutOk rootWord pointsOk pointOk fieldsOk risesOk idWord coordWord before orderOk placeOk isBelow rankOf orderOf nodesOk tableOk nodeOk nodeRule runOk endOk isLast sameLevel dueOf dueNext tightOk tightSide best better minZ maxZ coordOf sideOf levelOf firstOf countOf eqZ num allB limitsOf form1
+room-before-bits-wrong = (refl, refl)
+
+-- As many words as a filter walk needs. "sixteen times as many for a leaf run": two points need sixteen. [Y8]
+abbrev filterWords : List ℤ → ℕ → ℕ
+filterWords P bits = bitsNo (need P) bits
+
+pub filter-words-wrong : (filterWords pumpSheet 1 ≡ 0) × (bitsNo (runNeed pumpSheet) 1 ≡ 24)
+unfolding bitsNo wordsFor given num
+filter-words-wrong = (refl, refl)
 
 -- ---- the slots
 
@@ -84,8 +101,8 @@ abbrev marked : List Pair
 marked = to 9 9 9 ∷ to 9 9 9 ∷ to 9 9 9 ∷ to 8 8 8 ∷ []
 
 pub rest-touched-wrong :
-    (restGone pumpSheet chamberSheet 0 marked ≡ three ++ (none ∷ [])) × (runSlots pumpSheet chamberSheet 0 marked ≡ three ++ (to 8 8 8 ∷ []))
-unfolding runSlots runNo leafNo roomNo answer leafList chamberAt listBy rows row ringPair unblocked blocks sameSpot pointsOf tab spotOf openNo bodyNo trailerNo first given countsOk within editionWord layoutOk rootWord pointsOk pointOk fieldsOk risesOk idWord coordWord before orderOk placeOk isBelow rankOf orderOf nodesOk tableOk nodeOk nodeRule runOk endOk isLast sameLevel dueOf dueNext tightOk tightSide best better minZ maxZ coordOf sideOf levelOf firstOf countOf eqZ num allB form1
+    (restGone pumpSheet chamberSheet 0 marked ≡ three ++ (none ∷ [])) × (runSlots pumpSheet chamberSheet 0 marked 16 ≡ three ++ (to 8 8 8 ∷ []))
+unfolding runSlots runNo leafNo bitsNo wordsFor roomNo answer leafList chamberAt listBy rows row ringPair unblocked blocks sameSpot pointsOf tab spotOf openNo bodyNo trailerNo first given countsOk within editionWord layoutOk rootWord pointsOk pointOk fieldsOk risesOk idWord coordWord before orderOk placeOk isBelow rankOf orderOf nodesOk tableOk nodeOk nodeRule runOk endOk isLast sameLevel dueOf dueNext tightOk tightSide best better minZ maxZ coordOf sideOf levelOf firstOf countOf eqZ num allB limitsOf form1
 rest-touched-wrong = (refl, refl)
 
 -- As many pairs as there are slots for. Refused by 16, the call "leaves lent memory [..] as they stood". [L10]
@@ -95,8 +112,8 @@ filledUp P Q v slots = take (length slots) (leafList P Q v)
 abbrev few : List Pair
 few = to 9 9 9 ∷ []
 
-pub filled-up-wrong : (filledUp pumpSheet chamberSheet 0 few ≡ to 5 1 16 ∷ []) × (runSlots pumpSheet chamberSheet 0 few ≡ few)
-unfolding runSlots runNo leafNo roomNo answer leafList chamberAt listBy rows row ringPair unblocked blocks sameSpot pointsOf tab spotOf openNo bodyNo trailerNo first given countsOk within editionWord layoutOk rootWord pointsOk pointOk fieldsOk risesOk idWord coordWord before orderOk placeOk isBelow rankOf orderOf nodesOk tableOk nodeOk nodeRule runOk endOk isLast sameLevel dueOf dueNext tightOk tightSide best better minZ maxZ coordOf sideOf levelOf firstOf countOf eqZ num allB form1
+pub filled-up-wrong : (filledUp pumpSheet chamberSheet 0 few ≡ to 5 1 16 ∷ []) × (runSlots pumpSheet chamberSheet 0 few 16 ≡ few)
+unfolding runSlots runNo leafNo bitsNo wordsFor roomNo answer leafList chamberAt listBy rows row ringPair unblocked blocks sameSpot pointsOf tab spotOf openNo bodyNo trailerNo first given countsOk within editionWord layoutOk rootWord pointsOk pointOk fieldsOk risesOk idWord coordWord before orderOk placeOk isBelow rankOf orderOf nodesOk tableOk nodeOk nodeRule runOk endOk isLast sameLevel dueOf dueNext tightOk tightSide best better minZ maxZ coordOf sideOf levelOf firstOf countOf eqZ num allB limitsOf form1
 filled-up-wrong = (refl, refl)
 
 -- By q id. "by place, then p id": in this leaf chamber 6 stands at the first place. [L1]

@@ -14,7 +14,8 @@ use Rattle.words.specs.All.{allB, firstB, tab}
 use Rattle.words.specs.First.{given, first, answer}
 use Rattle.words.specs.Range.{idWord, editionWord, coordWord, editionOk}
 use Rattle.words.specs.Bytes.{spell, word}
-use Rattle.sheet.specs.Limits.{form1}
+use Rattle.sheet.specs.declared.Limits.{Limits}
+use Rattle.sheet.specs.Limits.{form1, form2, limitsOf}
 use Rattle.sheet.specs.Layout.{points, nodes, span, root, countsOk, rootWord, layoutOk, trailerNo}
 use Rattle.sheet.specs.Points.{idAt, fieldsOk, risesOk, pointOk, pointsOk}
 use Rattle.sheet.specs.Order.{orderOf, rankOf, placeOk, orderOk}
@@ -24,7 +25,7 @@ use Rattle.sheet.specs.Open.{bodyNo, openNo, sheetNo}
 use Rattle.pack.specs.Order.{placeIn, listOk, orderListOk}
 use Rattle.pack.specs.Tree.{up16, width, ground, above, oneLeft, nodesFrom, nodesFor}
 use Rattle.pack.specs.Packed.{flatWord, bodyWord, packWord, sheetSize, packed}
-use Rattle.pack.specs.Pack.{shapeOk, rangeOk, packNo, packOut}
+use Rattle.pack.specs.Pack.{shapeOk, formOk, rangeOk, withinNo, packNo, packOut}
 use Rattle.refuted.proofs.Cases.{words, pumpSheet}
 
 -- ---- words in files
@@ -60,7 +61,7 @@ abbrev looseOk : List ℤ → ℕ → ℕ → Bool
 looseOk w n m = allB m (λ j. allB 4 (largeEnough w n j))
 
 pub loose-box-wrong : (looseOk (one 4) 1 1 ≡ true) × (sheetNo (one 4) ≡ 8)
-unfolding openNo bodyNo trailerNo first given countsOk within editionWord layoutOk rootWord pointsOk pointOk fieldsOk risesOk idWord coordWord orderOk placeOk isBelow rankOf orderOf nodesOk tableOk nodeOk nodeRule runOk endOk isLast sameLevel dueOf dueNext tightOk tightSide best better minZ maxZ coordOf sideOf levelOf firstOf countOf eqZ num allB form1
+unfolding openNo bodyNo trailerNo first given countsOk within editionWord layoutOk rootWord pointsOk pointOk fieldsOk risesOk idWord coordWord orderOk placeOk isBelow rankOf orderOf nodesOk tableOk nodeOk nodeRule runOk endOk isLast sameLevel dueOf dueNext tightOk tightSide best better minZ maxZ coordOf sideOf levelOf firstOf countOf eqZ num allB limitsOf form1
 loose-box-wrong = (refl, refl)
 
 -- Words past the sheet's end. "A sheet is exactly span+6 words." [S12, N9]
@@ -69,7 +70,7 @@ atLeastSpan w =
     eqZ (span w) (pos (5 * points w + 7 * nodes w)) && eqZ (root w) (pos (rootWord (nodes w))) && leb (5 * points w + 7 * nodes w + 6) (length w)
 
 pub longer-than-span-wrong : (atLeastSpan (pos 0 ∷ pumpSheet) ≡ true) × (sheetNo (pos 0 ∷ pumpSheet) ≡ 4)
-unfolding openNo trailerNo first given countsOk within editionWord layoutOk rootWord eqZ num form1
+unfolding openNo trailerNo first given countsOk within editionWord layoutOk rootWord eqZ num limitsOf form1
 longer-than-span-wrong = (refl, refl)
 
 -- The root word is always 7. "root (7 words back, or 0 when m is 0)": a sheet of nothing opens. [S11]
@@ -77,7 +78,7 @@ abbrev empty : ℕ → List ℤ
 empty r = words (0 ∷ r ∷ 0 ∷ 0 ∷ 3 ∷ 1 ∷ [])
 
 pub root-always-wrong : (sheetNo (empty 7) ≡ 4) × (sheetNo (empty 0) ≡ 0)
-unfolding openNo bodyNo trailerNo first given countsOk within editionWord layoutOk rootWord pointsOk orderOk nodesOk tableOk tightOk eqZ num allB form1
+unfolding openNo bodyNo trailerNo first given countsOk within editionWord layoutOk rootWord pointsOk orderOk nodesOk tableOk tightOk eqZ num allB limitsOf form1
 root-always-wrong = (refl, refl)
 
 -- Two records of one id. "Ids strictly ascending". [S3]
@@ -88,7 +89,7 @@ abbrev twins : List ℤ
 twins = words (1 ∷ 0 ∷ 0 ∷ 1 ∷ 10 ∷ 0 ∷ 0 ∷ 1 ∷ 0 ∷ 1 ∷ 0 ∷ 0 ∷ 2 ∷ 0 ∷ 0 ∷ 10 ∷ 0 ∷ 17 ∷ 7 ∷ 2 ∷ 1 ∷ 7 ∷ 1 ∷ [])
 
 pub same-id-wrong : (notFalling twins 1 ≡ true) × (sheetNo twins ≡ 5)
-unfolding openNo bodyNo trailerNo first given countsOk within editionWord layoutOk rootWord pointsOk pointOk fieldsOk risesOk idWord coordWord before eqZ num allB form1
+unfolding openNo bodyNo trailerNo first given countsOk within editionWord layoutOk rootWord pointsOk pointOk fieldsOk risesOk idWord coordWord before eqZ num allB limitsOf form1
 same-id-wrong = (refl, refl)
 
 -- The order before the points. "The first that applies, in the order listed": an id of 0 and a place of 5 give 5. [N35]
@@ -99,7 +100,7 @@ abbrev faults : List ℤ
 faults = words (0 ∷ 0 ∷ 0 ∷ 5 ∷ 0 ∷ 0 ∷ 0 ∷ 1 ∷ 0 ∷ 0 ∷ 0 ∷ 0 ∷ 12 ∷ 7 ∷ 1 ∷ 1 ∷ 3 ∷ 1 ∷ [])
 
 pub order-first-wrong : (orderFirst faults 1 1 ≡ 6) × (sheetNo faults ≡ 5)
-unfolding openNo bodyNo trailerNo first given countsOk within editionWord layoutOk rootWord pointsOk pointOk fieldsOk risesOk idWord coordWord orderOk placeOk isBelow rankOf eqZ num allB form1
+unfolding openNo bodyNo trailerNo first given countsOk within editionWord layoutOk rootWord pointsOk pointOk fieldsOk risesOk idWord coordWord orderOk placeOk isBelow rankOf eqZ num allB limitsOf form1
 order-first-wrong = (refl, refl)
 
 -- A rank that is any place. "order at rank of i is i for every i". [S8]
@@ -110,8 +111,19 @@ abbrev turned : List ℤ
 turned = words (1 ∷ 0 ∷ 0 ∷ 2 ∷ 10 ∷ 0 ∷ 0 ∷ 1 ∷ 1 ∷ 0 ∷ 0 ∷ 0 ∷ 2 ∷ 0 ∷ 0 ∷ 10 ∷ 0 ∷ 17 ∷ 7 ∷ 2 ∷ 1 ∷ 7 ∷ 1 ∷ [])
 
 pub any-rank-wrong : (allB 2 (anyRank turned 2) ≡ true) × (sheetNo turned ≡ 6)
-unfolding openNo bodyNo trailerNo first given countsOk within editionWord layoutOk rootWord pointsOk pointOk fieldsOk risesOk idWord coordWord before orderOk placeOk isBelow rankOf orderOf eqZ num allB form1
+unfolding openNo bodyNo trailerNo first given countsOk within editionWord layoutOk rootWord pointsOk pointOk fieldsOk risesOk idWord coordWord before orderOk placeOk isBelow rankOf orderOf eqZ num allB limitsOf form1
 any-rank-wrong = (refl, refl)
+
+-- A sheet of form 1 under form 2's limits. "Form 1 sheets open as before under their own limits": a coordinate of 1,000,001 gives 5. [Y1, Y2]
+abbrev wideFirst : Limits
+wideFirst = record { form = 1; points = form2 .points; nodes = form2 .nodes; coordinate = form2 .coordinate }
+
+abbrev outside : List ℤ
+outside = words (1 ∷ 1000001 ∷ 0 ∷ 0 ∷ 0 ∷ 0 ∷ 0 ∷ 1 ∷ 1000001 ∷ 0 ∷ 1000001 ∷ 0 ∷ 12 ∷ 7 ∷ 1 ∷ 1 ∷ 3 ∷ 1 ∷ [])
+
+pub form-wide-wrong : (openNo wideFirst outside ≡ 0) × (sheetNo outside ≡ 5)
+unfolding openNo bodyNo trailerNo first given countsOk within editionWord layoutOk rootWord pointsOk pointOk fieldsOk risesOk idWord coordWord orderOk placeOk isBelow rankOf orderOf nodesOk tableOk nodeOk nodeRule runOk endOk isLast sameLevel dueOf dueNext tightOk tightSide best better minZ maxZ coordOf sideOf levelOf firstOf countOf eqZ num allB limitsOf form1 form2
+form-wide-wrong = (refl, refl)
 
 -- ---- the packer
 
@@ -124,16 +136,24 @@ unfolding nodesFor nodesFrom oneLeft width ground above up16
 stops-early-wrong = (refl, refl)
 
 -- "a packer that writes nothing": of one point at (4, 0), the lent words do not stay as they were. [S25, V4]
-pub writes-nothing-wrong : packOut form1 1 (words (1 ∷ 4 ∷ 0 ∷ [])) (words (0 ∷ [])) 3 (replicate 18 (pos 0)) ≡ replicate 18 (pos 0) → ⊥
-unfolding packOut packNo answer first given shapeOk rangeOk editionOk pointsOk pointOk fieldsOk risesOk idWord coordWord within orderListOk listOk isBelow placeIn firstB sheetSize nodesFor nodesFrom oneLeft width ground above up16 eqZ allB form1 packed tab packWord bodyWord flatWord
+pub writes-nothing-wrong : packOut 1 1 (words (1 ∷ 4 ∷ 0 ∷ [])) (words (0 ∷ [])) 3 (replicate 18 (pos 0)) ≡ replicate 18 (pos 0) → ⊥
+unfolding packOut packNo withinNo answer first given shapeOk formOk rangeOk editionOk pointsOk pointOk fieldsOk risesOk idWord coordWord within orderListOk listOk isBelow placeIn firstB sheetSize nodesFor nodesFrom oneLeft width ground above up16 eqZ allB limitsOf form1 packed tab packWord bodyWord flatWord
 writes-nothing-wrong e = true≢false (ap (λ (l : List ℤ). eqZ (getD l 0 (pos 0)) (pos 1)) e)
 
 -- As much of the sheet as there is room for. Refused by 17, the call "leaves lent memory [..] as they stood". [N3, N17]
 abbrev written : List ℤ → List ℤ → ℕ → ℕ → List ℤ → List ℤ
-written p o n ed out = take (length out) (packed p o n ed)
+written p o n ed out = take (length out) (packed 1 p o n ed)
 
 pub touches-refused-wrong :
     (getD (written (words (1 ∷ 4 ∷ 0 ∷ [])) (words (0 ∷ [])) 1 3 (replicate 17 (pos 0))) 0 (pos 0) ≡ pos 1)
-    × (packOut form1 1 (words (1 ∷ 4 ∷ 0 ∷ [])) (words (0 ∷ [])) 3 (replicate 17 (pos 0)) ≡ replicate 17 (pos 0))
-unfolding packOut packNo answer first given shapeOk rangeOk editionOk pointsOk pointOk fieldsOk risesOk idWord coordWord within orderListOk listOk isBelow placeIn firstB sheetSize nodesFor nodesFrom oneLeft width ground above up16 eqZ allB form1 packed tab packWord bodyWord flatWord
+    × (packOut 1 1 (words (1 ∷ 4 ∷ 0 ∷ [])) (words (0 ∷ [])) 3 (replicate 17 (pos 0)) ≡ replicate 17 (pos 0))
+unfolding packOut packNo withinNo answer first given shapeOk formOk rangeOk editionOk pointsOk pointOk fieldsOk risesOk idWord coordWord within orderListOk listOk isBelow placeIn firstB sheetSize nodesFor nodesFrom oneLeft width ground above up16 eqZ allB limitsOf form1 packed tab packWord bodyWord flatWord
 touches-refused-wrong = (refl, refl)
+
+-- 2 before 18. "2 for a form other than 1 or 2, in pack after 18": of form 3 and with no point words for one point it is 18. [Y4]
+abbrev formFirst : ℕ → ℕ → List ℤ → List ℤ → ℕ
+formFirst form n p o = first (given (not (formOk form)) 2 ∷ given (not (shapeOk n p o)) 18 ∷ [])
+
+pub form-before-shape-wrong : (formFirst 3 1 [] [] ≡ 2) × (packNo 3 1 [] [] 3 18 ≡ 18)
+unfolding packNo first given shapeOk formOk
+form-before-shape-wrong = (refl, refl)

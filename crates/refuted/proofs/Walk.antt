@@ -15,7 +15,7 @@ use Rattle.sheet.specs.Order.{orderOf}
 use Rattle.sheet.specs.Nodes.{levelOf, firstOf, countOf}
 use Rattle.sheet.specs.Boxes.{sideOf}
 use Rattle.sheet.specs.Places.{spotOf, boxOf}
-use Rattle.bits.specs.Set.{digit, at, kept, with, none, some}
+use Rattle.bits.specs.Set.{digit, at, kept, with, none, wordsFor, some}
 use Rattle.list.specs.RingList.{unblocked, ringPair}
 use Rattle.walk.specs.declared.Hit.the-variants.{Point, Side}
 use Rattle.walk.specs.declared.Answer.{Answer}
@@ -34,6 +34,14 @@ with32 ws i = set ws (i / 64) (getD ws (i / 64) 0 + 2 ^ (i % 32))
 pub wrong-bit-wrong : (kept (with32 (0 ∷ []) 40) 40 ≡ false) × (kept (with (0 ∷ []) 40) 40 ≡ true)
 unfolding kept with at digit
 wrong-bit-wrong = (refl, refl)
+
+-- n / 64 words, the rest cut off. "as many 64-bit words as the points need": 65 points need two. [Y7]
+abbrev wholeWords : ℕ → ℕ
+wholeWords n = n / 64
+
+pub whole-words-wrong : (wholeWords 65 ≡ 1) × (wordsFor 65 ≡ 2)
+unfolding wordsFor
+whole-words-wrong = (refl, refl)
 
 -- ---- the filter walk
 

@@ -8,9 +8,8 @@ use lib.ListN.{length}
 use Rattle.words.specs.First.{first}
 use Rattle.words.proofs.FirstLaws.{none-applies, first-passes, first-stops, first-last, first-front, answer-given, answer-refused, answer-number}
 use Rattle.sheet.specs.Layout.{points, nodes}
-use Rattle.sheet.specs.Limits.{form1}
 use Rattle.sheet.specs.Open.{sheetNo, Opens}
-use Rattle.sheet.proofs.SheetLaws.{open-facts, open-trailer, form1-fair}
+use Rattle.sheet.proofs.SheetLaws.{sheet-facts, sheet-long}
 use Rattle.ring.specs.Numbers.{sheetsNo}
 use Rattle.ring.specs.Answers.{headOf, headsOf}
 use Rattle.ring.specs.declared.Head.{Head}
@@ -18,12 +17,7 @@ use Rattle.ring.specs.declared.Heads.{Heads}
 
 -- a sheet has its trailer
 pub long : (w : List ℤ) → sheetNo w ≡ 0 → 6 ≤ length w
-long w e = open-trailer form1 w e .long
-
--- and at most 1,000 points
-pub heads-few : (w : List ℤ) → sheetNo w ≡ 0 → points w ≤ 1000
-unfolding form1
-heads-few w e = open-trailer form1 w e .n-le
+long w e = sheet-long w e
 
 abbrev found : List ℤ → Head
 found w = record { number = 0; len = length w; n = points w; m = nodes w }
@@ -60,7 +54,7 @@ headed w h e z =
       len-is = ap (λ (g : Head). g .len) f;
       n-is = ap (λ (g : Head). g .n) f;
       m-is = ap (λ (g : Head). g .m) f;
-      facts = subst (λ (g : Head). Opens w (g .n) (g .m)) (sym f) (open-facts form1 form1-fair w o);
+      facts = subst (λ (g : Head). Opens w (g .n) (g .m)) (sym f) (sheet-facts w o);
     }
 
 abbrev both : List ℤ → List ℤ → Heads
@@ -117,7 +111,7 @@ pub record HeadedBoth (P Q : List ℤ) (h : Heads) : Type 0 where
   pub opens : sheetsNo P Q ≡ 0
   pub np-is : h .np ≡ points P
   pub nq-is : h .nq ≡ points Q
-  pub np-le : h .np ≤ 1000
+  pub p-opens : Opens P (points P) (nodes P)
   pub p-facts : Opens P (h .np) (h .mp)
   pub q-facts : Opens Q (h .nq) (h .mq)
 
@@ -130,9 +124,9 @@ headed-both P Q h e z =
       opens = o;
       np-is = ap (λ (g : Heads). g .np) f;
       nq-is = ap (λ (g : Heads). g .nq) f;
-      np-le = subst (λ (g : Heads). g .np ≤ 1000) (sym f) (heads-few P (s .0));
-      p-facts = subst (λ (g : Heads). Opens P (g .np) (g .mp)) (sym f) (open-facts form1 form1-fair P (s .0));
-      q-facts = subst (λ (g : Heads). Opens Q (g .nq) (g .mq)) (sym f) (open-facts form1 form1-fair Q (s .1));
+      p-opens = sheet-facts P (s .0);
+      p-facts = subst (λ (g : Heads). Opens P (g .np) (g .mp)) (sym f) (sheet-facts P (s .0));
+      q-facts = subst (λ (g : Heads). Opens Q (g .nq) (g .mq)) (sym f) (sheet-facts Q (s .1));
     }
 
 -- the number of a call on two sheets: theirs, and where they open what comes after

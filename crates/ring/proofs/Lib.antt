@@ -1,5 +1,6 @@
 -- The answers of the calls by their number, and that one input has one answer.
 --     NumberLaws    the number of a position
+--     LentLaws      the number of the words lent, and what a call leaves there by its number
 --     HeadLaws      what the check of one sheet, and of two, finds
 --     PointLaws     the point reader
 --     RingLaws      the ring walk
@@ -9,6 +10,7 @@
 --     PartnersLaws  the question for a chamber's partners
 --     OwnLaws        the page request of a self join
 pub mod NumberLaws
+pub mod LentLaws
 pub mod HeadLaws
 pub mod PointLaws
 pub mod RingLaws

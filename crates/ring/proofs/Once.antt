@@ -6,12 +6,10 @@ use mathlib.Core.List.{List}
 use Prim.Native.Nat.{ℕ}
 use lib.IntN.{ℤ}
 use Rattle.words.proofs.FirstLaws.{answer-number}
-use Rattle.sheet.specs.Places.{spotOf}
 use Rattle.sheet.specs.Open.{sheetNo}
-use Rattle.walk.specs.FilterWalk.{filterKept}
 use Rattle.walk.specs.RingWalk.{pairWalk}
 use Rattle.ring.specs.Numbers.{pointNo, filterNo, ringNo}
-use Rattle.ring.specs.Answers.{headOf, assetOf, pointedNo, pointed, filteredTo, unfiltered, filtered, walkedNo, walkedClear, walked}
+use Rattle.ring.specs.Answers.{headOf, assetOf, pointedNo, pointed, filteredTo, unfiltered, keptFor, filtered, walkedNo, walkedClear, walked}
 use Rattle.ring.specs.declared.Head.{Head}
 use Rattle.ring.specs.declared.Pointed.{Pointed}
 use Rattle.ring.specs.declared.Pointed.the-variants.{At, Refused as NoPoint}
@@ -32,8 +30,8 @@ ring-point-once w i r r′ e f = e ∙ sym f
 pub ring-walk-once : (P Q : List ℤ) (j i : ℕ) (r r′ : Walked) → r ≡ walked P Q j i → r′ ≡ walked P Q j i → r ≡ r′
 ring-walk-once P Q j i r r′ e f = e ∙ sym f
 
-pub ring-filter-once : (P Q : List ℤ) (j : ℕ) (r r′ : Filtered) → r ≡ filtered P Q j → r′ ≡ filtered P Q j → r ≡ r′
-ring-filter-once P Q j r r′ e f = e ∙ sym f
+pub ring-filter-once : (P Q : List ℤ) (j len : ℕ) (r r′ : Filtered) → r ≡ filtered P Q j len → r′ ≡ filtered P Q j len → r ≡ r′
+ring-filter-once P Q j len r r′ e f = e ∙ sym f
 
 -- ---- the number of each answer
 
@@ -49,6 +47,6 @@ ring-walk-no P Q j i = answer-number (Done (pairWalk P Q j i)) Refused walkedNo 
 pub refused-not-clear : (P Q : List ℤ) (j i : ℕ) → (ringNo P Q j i ≡ 0 → ⊥) → walkedClear (walked P Q j i) ≡ false
 refused-not-clear P Q j i ne = ap walkedClear (sym (ring-refused P Q j i (ringNo P Q j i) refl ne))
 
-pub ring-filter-no : (P Q : List ℤ) (j : ℕ) → filtered P Q j .number ≡ filterNo P Q j
+pub ring-filter-no : (P Q : List ℤ) (j len : ℕ) → filtered P Q j len .number ≡ filterNo P Q j len
 unfolding filtered filteredTo unfiltered
-ring-filter-no P Q j = answer-number (filteredTo (filterKept 16 P (spotOf Q j))) unfiltered (λ r. r .number) refl (λ k. refl) (filterNo P Q j)
+ring-filter-no P Q j len = answer-number (filteredTo (keptFor P Q j)) unfiltered (λ r. r .number) refl (λ k. refl) (filterNo P Q j len)

@@ -5,20 +5,21 @@
 --     ring-own-once         one request, one answer
 --     own-list         following the answers from (0, 0), whatever their sizes from 1 to 16, gives the list
 -- Assumes nothing.
-use mathlib.Core.Path.{_≡_, refl, sym, _∙_}
-use mathlib.Core.List.{List, [], _∷_}
-use Prim.Native.Nat.{ℕ, zero, suc, _≤_}
+use mathlib.Core.Path.{_≡_, refl, sym, ap, _∙_}
+use mathlib.Core.List.{List, [], _∷_, _++_}
+use Prim.Native.Nat.{ℕ, zero, suc, _≤_, _<_}
 use native.Mathlib.Omega.{arith}
 use lib.IntN.{ℤ}
-use lib.ListN.{length}
+use lib.ListN.{length, take, drop}
 use borrow.Author.Tests.{le-leb}
 use Rattle.words.specs.First.{given, first}
-use Rattle.words.proofs.FirstLaws.{first-passes, first-stops, first-front, answer-given, answer-refused, answer-number}
+use Rattle.words.proofs.FirstLaws.{first-passes, first-stops, first-last, first-front, answer-given, answer-refused, answer-number}
 use Rattle.words.specs.Range.{lastId}
-use Rattle.sheet.specs.Limits.{form1}
+use Rattle.bits.specs.Set.{none, wordsFor, wiped}
+use Rattle.bits.proofs.LentLaws.{part-wiped}
 use Rattle.sheet.specs.Places.{pointsOf}
 use Rattle.sheet.specs.Open.{sheetNo}
-use Rattle.sheet.proofs.SheetLaws.{open-facts, form1-fair}
+use Rattle.sheet.proofs.SheetLaws.{sheet-facts}
 use Rattle.list.specs.declared.Key.{Key}
 use Rattle.list.specs.Pairs.{start}
 use Rattle.list.specs.Pages.{thresholdNo, sizeNo, followed}
@@ -29,8 +30,10 @@ use Rattle.ring.specs.declared.Head.{Head}
 use Rattle.ring.specs.declared.Paged.{Paged}
 use Rattle.ring.specs.Answers.{headOf}
 use Rattle.ring.specs.Page.{keyNo, askedNo, pageGiven, pageRefused}
-use Rattle.ring.specs.Own.{ownNo, ownAnswer}
-use Rattle.ring.proofs.HeadLaws.{Headed, headed, head-number, heads-few}
+use Rattle.ring.specs.Lent.{need, bitsNo}
+use Rattle.ring.specs.Own.{ownNo, ownAnswer, ownBits}
+use Rattle.ring.proofs.LentLaws.{bits-short, bits-enough, wiped-refused, wiped-given}
+use Rattle.ring.proofs.HeadLaws.{headed, head-number}
 use Rattle.ring.proofs.PageLaws.{followed-list}
 
 -- a self join is asked of with no t: 9, then 10
@@ -42,57 +45,79 @@ asked-own key size = first-front (keyNo key ∷ sizeNo size ∷ []) (thresholdNo
     go zero = unfold first thresholdNo given in refl
     go (suc k) = unfold first in refl
 
-module _ (S : List ℤ) (key : Key) (size : ℕ) where
+module _ (S : List ℤ) (key : Key) (size len : ℕ) where
   -- refused: its number, and zeros
-  pub own-refused : (k : ℕ) → ownNo S key size ≡ k → (k ≡ 0 → ⊥) → ownAnswer S key size ≡ pageRefused k
+  pub own-refused : (k : ℕ) → ownNo S key size len ≡ k → (k ≡ 0 → ⊥) → ownAnswer S key size len ≡ pageRefused k
   unfolding ownAnswer
   own-refused k e ne = answer-refused _ pageRefused _ k e ne
 
-  pub own-answered : ownNo S key size ≡ 0 → ownAnswer S key size ≡ pageGiven alone S S key size
+  pub own-answered : ownNo S key size len ≡ 0 → ownAnswer S key size len ≡ pageGiven alone S S key size
   unfolding ownAnswer
   own-answered e = answer-given _ pageRefused _ e
 
   -- one request, one answer
-  pub ring-own-once : (r r′ : Paged) → r ≡ ownAnswer S key size → r′ ≡ ownAnswer S key size → r ≡ r′
+  pub ring-own-once : (r r′ : Paged) → r ≡ ownAnswer S key size len → r′ ≡ ownAnswer S key size len → r ≡ r′
   ring-own-once r r′ e f = e ∙ sym f
 
-  -- No other request is refused: a sheet that opens, each id of the key at most 2,000,000,000 and a size from 1 to 16 are served.
-  pub own-served : sheetNo S ≡ 0 → key .q ≤ lastId → key .p ≤ lastId → 1 ≤ size → size ≤ 16 → ownAnswer S key size ≡ pageGiven alone S S key size
+  -- No other request is refused: a sheet that opens, each id of the key at most 2,000,000,000, a size from 1 to 16 and as many words as the points need are served.
+  pub own-served : sheetNo S ≡ 0 → key .q ≤ lastId → key .p ≤ lastId → 1 ≤ size → size ≤ 16 → need S ≤ len → ownAnswer S key size len ≡ pageGiven alone S S key size
   unfolding ownNo keyNo first given
-  own-served opens a b c d = own-answered (rw (opens, le-leb (key .q) lastId a, le-leb (key .p) lastId b, size-taken size c d))
+  own-served opens a b c d f = own-answered (rw (opens, le-leb (key .q) lastId a, le-leb (key .p) lastId b, size-taken size c d, bits-enough (need S) len f))
 
   -- the number is the first that applies
-  pub ring-own-no : ownAnswer S key size .number ≡ ownNo S key size
+  pub ring-own-no : ownAnswer S key size len .number ≡ ownNo S key size len
   unfolding ownAnswer pageGiven pageRefused
-  ring-own-no = answer-number (pageGiven alone S S key size) pageRefused (λ r. r .number) refl (λ k. refl) (ownNo S key size)
+  ring-own-no = answer-number (pageGiven alone S S key size) pageRefused (λ r. r .number) refl (λ k. refl) (ownNo S key size len)
 
-  module _ (h : Head) (e : h ≡ headOf S) (r : Paged) where
-    pub own-shut : (h .number ≡ 0 → ⊥) → r ≡ pageRefused (h .number) → r ≡ ownAnswer S key size
+-- what a request answers and leaves in the words lent
+abbrev pub OwnDone : List ℤ → Key → ℕ → List ℕ → Paged → List ℕ → Type 0
+OwnDone S key size ws r ws₁ = (r ≡ ownAnswer S key size (length ws)) × (ws₁ ≡ ownBits S key size ws)
+
+module _ (S : List ℤ) (key : Key) (size : ℕ) (ws : List ℕ) (h : Head) (e : h ≡ headOf S) (r : Paged) where
+  stops : (k : ℕ) → ownNo S key size (length ws) ≡ k → (k ≡ 0 → ⊥) → r ≡ pageRefused k → OwnDone S key size ws r ws
+  unfolding ownBits
+  stops k x ne f = (f ∙ sym (own-refused S key size (length ws) k x ne), wiped-refused ws _ _ k x ne)
+
+  pub own-shut : (h .number ≡ 0 → ⊥) → r ≡ pageRefused (h .number) → OwnDone S key size ws r ws
+  unfolding ownNo
+  own-shut ne f =
+      let n = head-number S h e in
+      stops (h .number) (first-stops (sheetNo S) _ (λ z. ne (n ∙ z)) ∙ sym n) ne f
+
+  module _ (z : h .number ≡ 0) (a : ℕ) (d : a ≡ askedNo key size 0) where
+    after : ownNo S key size (length ws) ≡ first (a ∷ bitsNo (need S) (length ws) ∷ [])
     unfolding ownNo
-    own-shut ne f =
-        let n = head-number S h e in
-        f ∙ sym (own-refused (h .number) (first-stops (sheetNo S) _ (λ z. ne (n ∙ z)) ∙ sym n) ne)
+    after =
+        first-passes (sheetNo S) _ (headed S h e z .opens)
+        ∙ first-front (keyNo key ∷ sizeNo size ∷ []) (bitsNo (need S) (length ws) ∷ [])
+        ∙ ap (λ (n : ℕ). first (n ∷ bitsNo (need S) (length ws) ∷ [])) (sym (d ∙ asked-own key size))
 
-    module _ (z : h .number ≡ 0) (a : ℕ) (d : a ≡ askedNo key size 0) where
-      after : ownNo S key size ≡ a
-      unfolding ownNo
-      after = first-passes (sheetNo S) _ (headed S h e z .opens) ∙ sym (d ∙ asked-own key size)
+    pub own-asked : (a ≡ 0 → ⊥) → r ≡ pageRefused a → OwnDone S key size ws r ws
+    own-asked ne f = stops a (after ∙ first-stops a _ ne) ne f
 
-      pub own-asked : (a ≡ 0 → ⊥) → r ≡ pageRefused a → r ≡ ownAnswer S key size
-      own-asked ne f = f ∙ sym (own-refused a after ne)
+    module _ (y : a ≡ 0) (w : ℕ) (as-many : w ≡ wordsFor (h .n)) where
+      needed : w ≡ need S
+      needed = as-many ∙ ap wordsFor (headed S h e z .n-is)
 
-      pub own-made : a ≡ 0 → r ≡ pageGiven alone S S key size → r ≡ ownAnswer S key size
-      own-made y f = f ∙ sym (own-answered (after ∙ y))
+      last : ownNo S key size (length ws) ≡ bitsNo (need S) (length ws)
+      last = after ∙ first-passes a _ y ∙ first-last _
 
--- a sheet of form 1 has a position for each point on sixteen words
-pub points-fit : (S : List ℤ) (h : Head) → Headed S h → h .n ≤ 1024
-points-fit S h o = omega (arith, o .n-is, heads-few S (o .opens))
+      pub own-short : length ws < w → r ≡ pageRefused 24 → OwnDone S key size ws r ws
+      own-short short f = stops 24 (last ∙ bits-short (need S) (length ws) (omega (arith, needed))) (λ x. omega arith) f
+
+      pub own-made : w ≤ length ws → r ≡ pageGiven alone S S key size → (b : List ℕ) → b ≡ none (length (take w ws)) → OwnDone S key size ws r (b ++ drop w ws)
+      unfolding ownBits
+      own-made fits f b g =
+          let no : ownNo S key size (length ws) ≡ 0 = last ∙ bits-enough (need S) (length ws) (omega (arith, needed)) in
+          (f ∙ sym (own-answered S key size (length ws) no), part-wiped ws b w fits g ∙ ap (λ (n : ℕ). wiped n ws) needed ∙ wiped-given ws (need S) _ no)
 
 -- the one sheet in both places
 pub of-one : (S : List ℤ) → Alone alone S S
 of-one S = record { one = λ e. refl; no-t = λ e. refl }
 
 -- Following the answers from (0, 0), whatever their sizes from 1 to 16, gives the self join's list, each pair once: no request on the way is refused.
-pub own-list : (S : List ℤ) → sheetNo S ≡ 0 → (sizes : ℕ → ℕ) → ((i : ℕ) → sizeNo (sizes i) ≡ 0)
-    → followed (length (listFor alone (pointsOf S) (pointsOf S))) sizes (λ k n. ownAnswer S k n .page) start ≡ listFor alone (pointsOf S) (pointsOf S)
-own-list S opens sizes s = let o = open-facts form1 form1-fair S opens in followed-list alone S S o o (ownAnswer S) (λ k n x y c d. own-served S k n opens x y c d) sizes s
+pub own-list : (S : List ℤ) → sheetNo S ≡ 0 → (len : ℕ) → need S ≤ len → (sizes : ℕ → ℕ) → ((i : ℕ) → sizeNo (sizes i) ≡ 0)
+    → followed (length (listFor alone (pointsOf S) (pointsOf S))) sizes (λ k n. ownAnswer S k n len .page) start ≡ listFor alone (pointsOf S) (pointsOf S)
+own-list S opens len enough sizes s =
+    let o = sheet-facts S opens in
+    followed-list alone S S o o (λ k n. ownAnswer S k n len) (λ k n x y c d. own-served S k n len opens x y c d enough) sizes s

@@ -8,22 +8,23 @@
 -- Assumes nothing.
 use mathlib.Core.Path.{_≡_, refl, sym, ap, _∙_}
 use mathlib.Core.Bool.{true, false, not, _&&_, true≢false}
-use mathlib.Core.List.{List}
-use Prim.Native.Nat.{ℕ, _≤_}
+use mathlib.Core.List.{List, [], _∷_, _++_}
+use Prim.Native.Nat.{ℕ, _*_, _≤_, _<_}
 use native.Mathlib.Omega.{arith}
 use lib.Dec.{leb}
 use lib.IntN.{ℤ}
-use lib.ListN.{length}
+use lib.ListN.{length, take, drop}
 use borrow.Author.Tests.{le-leb}
 use Rattle.words.specs.First.{given, first}
-use Rattle.words.proofs.FirstLaws.{none-applies, first-passes, first-stops, first-last, given-no, answer-given, answer-refused, answer-number}
+use Rattle.words.proofs.FirstLaws.{none-applies, first-passes, first-stops, first-last, first-front, given-no, answer-given, answer-refused, answer-number}
 use Rattle.words.specs.Range.{lastId}
 use Rattle.words.specs.Word.{num}
 use Rattle.sheet.specs.Layout.{edition, points, nodes}
-use Rattle.sheet.specs.Limits.{form1}
 use Rattle.sheet.specs.Places.{pointsOf}
 use Rattle.sheet.specs.Open.{Opens}
-use Rattle.sheet.proofs.SheetLaws.{open-facts, open-trailer, form1-fair}
+use Rattle.sheet.proofs.SheetLaws.{sheet-facts}
+use Rattle.bits.specs.Set.{none, wordsFor, wiped}
+use Rattle.bits.proofs.LentLaws.{words-enough, part-wiped}
 use Rattle.list.specs.declared.Key.{Key}
 use Rattle.list.specs.declared.Page.{Page}
 use Rattle.list.specs.declared.Source.{Source}
@@ -45,8 +46,10 @@ use Rattle.ring.specs.declared.Heads.{Heads}
 use Rattle.ring.specs.declared.Paged.{Paged}
 use Rattle.ring.specs.Numbers.{sheetsNo}
 use Rattle.ring.specs.Answers.{headsOf}
-use Rattle.ring.specs.Page.{keyNo, askedNo, pageNo, sourceOf, pageGiven, pageRefused, termsOf, pageAnswer}
-use Rattle.ring.proofs.HeadLaws.{HeadedBoth, both-open, sheets-stop, sheets-pass}
+use Rattle.ring.specs.Lent.{need, bitsNo}
+use Rattle.ring.specs.Page.{keyNo, askedNo, pageNo, sourceOf, pageGiven, pageRefused, termsOf, pageAnswer, pageBits}
+use Rattle.ring.proofs.LentLaws.{bits-short, bits-enough, wiped-refused, wiped-given}
+use Rattle.ring.proofs.HeadLaws.{headed-both, both-open, sheets-stop, sheets-pass}
 
 -- ---- the numbers of the key, of the size and of the threshold
 
@@ -74,70 +77,91 @@ module _ (key : Key) (size t : ℕ) where
 
 -- ---- the answers
 
-module _ (P Q : List ℤ) (a : Request) where
+module _ (P Q : List ℤ) (a : Request) (len : ℕ) where
   abbrev Given : Paged
   Given = pageGiven (termsOf a) P Q (a .key) (a .size)
 
   -- refused: its number, and zeros
-  pub page-refused : (k : ℕ) → pageNo P Q a ≡ k → (k ≡ 0 → ⊥) → pageAnswer P Q a ≡ pageRefused k
+  pub page-refused : (k : ℕ) → pageNo P Q a len ≡ k → (k ≡ 0 → ⊥) → pageAnswer P Q a len ≡ pageRefused k
   unfolding pageAnswer
   page-refused k e ne = answer-refused _ pageRefused _ k e ne
 
   -- with sheets that open, a key and a size in range: the page and its count
-  pub page-answered : pageNo P Q a ≡ 0 → pageAnswer P Q a ≡ Given
+  pub page-answered : pageNo P Q a len ≡ 0 → pageAnswer P Q a len ≡ Given
   unfolding pageAnswer
   page-answered e = answer-given _ pageRefused _ e
 
   -- one request, one answer
-  pub ring-page-once : (r r′ : Paged) → r ≡ pageAnswer P Q a → r′ ≡ pageAnswer P Q a → r ≡ r′
+  pub ring-page-once : (r r′ : Paged) → r ≡ pageAnswer P Q a len → r′ ≡ pageAnswer P Q a len → r ≡ r′
   ring-page-once r r′ e f = e ∙ sym f
 
-  -- No other request is refused: sheets that open, each id of the key at most 2,000,000,000, a size from 1 to 16 and a t up to 1,000 are served.
-  pub ring-page-served : sheetsNo P Q ≡ 0 → a .key .q ≤ lastId → a .key .p ≤ lastId → 1 ≤ a .size → a .size ≤ 16 → a .threshold ≤ lastThreshold → pageAnswer P Q a ≡ Given
+  -- No other request is refused: sheets that open, each id of the key at most 2,000,000,000, a size from 1 to 16, a t in range and as many words as the points need are served.
+  pub ring-page-served : sheetsNo P Q ≡ 0 → a .key .q ≤ lastId → a .key .p ≤ lastId → 1 ≤ a .size → a .size ≤ 16 → a .threshold ≤ lastThreshold → need P ≤ len → pageAnswer P Q a len ≡ Given
   unfolding pageNo keyNo thresholdNo first given
-  ring-page-served opens x y c d e =
+  ring-page-served opens x y c d e f =
       let s = both-open P Q opens in
-      page-answered (rw (s .0, s .1, le-leb (a .key .q) lastId x, le-leb (a .key .p) lastId y, size-taken (a .size) c d, le-leb (a .threshold) lastThreshold e))
+      page-answered
+      (rw (s .0, s .1, le-leb (a .key .q) lastId x, le-leb (a .key .p) lastId y, size-taken (a .size) c d, le-leb (a .threshold) lastThreshold e, bits-enough (need P) len f))
 
   -- the number is the first that applies
-  pub ring-page-no : pageAnswer P Q a .number ≡ pageNo P Q a
+  pub ring-page-no : pageAnswer P Q a len .number ≡ pageNo P Q a len
   unfolding pageAnswer pageGiven pageRefused
-  ring-page-no = answer-number (Given) pageRefused (λ r. r .number) refl (λ k. refl) (pageNo P Q a)
+  ring-page-no = answer-number (Given) pageRefused (λ r. r .number) refl (λ k. refl) (pageNo P Q a len)
 
-  module _ (h : Heads) (e : h ≡ headsOf P Q) (r : Paged) where
-    pub page-sheets : (h .number ≡ 0 → ⊥) → r ≡ pageRefused (h .number) → r ≡ pageAnswer P Q a
-    unfolding pageNo
-    page-sheets ne f = f ∙ sym (page-refused (h .number) (sheets-stop P Q h _ e ne) ne)
+-- what a request answers and leaves in the words lent
+abbrev pub PageDone : List ℤ → List ℤ → Request → List ℕ → Paged → List ℕ → Type 0
+PageDone P Q a ws r ws₁ = (r ≡ pageAnswer P Q a (length ws)) × (ws₁ ≡ pageBits P Q a ws)
 
-    module _ (z : h .number ≡ 0) (k : ℕ) (d : k ≡ askedNo (a .key) (a .size) (a .threshold)) where
-      after : pageNo P Q a ≡ k
-      unfolding pageNo askedNo
-      after = sheets-pass P Q h _ e z ∙ sym d
+module _ (P Q : List ℤ) (a : Request) (ws : List ℕ) (h : Heads) (e : h ≡ headsOf P Q) (r : Paged) where
+  stops : (k : ℕ) → pageNo P Q a (length ws) ≡ k → (k ≡ 0 → ⊥) → r ≡ pageRefused k → PageDone P Q a ws r ws
+  unfolding pageBits
+  stops k x ne f = (f ∙ sym (page-refused P Q a (length ws) k x ne), wiped-refused ws _ _ k x ne)
 
-      pub page-asked : (k ≡ 0 → ⊥) → r ≡ pageRefused k → r ≡ pageAnswer P Q a
-      page-asked ne f = f ∙ sym (page-refused k after ne)
+  pub page-sheets : (h .number ≡ 0 → ⊥) → r ≡ pageRefused (h .number) → PageDone P Q a ws r ws
+  unfolding pageNo
+  page-sheets ne f = stops (h .number) (sheets-stop P Q h _ e ne) ne f
 
-      pub page-made : k ≡ 0 → r ≡ Given → r ≡ pageAnswer P Q a
-      page-made y f = f ∙ sym (page-answered (after ∙ y))
+  module _ (z : h .number ≡ 0) (k : ℕ) (d : k ≡ askedNo (a .key) (a .size) (a .threshold)) where
+    after : pageNo P Q a (length ws) ≡ first (k ∷ bitsNo (need P) (length ws) ∷ [])
+    unfolding pageNo askedNo
+    after =
+        sheets-pass P Q h _ e z
+        ∙ first-front (keyNo (a .key) ∷ sizeNo (a .size) ∷ thresholdNo (a .threshold) ∷ []) (bitsNo (need P) (length ws) ∷ [])
+        ∙ ap (λ (n : ℕ). first (n ∷ bitsNo (need P) (length ws) ∷ [])) (sym d)
 
--- a sheet of form 1 has a position for each pump house on sixteen words
-pub pumps-fit : (P Q : List ℤ) (h : Heads) → HeadedBoth P Q h → h .np ≤ 1024
-unfolding form1
-pumps-fit P Q h o = omega (arith, o .np-is, open-trailer form1 P (both-open P Q (o .opens) .0) .n-le)
+    pub page-asked : (k ≡ 0 → ⊥) → r ≡ pageRefused k → PageDone P Q a ws r ws
+    page-asked ne f = stops k (after ∙ first-stops k _ ne) ne f
+
+    module _ (y : k ≡ 0) (w : ℕ) (as-many : w ≡ wordsFor (h .np)) where
+      needed : w ≡ need P
+      needed = as-many ∙ ap wordsFor (headed-both P Q h e z .np-is)
+
+      last : pageNo P Q a (length ws) ≡ bitsNo (need P) (length ws)
+      last = after ∙ first-passes k _ y ∙ first-last _
+
+      pub page-short : length ws < w → r ≡ pageRefused 24 → PageDone P Q a ws r ws
+      page-short short f = stops 24 (last ∙ bits-short (need P) (length ws) (omega (arith, needed))) (λ x. omega arith) f
+
+      pub page-made : w ≤ length ws → r ≡ Given P Q a (length ws) → (b : List ℕ) → b ≡ none (length (take w ws)) → PageDone P Q a ws r (b ++ drop w ws)
+      unfolding pageBits
+      page-made fits f b g =
+          let no : pageNo P Q a (length ws) ≡ 0 = last ∙ bits-enough (need P) (length ws) (omega (arith, needed)) in
+          (f ∙ sym (page-answered P Q a (length ws) no), part-wiped ws b w fits g ∙ ap (λ (n : ℕ). wiped n ws) needed ∙ wiped-given ws (need P) _ no)
 
 pub source-read : (P Q : List ℤ) (t : Terms) (a b : ℕ) → a ≡ num (edition P) → b ≡ num (edition Q) → record { «p_edition» = a; «q_edition» = b; terms = t } ≡ sourceOf P Q t
 unfolding sourceOf
 source-read P Q t a b e f = λ i. record { «p_edition» = e i; «q_edition» = f i; terms = t }
 
 -- the page maker's draft, as the answer has it
-module _ {P Q : List ℤ} {np mp nq mq : ℕ} (o : Opens P np mp) (o′ : Opens Q nq mq) (fit : np ≤ 1024) (a : Terms) (al : Alone a P Q) (key : Key) (size : ℕ) (few : size ≤ 16) where
-  pub page-given : (d : Draft) → d ≡ pageMade (walksFor (walksBy a 16 P Q) np (a .threshold)) key size np nq → (s : Source) → s ≡ sourceOf P Q a → (g : Page) → g ≡ pageFrom s key d
+module _ {P Q : List ℤ} {np mp nq mq : ℕ} (o : Opens P np mp) (o′ : Opens Q nq mq) (a : Terms) (al : Alone a P Q) (key : Key) (size : ℕ) (few : size ≤ 16) where
+  pub page-given : (words : ℕ) → words ≡ wordsFor np → (d : Draft) → d ≡ pageMade (walksFor (walksBy a words P Q) np (a .threshold)) key size np nq → (s : Source) → s ≡ sourceOf P Q a → (g : Page) → g ≡ pageFrom s key d
       → record { number = 0; opened = d .opened; page = g } ≡ pageGiven a P Q key size
   unfolding pageGiven
-  page-given d ed s es g eg =
-      let w : ℕ → Walks = λ n. walksFor (walksBy a 16 P Q) n (a .threshold) in
-      let opened : d .opened ≡ pageOpened (w (points P)) key size (points P) (points Q) = ap (λ (x : Draft). x .opened) ed ∙ join-page-opened o o′ a al 16 (omega arith) key size ∙ ap (λ (n : ℕ). pageOpened (w n) key size n nq) (sym (o .n-is)) ∙ ap (pageOpened (w (points P)) key size (points P)) (sym (o′ .n-is)) in
-      let page : g ≡ pageOf (sourceOf P Q a) (listFor a (pointsOf P) (pointsOf Q)) key size = eg ∙ ap (λ (x : Source). pageFrom x key d) es ∙ ap (pageFrom (sourceOf P Q a) key) ed ∙ join-page-pairs o o′ a al 16 (omega arith) (sourceOf P Q a) key size few in
+  page-given words we d ed s es g eg =
+      let w : ℕ → ℕ → Walks = λ v n. walksFor (walksBy a v P Q) n (a .threshold) in
+      let hold : np ≤ 64 * words = omega (arith, we, words-enough np) in
+      let opened : d .opened ≡ pageOpened (w (need P) (points P)) key size (points P) (points Q) = ap (λ (x : Draft). x .opened) ed ∙ join-page-opened o o′ a al words hold key size ∙ ap (λ (v : ℕ). pageOpened (w v np) key size np nq) we ∙ ap (λ (n : ℕ). pageOpened (w (wordsFor n) n) key size n nq) (sym (o .n-is)) ∙ ap (pageOpened (w (need P) (points P)) key size (points P)) (sym (o′ .n-is)) in
+      let page : g ≡ pageOf (sourceOf P Q a) (listFor a (pointsOf P) (pointsOf Q)) key size = eg ∙ ap (λ (x : Source). pageFrom x key d) es ∙ ap (pageFrom (sourceOf P Q a) key) ed ∙ join-page-pairs o o′ a al words hold (sourceOf P Q a) key size few in
       λ i. record { number = 0; opened = opened i; page = page i }
 
 -- a list of two sheets
@@ -160,17 +184,17 @@ module _ (a : Terms) (P Q : List ℤ) (p-opens : Opens P (points P) (nodes P)) (
       (λ i k x. ap (λ (r : Paged). r .page) (served k (sizes i) (x .0) (x .1) (fit i .0) (fit i .1)))
       ∙ sheet-pages p-opens q-opens a sizes (sourceOf P Q a) (λ i. fit i .0)
 
-module _ (P Q : List ℤ) (opens : sheetsNo P Q ≡ 0) where
+module _ (P Q : List ℤ) (opens : sheetsNo P Q ≡ 0) (len : ℕ) (enough : need P ≤ len) where
   p-opens : Opens P (points P) (nodes P)
-  p-opens = open-facts form1 form1-fair P (both-open P Q opens .0)
+  p-opens = sheet-facts P (both-open P Q opens .0)
 
   q-opens : Opens Q (points Q) (nodes Q)
-  q-opens = open-facts form1 form1-fair Q (both-open P Q opens .1)
+  q-opens = sheet-facts Q (both-open P Q opens .1)
 
   pub ring-pages-list : (t : ℕ) → t ≤ lastThreshold → (sizes : ℕ → ℕ) → ((i : ℕ) → sizeNo (sizes i) ≡ 0)
-      → followed (length (listFor (withT t) (pointsOf P) (pointsOf Q))) sizes (λ k n. pageAnswer P Q (requestOf (withT t) k n) .page) start ≡ listFor (withT t) (pointsOf P) (pointsOf Q)
+      → followed (length (listFor (withT t) (pointsOf P) (pointsOf Q))) sizes (λ k n. pageAnswer P Q (requestOf (withT t) k n) len .page) start ≡ listFor (withT t) (pointsOf P) (pointsOf Q)
   ring-pages-list t most sizes s =
-      followed-list (withT t) P Q p-opens q-opens (λ k n. pageAnswer P Q (requestOf (withT t) k n)) (λ k n x y c d. ring-page-served P Q (requestOf (withT t) k n) opens x y c d most) sizes s
+      followed-list (withT t) P Q p-opens q-opens (λ k n. pageAnswer P Q (requestOf (withT t) k n) len) (λ k n x y c d. ring-page-served P Q (requestOf (withT t) k n) len opens x y c d most enough) sizes s
 
 -- sheets with the same points give the same pairs, number and end mark of every page, whatever their editions and trees
 module _ (a : Terms) (P P′ Q Q′ : List ℤ) (key : Key) (size : ℕ) (ep : pointsOf P ≡ pointsOf P′) (eq : pointsOf Q ≡ pointsOf Q′) (r r′ : Paged) (e : r ≡ pageGiven a P Q key size) (e′ : r′ ≡ pageGiven a P′ Q′ key size) where

@@ -3,12 +3,13 @@ use mathlib.Core.Bool.{Bool, false}
 use mathlib.Core.List.{List}
 use Prim.Native.Nat.{ℕ}
 use lib.IntN.{ℤ}
-use lib.ListN.{length, replicate}
+use lib.ListN.{length}
 use Rattle.words.specs.Word.{num}
 use Rattle.words.specs.First.{answer}
 use Rattle.sheet.specs.Layout.{points, nodes}
 use Rattle.sheet.specs.Points.{idAt, xAt, yAt}
 use Rattle.sheet.specs.Open.{sheetNo}
+use Rattle.ring.specs.Lent.{need, keptBy}
 use Rattle.ring.specs.Numbers.{sheetsNo, pointNo, filterNo, ringNo}
 use Rattle.sheet.specs.Places.{spotOf}
 use Rattle.bits.specs.Set.{card}
@@ -47,17 +48,25 @@ pointedNo (NoPoint k) = k
 unfoldable pub pointed : List ℤ → ℕ → Pointed
 pointed w i = answer (pointNo w i) (At (assetOf w i)) NoPoint
 
--- the filter walk's answer: "one bit a position in sixteen 64-bit words [..], with the number of bits set and the nodes opened" [W6]
+-- the filter walk's answer beside its kept set: "the number of bits set and the nodes opened" [W6]
 unfoldable pub filteredTo : Kept → Filtered
-filteredTo k = record { number = 0; bits = k .bits; count = card (k .bits); opened = k .opened }
+filteredTo k = record { number = 0; count = card (k .bits); opened = k .opened }
 
 -- refused, the number and zeros [N4]
 unfoldable pub unfiltered : ℕ → Filtered
-unfiltered k = record { number = k; bits = replicate 16 0; count = 0; opened = 0 }
+unfiltered k = record { number = k; count = 0; opened = 0 }
 
--- for position j of Q over P [W6, N2, N20]
-unfoldable pub filtered : List ℤ → List ℤ → ℕ → Filtered
-filtered P Q j = answer (filterNo P Q j) (filteredTo (filterKept 16 P (spotOf Q j))) unfiltered
+-- what the walk for position j of Q over P keeps, on as many words as the points need
+abbrev pub keptFor : List ℤ → List ℤ → ℕ → Kept
+keptFor P Q j = filterKept (need P) P (spotOf Q j)
+
+-- the answer for so many lent words [W6, N2, N20]
+unfoldable pub filtered : List ℤ → List ℤ → ℕ → ℕ → Filtered
+filtered P Q j len = answer (filterNo P Q j len) (filteredTo (keptFor P Q j)) unfiltered
+
+-- the lent words after it: "a filter walk leaves its kept set there" [Y9]
+unfoldable pub filteredBits : List ℤ → List ℤ → ℕ → List ℕ → List ℕ
+filteredBits P Q j ws = keptBy (filterNo P Q j (length ws)) (keptFor P Q j .bits) ws
 
 -- the ring walk's answer: the number of each case, and whether it says that the pair is clear: a refused walk never does [F10]
 abbrev pub walkedNo : Walked → ℕ

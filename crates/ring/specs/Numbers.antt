@@ -7,8 +7,9 @@ use lib.IntN.{ℤ}
 use Rattle.words.specs.First.{given, first}
 use Rattle.sheet.specs.Layout.{points}
 use Rattle.sheet.specs.Open.{sheetNo}
+use Rattle.ring.specs.Lent.{need, bitsNo}
 
--- "checks its sheets first [..]: 1 to 8 for P, then for Q" [N18]
+-- "checks its sheets first [..]: 1 to 8 for P, then for Q" [N18, Y3]
 unfoldable pub sheetsNo : List ℤ → List ℤ → ℕ
 sheetsNo P Q = first (sheetNo P ∷ sheetNo Q ∷ [])
 
@@ -20,9 +21,9 @@ positionNo w i = given (not (ltb i (points w))) 9
 unfoldable pub pointNo : List ℤ → ℕ → ℕ
 pointNo w i = first (sheetNo w ∷ positionNo w i ∷ [])
 
--- the filter walk for position j of Q over P
-unfoldable pub filterNo : List ℤ → List ℤ → ℕ → ℕ
-filterNo P Q j = first (sheetNo P ∷ sheetNo Q ∷ positionNo Q j ∷ [])
+-- the filter walk for position j of Q over P, for so many lent words [Y15]
+unfoldable pub filterNo : List ℤ → List ℤ → ℕ → ℕ → ℕ
+filterNo P Q j len = first (sheetNo P ∷ sheetNo Q ∷ positionNo Q j ∷ bitsNo (need P) len ∷ [])
 
 -- the ring walk for position j of Q and position i of P
 unfoldable pub ringNo : List ℤ → List ℤ → ℕ → ℕ → ℕ

@@ -4,7 +4,7 @@ use mathlib.Core.List.{List, [], _∷_}
 use Prim.Native.Nat.{ℕ}
 use lib.Dec.{leb}
 use lib.IntN.{ℤ}
-use lib.ListN.{replicate}
+use lib.ListN.{length, replicate}
 use Rattle.words.specs.Word.{num}
 use Rattle.words.specs.Range.{lastId}
 use Rattle.words.specs.First.{given, first, answer}
@@ -21,6 +21,7 @@ use Rattle.list.specs.Terms.{full, withT, listFor}
 use Rattle.join.specs.Work.{pageOpened}
 use Rattle.join.specs.Sheets.{walksBy}
 use Rattle.join.specs.Threshold.{walksFor}
+use Rattle.ring.specs.Lent.{need, bitsNo, wipedBy}
 use Rattle.ring.specs.declared.Paged.{Paged}
 
 -- 9: "key out of range", "each 0 to 2,000,000,000" [P1, N22]
@@ -31,20 +32,20 @@ keyNo key = given (not (leb (key .q) lastId && leb (key .p) lastId)) 9
 unfoldable pub askedNo : Key → ℕ → ℕ → ℕ
 askedNo key size t = first (keyNo key ∷ sizeNo size ∷ thresholdNo t ∷ [])
 
--- "checks its sheets first [..]: 1 to 8 for P, then for Q" [V1]
-unfoldable pub pageNo : List ℤ → List ℤ → Request → ℕ
-pageNo P Q a = first (sheetNo P ∷ sheetNo Q ∷ keyNo (a .key) ∷ sizeNo (a .size) ∷ thresholdNo (a .threshold) ∷ [])
+-- "checks its sheets first [..]: 1 to 8 for P, then for Q"; "24 bit slice too short, after all others" [Y15, V1]
+unfoldable pub pageNo : List ℤ → List ℤ → Request → ℕ → ℕ
+pageNo P Q a len = first (sheetNo P ∷ sheetNo Q ∷ keyNo (a .key) ∷ sizeNo (a .size) ∷ thresholdNo (a .threshold) ∷ bitsNo (need P) len ∷ [])
 
 -- "The page holds both editions"; "Pages and books now carry t, 0 for the full list" and "say their kind" [P3, T5, J5, J10]
 unfoldable pub sourceOf : List ℤ → List ℤ → Terms → Source
 sourceOf P Q a = record { «p_edition» = num (edition P); «q_edition» = num (edition Q); terms = a }
 
--- the page of the terms' list, from the points alone, and beside it the count of the walks, the kept sets on sixteen words [P3, P8, T4]
+-- the page of the terms' list, from the points alone, and beside it the count of the walks [P3, P8, T4]
 unfoldable pub pageGiven : Terms → List ℤ → List ℤ → Key → ℕ → Paged
 pageGiven a P Q key size =
     record {
       number = 0;
-      opened = pageOpened (walksFor (walksBy a 16 P Q) (points P) (a .threshold)) key size (points P) (points Q);
+      opened = pageOpened (walksFor (walksBy a (need P) P Q) (points P) (a .threshold)) key size (points P) (points Q);
       page = pageOf (sourceOf P Q a) (listFor a (pointsOf P) (pointsOf Q)) key size;
     }
 
@@ -61,6 +62,10 @@ pageRefused k =
 abbrev pub termsOf : Request → Terms
 termsOf a = withT (a .threshold)
 
--- the answer by its number: 0 is the page, any other is the refusal of that number
-unfoldable pub pageAnswer : List ℤ → List ℤ → Request → Paged
-pageAnswer P Q a = answer (pageNo P Q a) (pageGiven (termsOf a) P Q (a .key) (a .size)) pageRefused
+-- the answer for so many lent words, by its number: 0 is the page, any other is the refusal of that number
+unfoldable pub pageAnswer : List ℤ → List ℤ → Request → ℕ → Paged
+pageAnswer P Q a len = answer (pageNo P Q a len) (pageGiven (termsOf a) P Q (a .key) (a .size)) pageRefused
+
+-- the lent words after it: "any other call zeros" [Y10]
+unfoldable pub pageBits : List ℤ → List ℤ → Request → List ℕ → List ℕ
+pageBits P Q a ws = wipedBy (pageNo P Q a (length ws)) (need P) ws

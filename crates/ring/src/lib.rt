@@ -43,11 +43,10 @@ pub enum Pointed {
     Refused(u32),
 }
 
-// What the filter walk answers: 0, the kept set with one bit a position, how many bits are set and the nodes opened; or the number of refusal and zeros. [F7]
+// What the filter walk answers beside the kept set in the words lent: 0, how many bits are set and the nodes opened; or the number of refusal and zeros. [Y12, F7]
 #[repr(C)]
 pub struct Filtered {
     pub number: u32,
-    pub bits: [u64; 16],
     pub count: usize,
     pub opened: u64,
 }
@@ -58,7 +57,7 @@ pub enum Walked {
     Refused(u32),
 }
 
-// What a page request answers: 0, the count of nodes opened and the page; or the number of refusal and zeros. [F6]
+// What a page request answers: 0, the count of nodes opened and the page; or the number of refusal and zeros. [Y12, F6]
 #[repr(C)]
 pub struct Paged {
     pub number: u32,

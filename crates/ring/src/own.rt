@@ -5,12 +5,14 @@ use list::Key;
 use list::Terms;
 use sheet::Size;
 ghost use mathlib.Core.Path.{_≡_};
-ghost use Rattle.ring.specs.Own.{ownAnswer};
+ghost use lib.ListN.{length};
+ghost use Rattle.ring.specs.Own.{ownAnswer, ownBits};
 
 // The first `size` pairs of the sheet's self join strictly after the key, lower id first, and the nodes opened to find them.
-// Refused by 1 to 8 of the sheet, then by 9 for the key, then by 10 for the size.
-pub fn own_page(s: &[i32], key: Key, size: usize) -> Paged
-    ensures { λ r. ⌜ r ≡ ownAnswer (now (s .entry)) key size ⌝ }
+// The words lent for kept sets, as many as the points need, are zeros after an answer.
+// Refused by 1 to 8 of the sheet, then by 9 for the key, then by 10 for the size, then by 24 where fewer words are lent; no word is touched then, nor ever one past them.
+pub fn own_page(s: &[i32], key: Key, size: usize, bits: &mut [u64]) -> Paged
+    ensures { λ r. ⌜ (r ≡ ownAnswer (now (s .entry)) key size (length (now (bits .entry)))) × (now (bits .exit) ≡ ownBits (now (s .entry)) key size (now (bits .entry))) ⌝ }
 {
     let h = crate::open::head_of(s);
     if h.number != 0 {
@@ -19,6 +21,10 @@ pub fn own_page(s: &[i32], key: Key, size: usize) -> Paged
     let asked = crate::page::asked_no(key, size, 0);
     if asked != 0 {
         return crate::page::refused(asked);
+    }
+    let w = bits::words_for(h.n);
+    if bits.len() < w {
+        return crate::page::refused(24);
     }
     let hs = Size { n: h.n, m: h.m };
     let terms = Terms {
@@ -30,5 +36,5 @@ pub fn own_page(s: &[i32], key: Key, size: usize) -> Paged
         size: size,
         terms: terms,
     };
-    crate::page::given(s, hs, s, hs, ask)
+    crate::page::given(s, hs, s, hs, ask, &mut bits[..w])
 }

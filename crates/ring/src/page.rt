@@ -10,9 +10,11 @@ use list::Terms;
 use sheet::Size;
 ghost use mathlib.Core.Path.{_≡_};
 ghost use Prim.Native.Nat.{_≤_};
+ghost use lib.ListN.{length};
+ghost use Rattle.bits.specs.Set.{wordsFor, none};
 ghost use Rattle.sheet.specs.Open.{Opens};
 ghost use Rattle.join.specs.Sheets.{Alone};
-ghost use Rattle.ring.specs.Page.{askedNo, sourceOf, pageGiven, pageRefused, pageAnswer};
+ghost use Rattle.ring.specs.Page.{askedNo, sourceOf, pageGiven, pageRefused, pageAnswer, pageBits};
 
 // A refused request: its number, and zeros.
 pub(crate) fn refused(number: u32) -> Paged
@@ -68,14 +70,15 @@ fn source_of(p: &[i32], hp: Size, q: &[i32], hq: Size, terms: Terms) -> Source
     }
 }
 
-// The page that two sheets that open give, or one in both places, of at most 1,024 pump houses.
-pub(crate) fn given(p: &[i32], hp: Size, q: &[i32], hq: Size, ask: Ask) -> Paged
-    requires { ⌜ Opens (now p) (hp .n) (hp .m) × Opens (now q) (hq .n) (hq .m) × (hp .n ≤ 1024) × (ask .size ≤ 16) × Alone (ask .terms) (now p) (now q) ⌝ }
-    ensures { λ r. ⌜ r ≡ pageGiven (ask .terms) (now (p .entry)) (now (q .entry)) (ask .key) (ask .size) ⌝ }
+// The page that two sheets that open give, or one in both places. The words lent are as many as the kept set needs, and zeros after it.
+pub(crate) fn given(p: &[i32], hp: Size, q: &[i32], hq: Size, ask: Ask, bits: &mut [u64]) -> Paged
+    requires { ⌜ Opens (now p) (hp .n) (hp .m) × Opens (now q) (hq .n) (hq .m) × (ask .size ≤ 16) × (length (now bits) ≡ wordsFor (hp .n)) × Alone (ask .terms) (now p) (now q) ⌝ }
+    ensures { λ r. ⌜ (r ≡ pageGiven (ask .terms) (now (p .entry)) (now (q .entry)) (ask .key) (ask .size)) × (now (bits .exit) ≡ none (length (now (bits .entry)))) ⌝ }
 {
     let key = ask.key;
     let terms = ask.terms;
-    let d = join::page_made(p, hp, q, hq, ask);
+    let d = join::made_on(p, hp, q, hq, ask, bits);
+    bits::clear(bits);
     let source = source_of(p, hp, q, hq, terms);
     let page = join::page_from(source, key, d);
     Paged {
@@ -86,9 +89,11 @@ pub(crate) fn given(p: &[i32], hp: Size, q: &[i32], hq: Size, ask: Ask) -> Paged
 }
 
 // The first `size` ring pairs strictly after the key, of chambers with at least so many as the threshold says (0: of all), and the nodes opened to find them.
-// Refused by 1 to 8 of P, then of Q, then by 9 for the key, then by 10 for the size, then by 21 for the threshold.
-pub fn page(p: &[i32], q: &[i32], request: Request) -> Paged
-    ensures { λ r. ⌜ r ≡ pageAnswer (now (p .entry)) (now (q .entry)) request ⌝ }
+// The words lent for kept sets, as many as the points of P need, are zeros after an answer.
+// Refused by 1 to 8 of P, then of Q, then by 9 for the key, then by 10 for the size, then by 21 for the threshold, then by 24 where fewer words are lent; no word is touched then,
+// nor ever one past them.
+pub fn page(p: &[i32], q: &[i32], request: Request, bits: &mut [u64]) -> Paged
+    ensures { λ r. ⌜ (r ≡ pageAnswer (now (p .entry)) (now (q .entry)) request (length (now (bits .entry)))) × (now (bits .exit) ≡ pageBits (now (p .entry)) (now (q .entry)) request (now (bits .entry))) ⌝ }
 {
     let h = crate::open::heads_of(p, q);
     if h.number != 0 {
@@ -98,6 +103,10 @@ pub fn page(p: &[i32], q: &[i32], request: Request) -> Paged
     let asked = asked_no(key, request.size, request.threshold);
     if asked != 0 {
         return refused(asked);
+    }
+    let w = bits::words_for(h.np);
+    if bits.len() < w {
+        return refused(24);
     }
     let hp = Size { n: h.np, m: h.mp };
     let hq = Size { n: h.nq, m: h.mq };
@@ -110,5 +119,5 @@ pub fn page(p: &[i32], q: &[i32], request: Request) -> Paged
         size: request.size,
         terms: terms,
     };
-    given(p, hp, q, hq, ask)
+    given(p, hp, q, hq, ask, &mut bits[..w])
 }

@@ -1,5 +1,5 @@
+pub mod Once
 pub mod WriteLaws
 pub mod DecideLaws
 pub mod Meaning
-pub mod Once
 pub mod ArrayLaws

@@ -1,20 +1,22 @@
 -- What it means that a sheet opens: all that the tests of `openNo` say, in one record.
 -- Assumes nothing.
-use mathlib.Core.Path.{_≡_, refl, sym, subst}
-use mathlib.Core.Bool.{Bool, true, false, Bool·beq}
-use mathlib.Core.List.{List}
-use Prim.Native.Nat.{ℕ}
+use mathlib.Core.Path.{_≡_, refl, sym, ap, subst, _∙_}
+use mathlib.Core.Bool.{Bool, true, false, cond, Bool·beq}
+use mathlib.Core.List.{List, [], _∷_}
+use Prim.Native.Nat.{ℕ, _≤_}
 use native.Mathlib.Omega.{arith}
 use lib.Dec.{eqb}
-use lib.IntN.{ℤ}
+use lib.ListN.{length}
+use lib.IntN.{ℤ, pos}
 use borrow.Author.Tests.{eqb-true, eq-eqb}
 use Rattle.integers.proofs.Bools.{and-left}
 use Rattle.words.proofs.FirstLaws.{none-applies, given-held}
 use Rattle.sheet.specs.declared.Limits.{Limits}
-use Rattle.sheet.specs.Limits.{Fair, form1}
-use Rattle.sheet.specs.Layout.{points, nodes}
+use Rattle.words.specs.Word.{eqZ}
+use Rattle.sheet.specs.Limits.{Fair, form1, form2, limitsOf}
+use Rattle.sheet.specs.Layout.{form, points, nodes}
 use Rattle.sheet.specs.Nodes.{tableOk, nodesOk}
-use Rattle.sheet.specs.Open.{bodyNo, openNo, Opens}
+use Rattle.sheet.specs.Open.{bodyNo, openNo, sheetNo, Opens}
 use Rattle.sheet.proofs.OpenLaws.{Trailer, trailer-facts, nodes-table}
 
 empties : (n m : ℕ) → Bool·beq (eqb n 0) (eqb m 0) ≡ true → m ≡ 0 → n ≡ 0
@@ -63,6 +65,49 @@ pub form1-fair : Fair form1
 unfolding form1
 form1-fair = record { points-le = omega arith; nodes-le = omega arith; coordinate-from = record { le = tt }; coordinate-to = record { le = tt } }
 
+pub form2-fair : Fair form2
+unfolding form2
+form2-fair = record { points-le = omega arith; nodes-le = omega arith; coordinate-from = record { le = tt }; coordinate-to = record { le = tt } }
+
+-- whatever the form number, its limits are fair
+pub limits-fair : (z : ℤ) → Fair (limitsOf z)
+unfolding limitsOf
+limits-fair z = go (eqZ z (pos 2))
+  where
+    go : (t : Bool) → Fair (cond t form2 form1)
+    go true = form2-fair
+    go false = form1-fair
+
+-- a sheet of either form that opens passes every test, and has its trailer
+pub sheet-facts : (w : List ℤ) → sheetNo w ≡ 0 → Opens w (points w) (nodes w)
+sheet-facts w e = open-facts (limitsOf (form w)) (limits-fair (form w)) w e
+
+pub sheet-long : (w : List ℤ) → sheetNo w ≡ 0 → 6 ≤ length w
+sheet-long w e = open-trailer (limitsOf (form w)) w e .long
+
+-- "Form 1 sheets open as before under their own limits", and so do those of form 2 under theirs
+pub form1-as-before : (w : List ℤ) → form w ≡ pos 1 → sheetNo w ≡ openNo form1 w
+unfolding limitsOf eqZ
+form1-as-before w e = ap (λ (z : ℤ). openNo (limitsOf z) w) e
+
+pub form2-as-stated : (w : List ℤ) → form w ≡ pos 2 → sheetNo w ≡ openNo form2 w
+unfolding limitsOf eqZ
+form2-as-stated w e = ap (λ (z : ℤ). openNo (limitsOf z) w) e
+
 -- a sheet that opens, by its by-counts counts
 pub by-counts : {w : List ℤ} {n m : ℕ} → Opens w n m → Opens w (points w) (nodes w)
 by-counts {w} {n} o = subst (λ (a : ℕ). Opens w a (nodes w)) (sym (o .n-is)) (subst (Opens w n) (sym (o .m-is)) o)
+
+-- the limits that the last word asks for: no words have the form word 0
+pub limits-none : (w : List ℤ) → length w ≡ 0 → form1 ≡ limitsOf (form w)
+unfolding limitsOf eqZ
+limits-none [] e = refl
+limits-none (x ∷ w) e = absurd (omega arith)
+
+pub limits-two : (w : List ℤ) (t : Bool) → t ≡ eqZ (form w) (pos 2) → t ≡ true → form2 ≡ limitsOf (form w)
+unfolding limitsOf
+limits-two w t e f = ap (λ (b : Bool). cond b form2 form1) (sym f ∙ e)
+
+pub limits-one : (w : List ℤ) (t : Bool) → t ≡ eqZ (form w) (pos 2) → t ≡ false → form1 ≡ limitsOf (form w)
+unfolding limitsOf
+limits-one w t e f = ap (λ (b : Bool). cond b form2 form1) (sym f ∙ e)

@@ -6,7 +6,7 @@
 use mathlib.Core.Path.{_≡_, refl, sym, ap, ap₂, subst, _∙_}
 use mathlib.Core.Bool.{Bool, true, false, not, true≢false}
 use mathlib.Core.List.{List, [], _∷_}
-use Prim.Native.Nat.{ℕ, suc, _+_, _-_, _≤_, _<_}
+use Prim.Native.Nat.{ℕ, suc, _+_, _-_, _*_, _≤_, _<_}
 use native.Mathlib.Omega.{arith}
 use native.Mathlib.Numerals.{add-one}
 use lib.IntN.{ℤ}
@@ -47,11 +47,11 @@ pub record Made (l : List Pair) (key : Key) (d : Draft) : Type 0 where
   pub pairs : d .pairs ≡ padded (shown l key 16)
   pub end : not (d .more) ≡ isNone (after (lastOr key (shown l key 16)) l)
 
-pub made : {P Q : List ℤ} {np mp nq mq : ℕ} → Opens P np mp → Opens Q nq mq → np ≤ 1024 → (key : Key) (d : Draft) → d ≡ pageMade (walksFor (walksOf 16 P Q) np 0) key 16 np nq → Made (pairsOf P Q) key d
+pub made : {P Q : List ℤ} {np mp nq mq : ℕ} → Opens P np mp → Opens Q nq mq → (words : ℕ) → np ≤ 64 * words → (key : Key) (d : Draft) → d ≡ pageMade (walksFor (walksOf words P Q) np 0) key 16 np nq → Made (pairsOf P Q) key d
 unfolding pageFrom pageOf
-made {P} {Q} o o′ fit key d e =
+made {P} {Q} o o′ words enough key d e =
     let s : Source = record { «p_edition» = 0; «q_edition» = 0; terms = full } in
-    let g : pageFrom s key d ≡ pageOf s (pairsOf P Q) key 16 = ap (pageFrom s key) e ∙ join-page-pairs o o′ full (of-two full refl P Q) 16 (omega arith) s key 16 (omega arith) ∙ ap (λ (l : List Pair). pageOf s l key 16) (full-ring-list (pointsOf P) (pointsOf Q)) in
+    let g : pageFrom s key d ≡ pageOf s (pairsOf P Q) key 16 = ap (pageFrom s key) e ∙ join-page-pairs o o′ full (of-two full refl P Q) words enough s key 16 (omega arith) ∙ ap (λ (l : List Pair). pageOf s l key 16) (full-ring-list (pointsOf P) (pointsOf Q)) in
     record { count = ap (λ (x : Page). x .count) g; pairs = ap (λ (x : Page). x .pairs) g; end = ap (λ (x : Page). x .end) g }
 
 -- ---- a search that holds s

@@ -6,10 +6,11 @@ use list::Terms;
 use sheet::Size;
 ghost use mathlib.Core.Path.{_≡_};
 ghost use Prim.Native.Nat.{_≤_, _<_};
-ghost use lib.ListN.{take};
+ghost use lib.ListN.{length, take};
+ghost use Rattle.bits.specs.Set.{none, Holds};
 ghost use Rattle.sheet.specs.Open.{Opens};
 ghost use Rattle.shortest.specs.Order.{shorter};
-ghost use Rattle.shortest.specs.Answer.{pairsOf, shortGiven, shortRefused, shortAnswer};
+ghost use Rattle.shortest.specs.Answer.{pairsOf, shortGiven, shortRefused, shortAnswer, shortBits};
 ghost use Rattle.shortest.specs.Search.{Ordered, HeldOrdered, putAt, nextOf};
 
 // What the call answers: 0, how many pairs and the pairs, the unused three zeros; or the number of refusal and zeros.
@@ -57,9 +58,17 @@ fn with_pair(g: Search, n: usize, v: Pair) -> Search
     r
 }
 
-// The next page of the list: a pair that is not shorter than the last of k is dropped at once.
-fn with_page(p: &[i32], hp: Size, q: &[i32], hq: Size, k: usize, g: Search) -> Search
-    requires { ⌜ Opens (now p) (hp .n) (hp .m) × Opens (now q) (hq .n) (hq .m) × (hp .n ≤ 1024) × (1 ≤ k) × (k ≤ 16) × HeldOrdered k g ⌝ }
+// The next page of the list, the kept sets on the words lent: a pair that is not shorter than the last of k is dropped at once.
+fn with_page(
+    p: &[i32],
+    hp: Size,
+    q: &[i32],
+    hq: Size,
+    k: usize,
+    g: Search,
+    bits: &mut [u64],
+) -> Search
+    requires { ⌜ Opens (now p) (hp .n) (hp .m) × Opens (now q) (hq .n) (hq .m) × Holds (now bits) (hp .n) × (1 ≤ k) × (k ≤ 16) × HeldOrdered k g ⌝ }
     ensures { λ r. ⌜ r ≡ nextOf (pairsOf (now (p .entry)) (now (q .entry))) k g ⌝ }
 {
     let key = g.key;
@@ -72,7 +81,7 @@ fn with_page(p: &[i32], hp: Size, q: &[i32], hq: Size, k: usize, g: Search) -> S
         size: 16,
         terms: terms,
     };
-    let d = join::page_made(p, hp, q, hq, ask);
+    let d = join::made_on(p, hp, q, hq, ask, bits);
     let n = d.count;
     let mut r = g;
     let mut i = 0;
@@ -96,10 +105,10 @@ fn with_page(p: &[i32], hp: Size, q: &[i32], hq: Size, k: usize, g: Search) -> S
     r
 }
 
-// The k shortest pairs of two sheets that open, page after page.
-fn given(p: &[i32], hp: Size, q: &[i32], hq: Size, k: usize) -> Shortlist
-    requires { ⌜ Opens (now p) (hp .n) (hp .m) × Opens (now q) (hq .n) (hq .m) × (hp .n ≤ 1024) × (1 ≤ k) × (k ≤ 16) ⌝ }
-    ensures { λ r. ⌜ r ≡ shortGiven (now (p .entry)) (now (q .entry)) k ⌝ }
+// The k shortest pairs of two sheets that open, page after page. The words lent are zeros after it.
+fn given(p: &[i32], hp: Size, q: &[i32], hq: Size, k: usize, bits: &mut [u64]) -> Shortlist
+    requires { ⌜ Opens (now p) (hp .n) (hp .m) × Opens (now q) (hq .n) (hq .m) × Holds (now bits) (hp .n) × (1 ≤ k) × (k ≤ 16) ⌝ }
+    ensures { λ r. ⌜ (r ≡ shortGiven (now (p .entry)) (now (q .entry)) k) × (now (bits .exit) ≡ none (length (now (bits .entry)))) ⌝ }
 {
     let mut g = Search {
         pairs: [Pair {
@@ -112,8 +121,9 @@ fn given(p: &[i32], hp: Size, q: &[i32], hq: Size, k: usize) -> Shortlist
         end: false,
     };
     while !g.end {
-        g = with_page(p, hp, q, hq, k, g);
+        g = with_page(p, hp, q, hq, k, g, bits);
     }
+    bits::clear(bits);
     let pairs = g.pairs;
     Shortlist {
         number: 0,
@@ -138,9 +148,10 @@ fn refused(number: u32) -> Shortlist
 }
 
 // The k ring pairs with the smallest squared size, in order, ties by q id and then p id; all of them where they are fewer.
-// Refused by 1 to 8 of P, then of Q, then by 10 where k is not 1 to 16.
-pub fn shortest(p: &[i32], q: &[i32], k: usize) -> Shortlist
-    ensures { λ r. ⌜ r ≡ shortAnswer (now (p .entry)) (now (q .entry)) k ⌝ }
+// The words lent for kept sets, as many as the points of P need, are zeros after an answer.
+// Refused by 1 to 8 of P, then of Q, then by 10 where k is not 1 to 16, then by 24 where fewer words are lent; no word is touched then, nor ever one past them.
+pub fn shortest(p: &[i32], q: &[i32], k: usize, bits: &mut [u64]) -> Shortlist
+    ensures { λ r. ⌜ (r ≡ shortAnswer (now (p .entry)) (now (q .entry)) k (length (now (bits .entry)))) × (now (bits .exit) ≡ shortBits (now (p .entry)) (now (q .entry)) k (now (bits .entry))) ⌝ }
 {
     let a = ring::open::head_of(p);
     if a.number != 0 {
@@ -154,7 +165,11 @@ pub fn shortest(p: &[i32], q: &[i32], k: usize) -> Shortlist
     if no != 0 {
         return refused(no);
     }
+    let w = bits::words_for(a.n);
+    if bits.len() < w {
+        return refused(24);
+    }
     let hp = Size { n: a.n, m: a.m };
     let hq = Size { n: b.n, m: b.m };
-    given(p, hp, q, hq, k)
+    given(p, hp, q, hq, k, &mut bits[..w])
 }

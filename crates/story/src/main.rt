@@ -60,7 +60,7 @@ fn pair_after(v: Pair, step: u32) -> Pair {
         w.q = std::num::wrapping_add_u32(v.q, 3);
         w.p = 1;
     }
-    w.size = std::num::wrapping_add_u64(v.size, 1000000000000) % 9000000000000;
+    w.size = std::num::wrapping_add_u64(v.size, 1000000000000000000) % 9000000000000000000;
     w
 }
 
@@ -164,7 +164,11 @@ fn has_bad(g: Page) -> bool {
         let v = g.pairs[i];
         let k = list::key_of(v);
         if i < g.count {
-            bad = bad | !is_id(k.q) | !is_id(k.p) | (8000000000000 < v.size) | (rank(k) <= last);
+            bad = bad
+                | !is_id(k.q)
+                | !is_id(k.p)
+                | (8000000000000000000 < v.size)
+                | (rank(k) <= last);
         }
         last = rank(k);
         i += 1;
@@ -454,7 +458,7 @@ fn broken(g: Page, way: usize) -> Page {
             size: 2,
         };
     } else if way == 4 {
-        h.pairs[0].size = 8000000000001;
+        h.pairs[0].size = 8000000000000000001;
     } else if way == 5 {
         h.pairs[1] = h.pairs[0];
     } else {
@@ -561,7 +565,7 @@ fn some_threshold(seed: u64) -> u32 {
     if way == 1 {
         return 2;
     }
-    1000
+    60000
 }
 
 fn opened(seed: u64, tally: Tally) -> Game {
@@ -579,7 +583,7 @@ fn opened(seed: u64, tally: Tally) -> Game {
         p_edition: 1000000001,
         q_edition: 9,
         terms: Terms {
-            threshold: 1001,
+            threshold: 60001,
             own: false,
         },
     };
@@ -587,7 +591,7 @@ fn opened(seed: u64, tally: Tally) -> Game {
         p_edition: 7,
         q_edition: 9,
         terms: Terms {
-            threshold: 1001,
+            threshold: 60001,
             own: false,
         },
     };

@@ -1,33 +1,71 @@
 // Cases of two sheets, with what is asked of them.
+use crate::lent;
+use crate::say;
 use crate::tape;
+ghost use Prim.Native.Nat.{_≤_};
+ghost use lib.ListN.{length};
 
 // The most words that a sheet of a case has.
 const MOST: usize = 8192;
+
+// Words for kept bits, of which some are lent.
+const WORDS: usize = 512;
 
 // Filter walks, and the ring walks that follow them.
 const WALKS: usize = 5;
 
 const RING_WALKS: usize = 6;
 
-fn request(kind: usize, p: &[i32], q: &[i32]) {
+// What is asked, on the words lent. A call that takes none leaves them as they are.
+fn answered(kind: usize, p: &[i32], q: &[i32], bits: &mut [u64]) {
     if kind == WALKS {
-        crate::walks::filter_case(p, q);
-    } else if kind == RING_WALKS {
-        crate::walks::ring_case(p, q);
+        crate::walks::filter_case(p, q, bits);
     } else if kind == 7 {
-        crate::pages::page_case(p, q);
+        crate::pages::page_case(p, q, bits);
     } else if kind == 8 {
-        crate::pages::partners_case(p, q);
+        crate::pages::partners_case(p, q, bits);
     } else if kind == 9 {
-        crate::pages::own_case(p);
+        crate::pages::own_case(p, bits);
     } else if kind == 10 {
-        crate::leaves::run_case(p, q);
+        crate::leaves::run_case(p, q, bits);
     } else if kind == 11 {
-        crate::circles::shortest_case(p, q);
+        crate::circles::shortest_case(p, q, bits);
     } else if kind == 12 {
-        crate::near::near_case(p, q);
+        crate::near::near_case(p, q, bits);
     } else if kind == 13 {
-        crate::views::view_case(p, q);
+        crate::views::view_case(p, q, bits);
+    }
+}
+
+// The same on the first n words.
+fn lent_to(kind: usize, p: &[i32], q: &[i32], n: usize, words: &mut [u64])
+    requires { ⌜ n ≤ length (now words) ⌝ }
+{
+    answered(kind, p, q, &mut words[..n]);
+}
+
+// How many words are lent, and what all hold after the call.
+fn print_words(n: usize, words: &[u64]) {
+    say::say(b" lent");
+    say::number(n as u64);
+    lent::print(words);
+    say::end_line();
+}
+
+// How many words are lent, and what is asked.
+fn lent_case(kind: usize, p: &[i32], q: &[i32]) {
+    let n = tape::next_up_to(WORDS);
+    let mut words = [0u64; WORDS];
+    lent::mark(&mut words);
+    lent_to(kind, p, q, n, &mut words);
+    print_words(n, &words);
+}
+
+fn request(kind: usize, p: &[i32], q: &[i32]) {
+    if kind == RING_WALKS {
+        crate::walks::ring_case(p, q);
+    } else {
+        lent_case(kind, p, q);
     }
 }
 

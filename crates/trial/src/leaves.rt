@@ -11,7 +11,7 @@ fn mark_of(k: usize) -> Pair
     Pair {
         q: 4000000000,
         p: k as u32,
-        size: 9000000000000,
+        size: 9000000000000000000,
     }
 }
 
@@ -61,14 +61,14 @@ fn print_pairs(slots: [Pair; 256], count: usize) {
 }
 
 // A node and how many slots are lent, and the run that they ask for.
-pub fn run_case(p: &[i32], q: &[i32]) {
+pub fn run_case(p: &[i32], q: &[i32], bits: &mut [u64]) {
     let leaf = tape::next_or_largest();
     let lent = tape::next_or_largest();
     say::say(b"run");
     say::number(leaf as u64);
     say::number(lent as u64);
     say::say(b":");
-    let r = runs::run_array(p, q, leaf, marked(), lent);
+    let r = runs::run_array(p, q, leaf, marked(), lent, bits);
     let run = r.run;
     let slots = r.slots;
     say::number(run.number as u64);
@@ -76,5 +76,4 @@ pub fn run_case(p: &[i32], q: &[i32]) {
     say::number(run.opened);
     say::number(marks(slots));
     print_pairs(slots, run.count);
-    say::end_line();
 }

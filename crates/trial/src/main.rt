@@ -2,6 +2,8 @@
 mod asked;
 mod circles;
 mod leaves;
+mod lent;
+mod marks;
 mod near;
 mod pages;
 mod places;
@@ -11,7 +13,7 @@ mod tape;
 mod views;
 mod walks;
 
-// A case that takes nothing, or of one sheet; those of two sheets are `asked`.
+// A case of no sheet, or of one; those of two sheets are `asked`.
 fn case(kind: usize) {
     if kind == 1 {
         places::rules();
@@ -21,6 +23,8 @@ fn case(kind: usize) {
         sheets::point_case();
     } else if kind == 4 {
         sheets::pack_case();
+    } else if kind == 14 {
+        marks::mark_case();
     } else {
         asked::asked(kind);
     }

@@ -30,7 +30,7 @@ fn print_page(page: list::Page) {
 }
 
 // A key, a size and a threshold, and the page that they ask for.
-pub fn page_case(p: &[i32], q: &[i32]) {
+pub fn page_case(p: &[i32], q: &[i32], bits: &mut [u64]) {
     let key_q = tape::next_id();
     let key_p = tape::next_id();
     let size = tape::next_or_largest();
@@ -46,16 +46,15 @@ pub fn page_case(p: &[i32], q: &[i32]) {
         size: size,
         threshold: threshold,
     };
-    let r = ring::page::page(p, q, request);
+    let r = ring::page::page(p, q, request, bits);
     say::number(r.number as u64);
     say::number(r.opened);
     let page = r.page;
     print_page(page);
-    say::end_line();
 }
 
 // A key and a size, and the page of the self join that they ask for.
-pub fn own_case(s: &[i32]) {
+pub fn own_case(s: &[i32], bits: &mut [u64]) {
     let key_q = tape::next_id();
     let key_p = tape::next_id();
     let size = tape::next_or_largest();
@@ -64,25 +63,23 @@ pub fn own_case(s: &[i32]) {
     print_key(key);
     say::number(size as u64);
     say::say(b":");
-    let r = ring::own::own_page(s, key, size);
+    let r = ring::own::own_page(s, key, size, bits);
     say::number(r.number as u64);
     say::number(r.opened);
     let page = r.page;
     print_page(page);
-    say::end_line();
 }
 
 // The id of a chamber and a t, and whether it has so many partners.
-pub fn partners_case(p: &[i32], q: &[i32]) {
+pub fn partners_case(p: &[i32], q: &[i32], bits: &mut [u64]) {
     let id = tape::next_id();
     let t = tape::next_id();
     say::say(b"partners");
     say::number(id as u64);
     say::number(t as u64);
     say::say(b":");
-    let r = ring::partners::partners(p, q, id, t);
+    let r = ring::partners::partners(p, q, id, t, bits);
     say::number(r.number as u64);
     say::number(r.count as u64);
     print_mark(r.enough);
-    say::end_line();
 }

@@ -12,6 +12,12 @@ pub fn number(n: u64) {
     io::print_decimal(STDOUT_FILENO, n);
 }
 
+// The same in base sixteen.
+pub fn hex(n: u64) {
+    say(b" ");
+    io::print_hex(STDOUT_FILENO, n, 1);
+}
+
 pub fn signed(z: i64) {
     if z < 0 {
         say(b" -");
@@ -44,24 +50,6 @@ pub fn pairs(row: [Pair; 16], count: usize) {
             let v = row[k];
             pair(v);
         }
-        k += 1;
-    }
-}
-
-fn word(n: u64, hex: bool) {
-    if hex {
-        say(b" ");
-        io::print_hex(STDOUT_FILENO, n, 1);
-    } else {
-        number(n);
-    }
-}
-
-// Kept bits: sixteen words.
-pub fn bits(words: [u64; 16], hex: bool) {
-    let mut k = 0;
-    while k < 16 {
-        word(words[k], hex);
         k += 1;
     }
 }

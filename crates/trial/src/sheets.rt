@@ -33,7 +33,6 @@ pub fn print_point(r: ring::Pointed) {
             say::refused(number);
         }
     }
-    say::end_line();
 }
 
 fn read(s: &[i32], position: usize) {
@@ -41,6 +40,7 @@ fn read(s: &[i32], position: usize) {
     say::number(position as u64);
     say::say(b":");
     print_point(ring::point::point(s, position));
+    say::end_line();
 }
 
 // A length, a sheet of so many words, and a position.
@@ -87,8 +87,8 @@ fn print_packed(number: u32, out: &[i32]) {
     say::end_line();
 }
 
-fn packed(n: usize, points: &[i32], order: &[i32], edition: u32, out: &mut [i32]) {
-    let number = pack::pack(n, points, order, edition, out);
+fn packed(form: u32, n: usize, points: &[i32], order: &[i32], edition: u32, out: &mut [i32]) {
+    let number = pack::pack(form, n, points, order, edition, out);
     print_packed(number, out);
 }
 
@@ -100,8 +100,9 @@ fn next_long() -> usize {
     low + 16777216 * middle + 281474976710656 * high
 }
 
-// n, how many point words and order words there are, an edition, the length of the lent output, the point words and the order words.
+// A form, n, how many point words and order words there are, an edition, the length of the lent output, the point words and the order words.
 pub fn pack_case() {
+    let form = tape::next_id();
     let n = next_long();
     let np = tape::next_up_to(MOST);
     let no = tape::next_up_to(MOST);
@@ -112,5 +113,12 @@ pub fn pack_case() {
     let mut out = [MARK; MOST];
     tape::fill(&mut points, np);
     tape::fill(&mut order, no);
-    packed(n, &points[..np], &order[..no], edition, &mut out[..lent]);
+    packed(
+        form,
+        n,
+        &points[..np],
+        &order[..no],
+        edition,
+        &mut out[..lent],
+    );
 }

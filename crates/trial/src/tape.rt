@@ -29,7 +29,8 @@ fn read_word() -> Next {
     Next::Lost
 }
 
-fn next_word() -> i32 {
+// The next word, 0 where it is lost.
+pub fn next_word() -> i32 {
     match read_word() {
         Next::Word(w) => w,
         Next::Lost => 0,

@@ -14,8 +14,8 @@ use view::Sheet;
 use walk::Answer;
 ghost use mathlib.Core.Path.{_≡_};
 ghost use lib.ListN.{length};
-ghost use Rattle.ring.specs.Answers.{pointed, filtered, walked};
-ghost use Rattle.ring.specs.Page.{pageAnswer};
+ghost use Rattle.ring.specs.Answers.{pointed, filtered, filteredBits, walked};
+ghost use Rattle.ring.specs.Page.{pageAnswer, pageBits};
 ghost use Rattle.nearest.specs.Nearest.{nearestNo, nearestAnswer, waitedBy};
 
 fn show_head(h: Head) {
@@ -24,17 +24,13 @@ fn show_head(h: Head) {
     say::number(h.len as u64);
     say::number(h.n as u64);
     say::number(h.m as u64);
-    say::end_line();
 }
 
 fn show_filter(f: Filtered) {
     say::say(b"filter");
     say::number(f.number as u64);
-    say::number(f.bits[0]);
-    say::number(f.bits[15]);
     say::number(f.count as u64);
     say::number(f.opened);
-    say::end_line();
 }
 
 fn show_answer(a: Answer) {
@@ -55,7 +51,6 @@ fn show_walk(w: Walked) {
         Walked::Done(a) => show_answer(a),
         Walked::Refused(no) => say::refused(no),
     }
-    say::end_line();
 }
 
 fn show_pairs(g: Page) {
@@ -74,7 +69,6 @@ fn show_page(a: Paged) {
     say::number(a.opened);
     let g = a.page;
     show_pairs(g);
-    say::end_line();
 }
 
 fn show_found(f: Found) {
@@ -87,12 +81,11 @@ fn show_found(f: Found) {
 }
 
 fn show_waiting(numbers: [u64; 4]) {
-    say::say(b", lent");
+    say::say(b" numbers");
     say::number(numbers[0]);
     say::number(numbers[1]);
     say::number(numbers[2]);
     say::number(numbers[3]);
-    say::end_line();
 }
 
 // The readers on views made here, of words and any counts: the answer is that of the words alone.
@@ -110,8 +103,9 @@ fn filter_walk_through(
     nq: usize,
     mq: usize,
     j: usize,
+    bits: &mut [u64],
 ) -> Filtered
-    ensures { λ r. ⌜ r ≡ filtered (now (p .entry)) (now (q .entry)) j ⌝ }
+    ensures { λ r. ⌜ (r ≡ filtered (now (p .entry)) (now (q .entry)) j (length (now (bits .entry)))) × (now (bits .exit) ≡ filteredBits (now (p .entry)) (now (q .entry)) j (now (bits .entry))) ⌝ }
 {
     view::filter_walk_at(
         Sheet {
@@ -125,6 +119,7 @@ fn filter_walk_through(
             m: mq,
         },
         j,
+        bits,
     )
 }
 
@@ -164,8 +159,9 @@ fn page_through(
     nq: usize,
     mq: usize,
     request: Request,
+    bits: &mut [u64],
 ) -> Paged
-    ensures { λ r. ⌜ r ≡ pageAnswer (now (p .entry)) (now (q .entry)) request ⌝ }
+    ensures { λ r. ⌜ (r ≡ pageAnswer (now (p .entry)) (now (q .entry)) request (length (now (bits .entry)))) × (now (bits .exit) ≡ pageBits (now (p .entry)) (now (q .entry)) request (now (bits .entry))) ⌝ }
 {
     view::page_at(
         Sheet {
@@ -179,6 +175,7 @@ fn page_through(
             m: mq,
         },
         request,
+        bits,
     )
 }
 
@@ -245,7 +242,7 @@ fn ask_short(
 }
 
 // Which call, the counts that the views of P and of Q claim, two positions or ids, and a size. A call that does not take one of these reads it all the same.
-pub fn view_case(p: &[i32], q: &[i32]) {
+pub fn view_case(p: &[i32], q: &[i32], bits: &mut [u64]) {
     let call = tape::next_count();
     let np = tape::next_or_largest();
     let mp = tape::next_or_largest();
@@ -261,7 +258,7 @@ pub fn view_case(p: &[i32], q: &[i32]) {
     } else if call == 3 {
         show_point(point_through(p, np, mp, a as usize));
     } else if call == 4 {
-        show_filter(filter_walk_through(p, np, mp, q, nq, mq, a as usize));
+        show_filter(filter_walk_through(p, np, mp, q, nq, mq, a as usize, bits));
     } else if call == 5 {
         show_walk(ring_walk_through(p, np, mp, q, nq, mq, a as usize, b as usize));
     } else if call == 6 {
@@ -271,7 +268,7 @@ pub fn view_case(p: &[i32], q: &[i32]) {
             size: size,
             threshold: 0,
         };
-        show_page(page_through(p, np, mp, q, nq, mq, request));
+        show_page(page_through(p, np, mp, q, nq, mq, request, bits));
     } else if call == 7 {
         ask_near(p, np, mp, q, nq, mq, a, size);
     } else {

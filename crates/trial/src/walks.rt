@@ -2,19 +2,16 @@
 use crate::say;
 use crate::tape;
 
-// A position of Q, and its filter walk.
-pub fn filter_case(p: &[i32], q: &[i32]) {
+// A position of Q, and its filter walk, which leaves its kept set in the words lent.
+pub fn filter_case(p: &[i32], q: &[i32], bits: &mut [u64]) {
     let j = tape::next_or_largest();
     say::say(b"filter");
     say::number(j as u64);
     say::say(b":");
-    let f = ring::filter::filter_walk(p, q, j);
+    let f = ring::filter::filter_walk(p, q, j, bits);
     say::number(f.number as u64);
     say::number(f.count as u64);
     say::number(f.opened);
-    let bits = f.bits;
-    say::bits(bits, true);
-    say::end_line();
 }
 
 pub fn print_hit(h: walk::Hit) {

@@ -10,19 +10,24 @@ use denote.Ref.{RefT, now}
 use Rattle.words.proofs.FirstLaws.{answer-given, answer-refused, answer-number}
 use Rattle.sheet.specs.Layout.{points, nodes}
 use Rattle.sheet.specs.Open.{sheetNo}
-use Rattle.ring.specs.Answers.{pointed, filtered, walked}
 use Rattle.list.specs.declared.Key.{Key}
+use Rattle.list.specs.declared.Pair.{Pair}
 use Rattle.list.specs.declared.Request.{Request}
-use Rattle.ring.specs.Page.{pageAnswer}
-use Rattle.ring.specs.Own.{ownAnswer}
-use Rattle.ring.specs.Partners.{partnersAnswer}
-use Rattle.nearest.specs.Nearest.{nearestNo, nearestAnswer, waitedBy}
-use Rattle.nearest.specs.declared.Found.{Found}
+use Rattle.ring.specs.Answers.{pointed, filtered, filteredBits, walked}
+use Rattle.ring.specs.Page.{pageAnswer, pageBits}
+use Rattle.ring.specs.Own.{ownAnswer, ownBits}
+use Rattle.ring.specs.Partners.{partnersAnswer, partnersBits}
 use Rattle.ring.specs.declared.Paged.{Paged}
 use Rattle.ring.specs.declared.Partnered.{Partnered}
 use Rattle.ring.specs.declared.Pointed.{Pointed}
 use Rattle.ring.specs.declared.Filtered.{Filtered}
 use Rattle.ring.specs.declared.Walked.{Walked}
+use Rattle.runs.specs.declared.Run.{Run}
+use Rattle.runs.specs.Run.{runAnswer, runSlots, runBits}
+use Rattle.shortest.specs.declared.Shortlist.{Shortlist}
+use Rattle.shortest.specs.Answer.{shortAnswer, shortBits}
+use Rattle.nearest.specs.declared.Found.{Found}
+use Rattle.nearest.specs.Nearest.{nearestNo, nearestAnswer, nearFilterNo, nearFiltered, nearFilteredBits, waitedBy}
 use Rattle.view.specs.declared.Sheet.{Sheet}
 use Rattle.view.specs.declared.Opened.{Opened}
 use Rattle.view.specs.Shown.{Shown, shown, openOf}
@@ -45,36 +50,70 @@ pub open-refused : (s : RefT (List ℤ)) (r : Opened) → shown r ≡ openOf s �
 unfolding openOf
 open-refused s r e ne = e ∙ answer-refused _ _ _ _ refl ne
 
--- the readers: two views of the same words, whatever they claim, get one answer
-pub point-through-once : (d d′ : Sheet) (i : ℕ) (r r′ : Pointed) → now (d .words) ≡ now (d′ .words) → r ≡ pointed (now (d .words)) i → r′ ≡ pointed (now (d′ .words)) i → r ≡ r′
-point-through-once d d′ i r r′ w e f = e ∙ ap (λ (x : List ℤ). pointed x i) w ∙ sym f
-
-pub filter-through-once : (p p′ q q′ : Sheet) (j : ℕ) (r r′ : Filtered) → now (p .words) ≡ now (p′ .words) → now (q .words) ≡ now (q′ .words)
-    → r ≡ filtered (now (p .words)) (now (q .words)) j → r′ ≡ filtered (now (p′ .words)) (now (q′ .words)) j → r ≡ r′
-filter-through-once p p′ q q′ j r r′ v w e f = e ∙ ap (λ (x : List ℤ). filtered x (now (q .words)) j) v ∙ ap (λ (y : List ℤ). filtered (now (p′ .words)) y j) w ∙ sym f
+-- the readers: two views of the same words, whatever they claim, get one answer, and leave the same in what is lent
+pub point-through-once : (d d′ : Sheet) (i : ℕ) (r r′ : Pointed) → now (d .words) ≡ now (d′ .words)
+    → r ≡ pointed (now (d .words)) i → r′ ≡ pointed (now (d′ .words)) i → r ≡ r′
+point-through-once d d′ i r r′ v e f = e ∙ (λ x. pointed (v x) i) ∙ sym f
 
 pub ring-through-once : (p p′ q q′ : Sheet) (j i : ℕ) (r r′ : Walked) → now (p .words) ≡ now (p′ .words) → now (q .words) ≡ now (q′ .words)
     → r ≡ walked (now (p .words)) (now (q .words)) j i → r′ ≡ walked (now (p′ .words)) (now (q′ .words)) j i → r ≡ r′
-ring-through-once p p′ q q′ j i r r′ v w e f = e ∙ ap (λ (x : List ℤ). walked x (now (q .words)) j i) v ∙ ap (λ (y : List ℤ). walked (now (p′ .words)) y j i) w ∙ sym f
+ring-through-once p p′ q q′ j i r r′ v w e f = e ∙ (λ x. walked (v x) (w x) j i) ∙ sym f
 
-pub own-through-once : (d d′ : Sheet) (key : Key) (size : ℕ) (r r′ : Paged) → now (d .words) ≡ now (d′ .words) → r ≡ ownAnswer (now (d .words)) key size → r′ ≡ ownAnswer (now (d′ .words)) key size → r ≡ r′
-own-through-once d d′ key size r r′ w e f = e ∙ ap (λ (x : List ℤ). ownAnswer x key size) w ∙ sym f
+pub filter-through-once : (p p′ q q′ : Sheet) (j : ℕ) (ws : List ℕ) (r r′ : Filtered) (t t′ : List ℕ) → now (p .words) ≡ now (p′ .words) → now (q .words) ≡ now (q′ .words)
+    → (r ≡ filtered (now (p .words)) (now (q .words)) j (length ws)) × (t ≡ filteredBits (now (p .words)) (now (q .words)) j ws)
+    → (r′ ≡ filtered (now (p′ .words)) (now (q′ .words)) j (length ws)) × (t′ ≡ filteredBits (now (p′ .words)) (now (q′ .words)) j ws)
+    → (r ≡ r′) × (t ≡ t′)
+filter-through-once p p′ q q′ j ws r r′ t t′ v w e f =
+    (e .0 ∙ (λ i. filtered (v i) (w i) j (length ws)) ∙ sym (f .0), e .1 ∙ (λ i. filteredBits (v i) (w i) j ws) ∙ sym (f .1))
 
-pub page-through-once : (p p′ q q′ : Sheet) (ask : Request) (r r′ : Paged) → now (p .words) ≡ now (p′ .words) → now (q .words) ≡ now (q′ .words)
-    → r ≡ pageAnswer (now (p .words)) (now (q .words)) ask → r′ ≡ pageAnswer (now (p′ .words)) (now (q′ .words)) ask → r ≡ r′
-page-through-once p p′ q q′ ask r r′ v w e f = e ∙ ap (λ (x : List ℤ). pageAnswer x (now (q .words)) ask) v ∙ ap (λ (y : List ℤ). pageAnswer (now (p′ .words)) y ask) w ∙ sym f
+pub page-through-once : (p p′ q q′ : Sheet) (ask : Request) (ws : List ℕ) (r r′ : Paged) (t t′ : List ℕ) → now (p .words) ≡ now (p′ .words) → now (q .words) ≡ now (q′ .words)
+    → (r ≡ pageAnswer (now (p .words)) (now (q .words)) ask (length ws)) × (t ≡ pageBits (now (p .words)) (now (q .words)) ask ws)
+    → (r′ ≡ pageAnswer (now (p′ .words)) (now (q′ .words)) ask (length ws)) × (t′ ≡ pageBits (now (p′ .words)) (now (q′ .words)) ask ws)
+    → (r ≡ r′) × (t ≡ t′)
+page-through-once p p′ q q′ ask ws r r′ t t′ v w e f =
+    (e .0 ∙ (λ i. pageAnswer (v i) (w i) ask (length ws)) ∙ sym (f .0), e .1 ∙ (λ i. pageBits (v i) (w i) ask ws) ∙ sym (f .1))
 
-pub partners-through-once : (p p′ q q′ : Sheet) (id t : ℕ) (r r′ : Partnered) → now (p .words) ≡ now (p′ .words) → now (q .words) ≡ now (q′ .words)
-    → r ≡ partnersAnswer (now (p .words)) (now (q .words)) id t → r′ ≡ partnersAnswer (now (p′ .words)) (now (q′ .words)) id t → r ≡ r′
-partners-through-once p p′ q q′ id t r r′ v w e f = e ∙ ap (λ (x : List ℤ). partnersAnswer x (now (q .words)) id t) v ∙ ap (λ (y : List ℤ). partnersAnswer (now (p′ .words)) y id t) w ∙ sym f
+pub own-through-once : (d d′ : Sheet) (key : Key) (size : ℕ) (ws : List ℕ) (r r′ : Paged) (t t′ : List ℕ) → now (d .words) ≡ now (d′ .words)
+    → (r ≡ ownAnswer (now (d .words)) key size (length ws)) × (t ≡ ownBits (now (d .words)) key size ws)
+    → (r′ ≡ ownAnswer (now (d′ .words)) key size (length ws)) × (t′ ≡ ownBits (now (d′ .words)) key size ws)
+    → (r ≡ r′) × (t ≡ t′)
+own-through-once d d′ key size ws r r′ t t′ v e f =
+    (e .0 ∙ (λ i. ownAnswer (v i) key size (length ws)) ∙ sym (f .0), e .1 ∙ (λ i. ownBits (v i) key size ws) ∙ sym (f .1))
 
--- and leave the same lent words
+pub partners-through-once : (p p′ q q′ : Sheet) (id t : ℕ) (ws : List ℕ) (r r′ : Partnered) (s s′ : List ℕ) → now (p .words) ≡ now (p′ .words) → now (q .words) ≡ now (q′ .words)
+    → (r ≡ partnersAnswer (now (p .words)) (now (q .words)) id t (length ws)) × (s ≡ partnersBits (now (p .words)) (now (q .words)) id t ws)
+    → (r′ ≡ partnersAnswer (now (p′ .words)) (now (q′ .words)) id t (length ws)) × (s′ ≡ partnersBits (now (p′ .words)) (now (q′ .words)) id t ws)
+    → (r ≡ r′) × (s ≡ s′)
+partners-through-once p p′ q q′ id t ws r r′ s s′ v w e f =
+    (e .0 ∙ (λ i. partnersAnswer (v i) (w i) id t (length ws)) ∙ sym (f .0), e .1 ∙ (λ i. partnersBits (v i) (w i) id t ws) ∙ sym (f .1))
+
+pub run-through-once : (p p′ q q′ : Sheet) (leaf : ℕ) (slots : List Pair) (ws : List ℕ) (r r′ : Run) (s s′ : List Pair) (t t′ : List ℕ) → now (p .words) ≡ now (p′ .words) → now (q .words) ≡ now (q′ .words)
+    → (r ≡ runAnswer (now (p .words)) (now (q .words)) leaf (length slots) (length ws)) × (s ≡ runSlots (now (p .words)) (now (q .words)) leaf slots (length ws)) × (t ≡ runBits (now (p .words)) (now (q .words)) leaf (length slots) ws)
+    → (r′ ≡ runAnswer (now (p′ .words)) (now (q′ .words)) leaf (length slots) (length ws)) × (s′ ≡ runSlots (now (p′ .words)) (now (q′ .words)) leaf slots (length ws)) × (t′ ≡ runBits (now (p′ .words)) (now (q′ .words)) leaf (length slots) ws)
+    → (r ≡ r′) × (s ≡ s′) × (t ≡ t′)
+run-through-once p p′ q q′ leaf slots ws r r′ s s′ t t′ v w e f =
+    (e .0 ∙ (λ i. runAnswer (v i) (w i) leaf (length slots) (length ws)) ∙ sym (f .0), e .1 ∙ (λ i. runSlots (v i) (w i) leaf slots (length ws)) ∙ sym (f .1), e .2 ∙ (λ i. runBits (v i) (w i) leaf (length slots) ws) ∙ sym (f .2))
+
+pub shortest-through-once : (p p′ q q′ : Sheet) (k : ℕ) (ws : List ℕ) (r r′ : Shortlist) (t t′ : List ℕ) → now (p .words) ≡ now (p′ .words) → now (q .words) ≡ now (q′ .words)
+    → (r ≡ shortAnswer (now (p .words)) (now (q .words)) k (length ws)) × (t ≡ shortBits (now (p .words)) (now (q .words)) k ws)
+    → (r′ ≡ shortAnswer (now (p′ .words)) (now (q′ .words)) k (length ws)) × (t′ ≡ shortBits (now (p′ .words)) (now (q′ .words)) k ws)
+    → (r ≡ r′) × (t ≡ t′)
+shortest-through-once p p′ q q′ k ws r r′ t t′ v w e f =
+    (e .0 ∙ (λ i. shortAnswer (v i) (w i) k (length ws)) ∙ sym (f .0), e .1 ∙ (λ i. shortBits (v i) (w i) k ws) ∙ sym (f .1))
+
 pub nearest-through-once : (p p′ q q′ : Sheet) (id size : ℕ) (ws : List ℕ) (r r′ : Found) (t t′ : List ℕ) → now (p .words) ≡ now (p′ .words) → now (q .words) ≡ now (q′ .words)
     → (r ≡ nearestAnswer (now (p .words)) (now (q .words)) id size (length ws)) × (t ≡ waitedBy (nearestNo (now (p .words)) (now (q .words)) id size (length ws)) (now (p .words)) ws)
     → (r′ ≡ nearestAnswer (now (p′ .words)) (now (q′ .words)) id size (length ws)) × (t′ ≡ waitedBy (nearestNo (now (p′ .words)) (now (q′ .words)) id size (length ws)) (now (p′ .words)) ws)
     → (r ≡ r′) × (t ≡ t′)
 nearest-through-once p p′ q q′ id size ws r r′ t t′ v w e f =
     (e .0 ∙ (λ i. nearestAnswer (v i) (w i) id size (length ws)) ∙ sym (f .0), e .1 ∙ (λ i. waitedBy (nearestNo (v i) (w i) id size (length ws)) (v i) ws) ∙ sym (f .1))
+
+pub near-filter-through-once : (p p′ q q′ : Sheet) (id : ℕ) (waiting ws : List ℕ) (r r′ : Filtered) (s s′ t t′ : List ℕ) → now (p .words) ≡ now (p′ .words) → now (q .words) ≡ now (q′ .words)
+    → (r ≡ nearFiltered (now (p .words)) (now (q .words)) id (length ws) (length waiting)) × (s ≡ waitedBy (nearFilterNo (now (p .words)) (now (q .words)) id (length ws) (length waiting)) (now (p .words)) waiting) × (t ≡ nearFilteredBits (now (p .words)) (now (q .words)) id (length waiting) ws)
+    → (r′ ≡ nearFiltered (now (p′ .words)) (now (q′ .words)) id (length ws) (length waiting)) × (s′ ≡ waitedBy (nearFilterNo (now (p′ .words)) (now (q′ .words)) id (length ws) (length waiting)) (now (p′ .words)) waiting) × (t′ ≡ nearFilteredBits (now (p′ .words)) (now (q′ .words)) id (length waiting) ws)
+    → (r ≡ r′) × (s ≡ s′) × (t ≡ t′)
+near-filter-through-once p p′ q q′ id waiting ws r r′ s s′ t t′ v w e f =
+    (e .0 ∙ (λ i. nearFiltered (v i) (w i) id (length ws) (length waiting)) ∙ sym (f .0), e .1 ∙ (λ i. waitedBy (nearFilterNo (v i) (w i) id (length ws) (length waiting)) (v i) waiting) ∙ sym (f .1), e .2 ∙ (λ i. nearFilteredBits (v i) (w i) id (length waiting) ws) ∙ sym (f .2))
 
 -- the point reader through the view that `open` gives. `open_head` has the promise of ring's `head_of`, which ring's own law settles
 pub point-opened-through-once : (s : RefT (List ℤ)) (i : ℕ) (r r′ : Pointed) → r ≡ pointed (openOf s .covers) i → r′ ≡ pointed (openOf s .covers) i → r ≡ r′

@@ -1,6 +1,7 @@
 // An opened sheet: a view of the words where the caller keeps them, with the sheet's counts. No copy is made.
 // Whoever is handed a view checks it like any slice: its counts are read anew from its words, and its own are never trusted.
 use list::Key;
+use list::Pair;
 use list::Request;
 use nearest::Found;
 use ring::Filtered;
@@ -9,14 +10,18 @@ use ring::Paged;
 use ring::Partnered;
 use ring::Pointed;
 use ring::Walked;
+use runs::Run;
+use shortest::Shortlist;
 ghost use mathlib.Core.Path.{_≡_};
 ghost use Prim.Native.Nat.{_≤_};
 ghost use lib.ListN.{length, take};
-ghost use Rattle.ring.specs.Answers.{headOf, pointed, filtered, walked};
-ghost use Rattle.ring.specs.Page.{pageAnswer};
-ghost use Rattle.ring.specs.Own.{ownAnswer};
-ghost use Rattle.ring.specs.Partners.{partnersAnswer};
-ghost use Rattle.nearest.specs.Nearest.{nearestNo, nearestAnswer, waitedBy};
+ghost use Rattle.ring.specs.Answers.{headOf, pointed, filtered, filteredBits, walked};
+ghost use Rattle.ring.specs.Page.{pageAnswer, pageBits};
+ghost use Rattle.ring.specs.Own.{ownAnswer, ownBits};
+ghost use Rattle.ring.specs.Partners.{partnersAnswer, partnersBits};
+ghost use Rattle.runs.specs.Run.{runAnswer, runSlots, runBits};
+ghost use Rattle.shortest.specs.Answer.{shortAnswer, shortBits};
+ghost use Rattle.nearest.specs.Nearest.{nearestNo, nearestAnswer, nearFilterNo, nearFiltered, nearFilteredBits, waitedBy};
 ghost use Rattle.view.specs.Shown.{shown, openOf};
 
 // The words that the view covers, and the numbers of points and nodes that it claims for them. [F9]
@@ -65,11 +70,16 @@ pub fn point_at<'a>(sheet: Sheet<'a>, position: usize) -> Pointed
     ring::point::point(sheet.words, position)
 }
 
-// The filter walk for position j of Q over P; refused by 1 to 8 of P's words, then of Q's, then by 9.
-pub fn filter_walk_at<'a, 'b>(p: Sheet<'a>, q: Sheet<'b>, j: usize) -> Filtered
-    ensures { λ r. ⌜ r ≡ filtered (now (p .entry .words)) (now (q .entry .words)) j ⌝ }
+// The filter walk for position j of Q over P, its kept set in the words lent; refused by 1 to 8 of P's words, then of Q's, then by 9, then by 24.
+pub fn filter_walk_at<'a, 'b, 'c>(
+    p: Sheet<'a>,
+    q: Sheet<'b>,
+    j: usize,
+    bits: &'c mut [u64],
+) -> Filtered
+    ensures { λ r. ⌜ (r ≡ filtered (now (p .entry .words)) (now (q .entry .words)) j (length (now (bits .entry)))) × (now (bits .exit) ≡ filteredBits (now (p .entry .words)) (now (q .entry .words)) j (now (bits .entry))) ⌝ }
 {
-    ring::filter::filter_walk(p.words, q.words, j)
+    ring::filter::filter_walk(p.words, q.words, j, bits)
 }
 
 // The ring walk for position j of Q and position i of P; refused by 1 to 8 of P's words, then of Q's, then by 9.
@@ -79,25 +89,61 @@ pub fn ring_walk_at<'a, 'b>(p: Sheet<'a>, q: Sheet<'b>, j: usize, i: usize) -> W
     ring::ringwalk::ring_walk(p.words, q.words, j, i)
 }
 
-// The page that follows a key; refused by 1 to 8 of P's words, then of Q's, then by 9 for the key, by 10 for the size, by 21 for the threshold.
-pub fn page_at<'a, 'b>(p: Sheet<'a>, q: Sheet<'b>, request: Request) -> Paged
-    ensures { λ r. ⌜ r ≡ pageAnswer (now (p .entry .words)) (now (q .entry .words)) request ⌝ }
+// The page that follows a key; refused by 1 to 8 of P's words, then of Q's, then by 9 for the key, by 10 for the size, by 21 for the threshold, by 24 for the words lent.
+pub fn page_at<'a, 'b, 'c>(
+    p: Sheet<'a>,
+    q: Sheet<'b>,
+    request: Request,
+    bits: &'c mut [u64],
+) -> Paged
+    ensures { λ r. ⌜ (r ≡ pageAnswer (now (p .entry .words)) (now (q .entry .words)) request (length (now (bits .entry)))) × (now (bits .exit) ≡ pageBits (now (p .entry .words)) (now (q .entry .words)) request (now (bits .entry))) ⌝ }
 {
-    ring::page::page(p.words, q.words, request)
+    ring::page::page(p.words, q.words, request, bits)
 }
 
-// The page of a self join that follows a key; refused by 1 to 8 of the words, then by 9 for the key, by 10 for the size.
-pub fn own_page_at<'a>(sheet: Sheet<'a>, key: Key, size: usize) -> Paged
-    ensures { λ r. ⌜ r ≡ ownAnswer (now (sheet .entry .words)) key size ⌝ }
+// The page of a self join that follows a key; refused by 1 to 8 of the words, then by 9 for the key, by 10 for the size, by 24 for the words lent.
+pub fn own_page_at<'a, 'b>(sheet: Sheet<'a>, key: Key, size: usize, bits: &'b mut [u64]) -> Paged
+    ensures { λ r. ⌜ (r ≡ ownAnswer (now (sheet .entry .words)) key size (length (now (bits .entry)))) × (now (bits .exit) ≡ ownBits (now (sheet .entry .words)) key size (now (bits .entry))) ⌝ }
 {
-    ring::own::own_page(sheet.words, key, size)
+    ring::own::own_page(sheet.words, key, size, bits)
 }
 
-// Whether the chamber with an id has at least t partners; refused by 1 to 8 of P's words, then of Q's, then by 20, then by 21.
-pub fn partners_at<'a, 'b>(p: Sheet<'a>, q: Sheet<'b>, id: u32, t: u32) -> Partnered
-    ensures { λ r. ⌜ r ≡ partnersAnswer (now (p .entry .words)) (now (q .entry .words)) id t ⌝ }
+// Whether the chamber with an id has at least t partners; refused by 1 to 8 of P's words, then of Q's, then by 20, then by 21, then by 24.
+pub fn partners_at<'a, 'b, 'c>(
+    p: Sheet<'a>,
+    q: Sheet<'b>,
+    id: u32,
+    t: u32,
+    bits: &'c mut [u64],
+) -> Partnered
+    ensures { λ r. ⌜ (r ≡ partnersAnswer (now (p .entry .words)) (now (q .entry .words)) id t (length (now (bits .entry)))) × (now (bits .exit) ≡ partnersBits (now (p .entry .words)) (now (q .entry .words)) id t (now (bits .entry))) ⌝ }
 {
-    ring::partners::partners(p.words, q.words, id, t)
+    ring::partners::partners(p.words, q.words, id, t, bits)
+}
+
+// The ring pairs of the chambers of a leaf of Q, in the lent slots; refused by 1 to 8 of P's words, then of Q's, then by 19, then by 24, then by 16.
+pub fn leaf_run_at<'a, 'b, 'c, 'd>(
+    p: Sheet<'a>,
+    q: Sheet<'b>,
+    leaf: usize,
+    slots: &'c mut [Pair],
+    bits: &'d mut [u64],
+) -> Run
+    ensures { λ r. ⌜ (r ≡ runAnswer (now (p .entry .words)) (now (q .entry .words)) leaf (length (now (slots .entry))) (length (now (bits .entry)))) × (now (slots .exit) ≡ runSlots (now (p .entry .words)) (now (q .entry .words)) leaf (now (slots .entry)) (length (now (bits .entry)))) × (now (bits .exit) ≡ runBits (now (p .entry .words)) (now (q .entry .words)) leaf (length (now (slots .entry))) (now (bits .entry))) ⌝ }
+{
+    runs::leaf_run(p.words, q.words, leaf, slots, bits)
+}
+
+// The k ring pairs with the smallest squared size, in order; refused by 1 to 8 of P's words, then of Q's, then by 10, then by 24.
+pub fn shortest_at<'a, 'b, 'c>(
+    p: Sheet<'a>,
+    q: Sheet<'b>,
+    k: usize,
+    bits: &'c mut [u64],
+) -> Shortlist
+    ensures { λ r. ⌜ (r ≡ shortAnswer (now (p .entry .words)) (now (q .entry .words)) k (length (now (bits .entry)))) × (now (bits .exit) ≡ shortBits (now (p .entry .words)) (now (q .entry .words)) k (now (bits .entry))) ⌝ }
+{
+    shortest::shortest(p.words, q.words, k, bits)
 }
 
 // The pump houses nearest to the chamber with an id, the nearest first; the lent numbers are left as `nearest` leaves them. Refused by 1 to 8 of P's words, then
@@ -112,6 +158,19 @@ pub fn nearest_at<'a, 'b, 'c>(
     ensures { λ r. ⌜ (r ≡ nearestAnswer (now (p .entry .words)) (now (q .entry .words)) id size (length (now (waiting .entry)))) × (now (waiting .exit) ≡ waitedBy (nearestNo (now (p .entry .words)) (now (q .entry .words)) id size (length (now (waiting .entry)))) (now (p .entry .words)) (now (waiting .entry))) ⌝ }
 {
     nearest::nearest(p.words, q.words, id, size, waiting)
+}
+
+// The filter walk that goes nearest first, its kept set in the words lent; refused by 1 to 8 of P's words, then of Q's, then by 20, then by 24, then by 25.
+pub fn near_filter_at<'a, 'b, 'c, 'd>(
+    p: Sheet<'a>,
+    q: Sheet<'b>,
+    id: u32,
+    waiting: &'c mut [u64],
+    bits: &'d mut [u64],
+) -> Filtered
+    ensures { λ r. ⌜ (r ≡ nearFiltered (now (p .entry .words)) (now (q .entry .words)) id (length (now (bits .entry))) (length (now (waiting .entry)))) × (now (waiting .exit) ≡ waitedBy (nearFilterNo (now (p .entry .words)) (now (q .entry .words)) id (length (now (bits .entry))) (length (now (waiting .entry)))) (now (p .entry .words)) (now (waiting .entry))) × (now (bits .exit) ≡ nearFilteredBits (now (p .entry .words)) (now (q .entry .words)) id (length (now (waiting .entry))) (now (bits .entry))) ⌝ }
+{
+    nearest::near_filter(p.words, q.words, id, waiting, bits)
 }
 
 // For callers that hold no view: what `open` shows of the words.

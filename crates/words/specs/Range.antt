@@ -13,9 +13,9 @@ lastId = 2000000000
 abbrev pub lastEdition : ℕ
 lastEdition = 1000000000
 
--- "15 is also given when a size lies outside 0 to 8,000,000,000,000" [Z3]
+-- "Refusal 15's size limit becomes 8,000,000,000,000,000,000 for every page" [Z3, Y5]
 abbrev pub lastSize : ℕ
-lastSize = 8000000000000
+lastSize = 8000000000000000000
 
 -- the word of an id, of an edition [S3]
 unfoldable pub idWord : ℤ → Bool
@@ -25,7 +25,7 @@ idWord z = within (pos 1) (pos lastId) z
 unfoldable pub editionWord : ℤ → Bool
 editionWord z = within (pos 1) (pos lastEdition) z
 
--- "x and y from -1,000,000 to 1,000,000": c is the form's limit, `Limits` of the sheet [S4]
+-- "x and y from -1,000,000 to 1,000,000", of form 2 to 1,000,000,000: c is the form's limit, `Limits` of the sheet [S4]
 unfoldable pub coordWord : ℤ → ℤ → Bool
 coordWord c z = within (negℤ c) c z
 
@@ -37,6 +37,6 @@ idOk k = leb 1 k && leb k lastId
 unfoldable pub editionOk : ℕ → Bool
 editionOk k = leb 1 k && leb k lastEdition
 
--- the squared diameter of a pair [Z3]
+-- the squared diameter of a pair [Z3, Y5]
 unfoldable pub sizeOk : ℕ → Bool
 sizeOk k = leb k lastSize

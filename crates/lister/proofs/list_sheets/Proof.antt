@@ -1,55 +1,67 @@
 -- `lister::list_sheets` meets its contract. Assumes nothing.
-use Rattle.ring.proofs.HeadLaws.{Headed, headed, head-number}
+use mathlib.Core.Path.{_≡_, sym, _∙_}
+use Rattle.lister.specs.Outcome.{firstNo}
+use Rattle.lister.proofs.FormLaws.{headed-first}
 use Rattle.lister.proofs.OutcomeLaws.{q-refused, p-refused, lister-listed}
 use borrow.Author.Needs.{needs}
 use Rattle.lister.proofs.list_sheets.Statement.{statement}
 use Rattle.lister.proofs.list_sheets.Tie as tie
 
 -- the sheet that a branch has found to open
-q-opens : (c : tie.Else1) → Headed (c .before .before .before .args .q .now) (c .before .before .head-of .result)
-q-opens c = let h = c .before .before in headed (h .before .args .q .now) (h .head-of .result) (h .head-of .ensures) (c .if1 .left)
+q-opens : (c : tie.Else1) → firstNo (c .before .before .args .q .now) ≡ 0
+q-opens c = sym (c .before .open-first .ensures) ∙ c .if1 .left
 
-p-opens : (c : tie.Else2) → Headed (c .before .before .before .before .before .before .args .p .now) (c .before .before .head-of2 .result)
-p-opens c = let h = c .before .before in headed (h .before .before .before .before .args .p .now) (h .head-of2 .result) (h .head-of2 .ensures) (c .if2 .left)
+p-opens : (c : tie.Else2) → firstNo (c .before .before .before .before .args .p .now) ≡ 0
+p-opens c = sym (c .before .open-first2 .ensures) ∙ c .if2 .left
+
+open-first-requires : tie.Need-open-first-requires
+open-first-requires c κs = search needs
+
+returns : tie.Need-returns
+returns c =
+    let h = c .before in
+    let s = h .before in
+    q-refused (s .args .p .now) (s .args .q .now) (h .open-first .result) (h .open-first .ensures) (c .if1 .taken)
+
+open-first-requires-2 : tie.Need-open-first-requires-2
+open-first-requires-2 c κs = search needs
+
+returns-2 : tie.Need-returns-2
+returns-2 c =
+    let h = c .before in
+    let e = h .before in
+    let s = e .before .before in
+    p-refused (s .args .p .now) (s .args .q .now) (h .open-first2 .result) (q-opens e) (h .open-first2 .ensures) (c .if2 .taken)
 
 head-of-requires : tie.Need-head-of-requires
 head-of-requires c κs = search needs
 
-returns : tie.Need-returns
-returns c =
-    let h = c .before .before in
-    let s = h .before in
-    q-refused (s .args .p .now) (s .args .q .now) (h .head-of .result .number) (head-number (s .args .q .now) (h .head-of .result) (h .head-of .ensures)) (c .if1 .taken)
-
 head-of-requires-2 : tie.Need-head-of-requires-2
 head-of-requires-2 c κs = search needs
 
-returns-2 : tie.Need-returns-2
-returns-2 c =
-    let h = c .before .before in
-    let e = h .before in
-    let s = e .before .before .before in
-    p-refused (s .args .p .now) (s .args .q .now) (h .head-of2 .result .number) (q-opens e .opens) (head-number (s .args .p .now) (h .head-of2 .result) (h .head-of2 .ensures)) (c .if2 .taken)
-
 list-pairs-requires : tie.Need-list-pairs-requires
 list-pairs-requires c κs =
-    let p = p-opens c in
-    let q = q-opens (c .before .before .before) in
-    record { p-no = p .opens; q-no = q .opens; p-opens = p .facts; q-opens = q .facts }
+    let a = c .before in
+    let e = a .before in
+    let p = p-opens e in
+    let q = q-opens (e .before .before) in
+    record { p-no = p; q-no = q; p-opens = headed-first _ _ (c .head-of2 .ensures) p .facts; q-opens = headed-first _ _ (a .head-of .ensures) q .facts }
 
 returns-3 : tie.Need-returns-3
 returns-3 c =
-    let e = c .before in
-    let s = e .before .before .before .before .before .before in
-    lister-listed (s .args .p .now) (s .args .q .now) (c .list-pairs .result) (q-opens (e .before .before .before) .opens) (p-opens e .opens) (c .list-pairs .ensures)
+    let e = c .before .before .before in
+    let s = e .before .before .before .before in
+    lister-listed (s .args .p .now) (s .args .q .now) (c .list-pairs .result) (q-opens (e .before .before)) (p-opens e) (c .list-pairs .ensures)
 
 pub list-sheets-spec : {M : Type 1} → statement M
 list-sheets-spec =
     tie.close
     (tie.spec
-    head-of-requires
+    open-first-requires
     returns
-    head-of-requires-2
+    open-first-requires-2
     returns-2
+    head-of-requires
+    head-of-requires-2
     list-pairs-requires
     returns-3)

@@ -4,6 +4,9 @@ use borrow.Author.Needs.{needs}
 use Rattle.opening.proofs.main.Statement.{statement}
 use Rattle.opening.proofs.main.Tie as tie
 
+room-requires : tie.Need-room-requires
+room-requires c κs = search needs
+
 slice-aggregate-read-all : tie.Need-slice-aggregate-read-all
 slice-aggregate-read-all c = search needs
 
@@ -37,6 +40,7 @@ pub main-spec : {M : Type 1} → statement M
 main-spec =
     tie.close
     (tie.spec
+    room-requires
     slice-aggregate-read-all
     read-all-requires
     enum-known-n

@@ -20,14 +20,17 @@ say-input-requires-2 c κs = search needs
 returns-2 : tie.Need-returns-2
 returns-2 c = search needs
 
+space-requires : tie.Need-space-requires
+space-requires c κs = search needs
+
 slice-aggregate-decode : tie.Need-slice-aggregate-decode
 slice-aggregate-decode c = search needs
 
 decode-requires : tie.Need-decode-requires
 decode-requires c κs = search needs
 
-array-share-prefix-space : tie.Need-array-share-prefix-space
-array-share-prefix-space c = search needs
+array-share-prefix-given : tie.Need-array-share-prefix-given
+array-share-prefix-given c = search needs
 
 slice-aggregate-open-words : tie.Need-slice-aggregate-open-words
 slice-aggregate-open-words c = sym (length-take-le _ _ (search needs))
@@ -47,9 +50,10 @@ run-spec =
     mul-if2
     say-input-requires-2
     returns-2
+    space-requires
     slice-aggregate-decode
     decode-requires
-    array-share-prefix-space
+    array-share-prefix-given
     slice-aggregate-open-words
     open-words-requires
     returns-3)

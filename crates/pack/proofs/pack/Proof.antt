@@ -1,41 +1,61 @@
-use mathlib.Core.Path.{sym, ap, subst, _∙_}
-use mathlib.Core.Bool.{false}
+-- `pack::pack` meets its contract: the shape, then the form, then what is under its limits. Assumes nothing.
+use mathlib.Core.Path.{_∙_}
 use native.Mathlib.Omega.{arith}
-use lib.ListN.{length, getD-replicate}
-use Rattle.sheet.specs.declared.Limits.{Limits}
-use Rattle.sheet.specs.Limits.{form1, Fair}
-use Rattle.sheet.proofs.SheetLaws.{form1-fair}
-use Rattle.pack.specs.Pack.{packNo, packOut}
+use Rattle.integers.proofs.Bools.{passed, failed}
+use Rattle.pack.proofs.PackLaws.{pack-shapeless, pack-formless, pack-by-first, pack-by-second, out-refused, out-by}
 use borrow.Author.Needs.{needs}
 use Rattle.pack.proofs.pack.Statement.{statement}
 use Rattle.pack.proofs.pack.Tie as tie
 
-form1-requires : tie.Need-form1-requires
-form1-requires c κs = search needs
+shape-ok-requires : tie.Need-shape-ok-requires
+shape-ok-requires c κs = search needs
 
-slice-aggregate-pack-by : tie.Need-slice-aggregate-pack-by
-slice-aggregate-pack-by c = search needs
+returns : tie.Need-returns
+returns c =
+    let e = pack-shapeless _ _ _ _ _ _ (failed (c .before .shape-ok .ensures) (c .if1 .taken)) in
+    (e, out-refused _ _ _ _ _ _ (λ z. absurd (omega (arith, e, z))))
 
-pack-by-requires : tie.Need-pack-by-requires
-unfolding form1
-pack-by-requires c κs =
-    let e = c .before .before .form1 .ensures in
-    let h = ap (λ (l : Limits). l .points) e in
-    (subst Fair (sym e) form1-fair, omega arith, λ i g. getD-replicate 1000 i false false (omega arith))
+pack-first-requires : tie.Need-pack-first-requires
+pack-first-requires c κs = passed (c .before .before .before .shape-ok .ensures) (c .before .before .if1 .left)
 
 same-length : tie.Need-same-length
 same-length c = search needs
 
-returns : tie.Need-returns
-returns c =
-    let s = c .before .before .before .before .before .before in
-    let e = c .before .before .before .before .before .form1 .ensures in
-    let b = c .before .before .pack-by in (
-      b .ensures .0 ∙ ap (λ (l : Limits). packNo l (s .args .n) (s .args .points .now) (s .args .order .now) (s .args .edition) (length (s .args .out .now))) e,
-      b .ensures .1 ∙ ap (λ (l : Limits). packOut l (s .args .n) (s .args .points .now) (s .args .order .now) (s .args .edition) (s .args .out .now)) e,
-    )
+returns-2 : tie.Need-returns-2
+returns-2 c =
+    let t = c .before .before in
+    let e = pack-by-first _ _ _ _ _ _ (passed (t .before .before .before .shape-ok .ensures) (t .before .before .if1 .left)) (t .before .if2 .taken) in
+    let r = c .before .pack-first .ensures in
+    (r .0 ∙ e, r .1 ∙ out-by _ _ _ _ _ _ _ 1 e (t .before .if2 .taken))
+
+pack-second-requires : tie.Need-pack-second-requires
+pack-second-requires c κs = passed (c .before .before .before .before .shape-ok .ensures) (c .before .before .before .if1 .left)
+
+same-length-2 : tie.Need-same-length-2
+same-length-2 c = search needs
+
+returns-3 : tie.Need-returns-3
+returns-3 c =
+    let t = c .before .before in
+    let e = pack-by-second _ _ _ _ _ _ (passed (t .before .before .before .before .shape-ok .ensures) (t .before .before .before .if1 .left)) (t .before .if3 .taken) in
+    let r = c .before .pack-second .ensures in
+    (r .0 ∙ e, r .1 ∙ out-by _ _ _ _ _ _ _ 2 e (t .before .if3 .taken))
+
+returns-4 : tie.Need-returns-4
+returns-4 c =
+    let e = pack-formless _ _ _ _ _ _ (passed (c .before .before .before .shape-ok .ensures) (c .before .before .if1 .left)) (c .before .if2 .left) (c .if3 .left) in
+    (e, out-refused _ _ _ _ _ _ (λ z. absurd (omega (arith, e, z))))
 
 pub pack-spec : {M : Type 1} → statement M
 pack-spec =
     tie.close
-    (tie.spec form1-requires slice-aggregate-pack-by pack-by-requires same-length returns)
+    (tie.spec
+    shape-ok-requires
+    returns
+    pack-first-requires
+    same-length
+    returns-2
+    pack-second-requires
+    same-length-2
+    returns-3
+    returns-4)

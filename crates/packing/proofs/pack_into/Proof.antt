@@ -11,8 +11,14 @@ points-end-requires c κs = search needs
 at-requires : tie.Need-at-requires
 at-requires c κs = search needs
 
-edition-of-requires : tie.Need-edition-of-requires
-edition-of-requires c κs = search needs
+number-of-requires : tie.Need-number-of-requires
+number-of-requires c κs = search needs
+
+at-requires-2 : tie.Need-at-requires-2
+at-requires-2 c κs = search needs
+
+number-of-requires-2 : tie.Need-number-of-requires-2
+number-of-requires-2 c κs = search needs
 
 sub-pack : tie.Need-sub-pack
 sub-pack c = search needs
@@ -56,7 +62,9 @@ pack-into-spec =
     (tie.spec
     points-end-requires
     at-requires
-    edition-of-requires
+    number-of-requires
+    at-requires-2
+    number-of-requires-2
     sub-pack
     part-pack-start
     part-pack-end

@@ -1,39 +1,58 @@
--- `packing::write_words` is safe. Assumes nothing.
-use mathlib.Core.Path.{sym}
-use lib.Seq.{length-take-le}
+-- `packing::write_words` is safe, and each piece leaves fewer words. Assumes nothing.
+use Prim.Native.Nat.{_-_, _≤_}
 use borrow.Author.Needs.{needs}
 use Rattle.packing.proofs.write_words.Statement.{statement}
 use Rattle.packing.proofs.write_words.Tie as tie
 
-mul-size : tie.Need-mul-size
-mul-size c = search needs
+abbrev Inv-loop : tie.InvT-loop
+Inv-loop s len at₀ at = at ≤ len
 
-slice-aggregate-encode-into : tie.Need-slice-aggregate-encode-into
-slice-aggregate-encode-into c = search needs
+abbrev μ-loop : tie.MeasureT-loop
+μ-loop s len at₀ at = len - at
 
-encode-into-requires : tie.Need-encode-into-requires
-encode-into-requires c κs = search needs
+loop-holds : tie.Need-loop-holds Inv-loop μ-loop
+loop-holds c = search needs
 
-array-share-prefix-bytes : tie.Need-array-share-prefix-bytes
-array-share-prefix-bytes c = search needs
+piece-end-requires : tie.Need-piece-end-requires Inv-loop μ-loop
+piece-end-requires c κs = search needs
 
-slice-aggregate-write-all : tie.Need-slice-aggregate-write-all
-slice-aggregate-write-all c = sym (length-take-le _ _ (search needs))
+mul-write-piece : tie.Need-mul-write-piece Inv-loop μ-loop
+mul-write-piece c = search needs
 
-write-all-requires : tie.Need-write-all-requires
-write-all-requires c κs = search needs
+sub-write-piece : tie.Need-sub-write-piece Inv-loop μ-loop
+sub-write-piece c = search needs
 
-returns : tie.Need-returns
+part-write-piece-start : tie.Need-part-write-piece-start Inv-loop μ-loop
+part-write-piece-start c = search needs
+
+part-write-piece-end : tie.Need-part-write-piece-end Inv-loop μ-loop
+part-write-piece-end c = search needs
+
+write-piece-requires : tie.Need-write-piece-requires Inv-loop μ-loop
+write-piece-requires c κs = search needs
+
+loop-less : tie.Need-loop-less Inv-loop μ-loop
+loop-less c = search needs
+
+loop-again : tie.Need-loop-again Inv-loop μ-loop
+loop-again c = search needs
+
+returns : tie.Need-returns Inv-loop μ-loop
 returns c = search needs
 
 pub write-words-spec : {M : Type 1} → statement M
 write-words-spec =
     tie.close
     (tie.spec
-    mul-size
-    slice-aggregate-encode-into
-    encode-into-requires
-    array-share-prefix-bytes
-    slice-aggregate-write-all
-    write-all-requires
+    Inv-loop
+    μ-loop
+    loop-holds
+    piece-end-requires
+    mul-write-piece
+    sub-write-piece
+    part-write-piece-start
+    part-write-piece-end
+    write-piece-requires
+    loop-less
+    loop-again
     returns)

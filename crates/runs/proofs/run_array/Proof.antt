@@ -1,5 +1,6 @@
--- `runs::run_array` meets its contract: a walk of its MIR, by hand. The array passed is copied into a local, of which the first so many elements are lent to `leaf_run` as a
--- slice, for a lifetime that the walk makes. They come back at their last list, the others as they were, and `with_slots` makes the answer of the whole and of what `leaf_run` said.
+-- `runs::run_array` meets its contract: a walk of its MIR, by hand. The array passed is copied into a local, of which the first so many elements
+-- are lent to `leaf_run` as a slice, for a lifetime that the walk makes. They come back at their last list, the others as they were, and
+-- `with_slots` makes the answer of the whole and of what `leaf_run` said. The lent words are handed on to `leaf_run` for good.
 -- All that the proof knows of `leaf_run` is that it meets its contract.
 -- Assumes nothing.
 use mathlib.Core.Path.{_≡_, refl, sym, ap, _∙_, subst}
@@ -21,8 +22,8 @@ use ghost.Atoms.{Atoms, sem}
 use contract.Monad.{Fun, fact}
 use contract.Running.{givenOf, tables, tablesOf}
 use types.Kit.{Given, Item, mean, ‵, raw, rewrite, _⊛_, ⋆, some, later, _$_, _∵_, !, qed, by, move, keep, drop, use0, use1, use2, use3, split, join, pick, fsplit, fjoin, feqL, suffices, frame, await, done}
-use types.Part.{agg}
-use types.Run.{look, init, forget, stop, from, load, addr, of-opd, and-then, no-more, assigns, land, returns, enter, alloc1, alloc0, params1, pass1, pass0, free1, free0}
+use types.Part.{whole, sub, look-in, agg}
+use types.Run.{look, init, forget, stop, hop, fld, from, load, addr, of-opd, and-then, no-more, assigns, land, returns, enter, alloc1, alloc0, params1, pass1, pass0, free1, free0}
 use types.SemTy.{cells, Arr}
 use types.Tokens.{lft-new, lft-end}
 use sound.WpLaws.{FmC, fmOf, WpFn-mono}
@@ -31,10 +32,10 @@ use denote.Laws.{Is, shows}
 use denote.Memory.{mem as memOf, pointee}
 use denote.Array.{Array, array-vals, array-tells, array-lawful, array-makes}
 use denote.Plain.{uint-makes, uint-vals, uint-tells, uint-lawful}
-use denote.Builtin.{i32, usize}
+use denote.Builtin.{i32, u64, usize}
 use denote.Ref.{RefT, now}
 use denote.Signature.{plain}
-use denote.Slice.{sliceTy, sliceVal, slice-vals, shr-slice-tells, shr-slice-lawful, shr-slice-copy, MutSlice, ShrSlice, Room}
+use denote.Slice.{sliceTy, sliceVal, slice-vals, mut-slice-tells, shr-slice-tells, shr-slice-lawful, shr-slice-copy, MutSlice, ShrSlice, Room, finally}
 use denote.Lend.{Held, lends-slice, slice-back}
 use denote.Index.{row, place, whole-in, whole-out}
 use denote.Steps.{only, owned, facts, heard, nothing}
@@ -45,7 +46,7 @@ use denote.Triple.Clauses.{ensured, lasts}
 use denote.Triple.Entry.{onEntry}
 use denote.Triple.Spec.{Meets, tripleOf}
 use denote.Triple.Table.{entered, cited}
-use denote.Triple.Walked.{says, Stays, stay-none, stay-none-slice, walkOf, goes-none, goes-none-slice, Walks, ends-at, walked, walk-meets}
+use denote.Triple.Walked.{says, Stays, stay-none, stay-none-slice, gave-slice, walkOf, goes-none, goes-none-slice, goes-gave-slice, Walks, ends-at, walked, walk-meets}
 use denote.Exit.{yes}
 use Rattle.list.specs.declared.Pair.{Pair}
 use Rattle.list.proofs.PairRows.{word, P, pv, width}
@@ -56,8 +57,8 @@ use Rattle.list.proofs.Pair as T
 use Rattle.list.proofs.Pair.Laws as T′
 use Rattle.runs.specs.declared.Run.{Run}
 use Rattle.runs.specs.declared.RunArray.{RunArray}
-use Rattle.runs.specs.Run.{runAnswer, runSlots, withSlots, runArray}
-use Rattle.runs.proofs.ArrayLaws.{runs-array-is}
+use Rattle.runs.specs.Run.{runAnswer, runSlots, runBits, withSlots, runArray}
+use Rattle.runs.proofs.ArrayLaws.{runs-array-is, runs-array-words}
 use Rattle.runs.proofs.Run as R
 use Rattle.runs.proofs.Run.Laws as R′
 use Rattle.runs.proofs.RunArray as N
@@ -98,7 +99,7 @@ abbrev slice : Ty
 slice = sliceTy (tyRef erased mut (pointee (P .written)))
 
 abbrev stayed : Stays (self.ended .signature .params) (self.ended .kept)
-stayed = (stay-none-slice (0 ∷ []) tt (plain (λ _. i32)) yes, (stay-none-slice (1 ∷ []) tt (plain (λ _. i32)) yes, (stay-none (λ _. usize) yes, (stay-none (λ _. Row) yes, (stay-none (λ _. usize) yes, tt)))))
+stayed = (stay-none-slice (0 ∷ []) tt (plain (λ _. i32)) yes, (stay-none-slice (1 ∷ []) tt (plain (λ _. i32)) yes, (stay-none (λ _. usize) yes, (stay-none (λ _. Row) yes, (stay-none (λ _. usize) yes, (gave-slice (2 ∷ []) tt (plain (λ _. u64)), tt))))))
 
 module _ {M : Type 1} (𝓤 : URA M) (H : Heap 𝓤) (A : Atoms 𝓤) (mem : Memory → SProp 𝓤) (run : Routine → Fun 𝓤) where
   -- the contracts that the proof cites
@@ -118,21 +119,24 @@ module _ {M : Type 1} (𝓤 : URA M) (H : Heap 𝓤) (A : Atoms 𝓤) (mem : Mem
   with-said : (l : List Pair) (t : Run) (r : RunArray) → ent 𝓤 (ensured 𝓤 H A making.ended (making.clauses 𝓤 H A mem run) tt (l, (t, tt)) tt r) (fact 𝓤 (r ≡ withSlots l t))
   with-said l t r = exE 𝓤 _ (λ ws. snd∗ 𝓤 (sem 𝓤 H A (lasts making.ended tt (l, (t, tt)) ws)) (fact 𝓤 (r ≡ withSlots l t)))
 
-module _ {M : Type 1} (𝓤 : URA M) (H : Heap 𝓤) (A : Atoms 𝓤) (W : Given 𝓤 H A) (mem : Memory → SProp 𝓤) (run : Routine → Fun 𝓤) (κp κq : Lft) (πp πq : Share) (p q : RefT (List ℤ)) (v : ℕ) (ys : List Pair) (len : ℕ) where
+module _ {M : Type 1} (𝓤 : URA M) (H : Heap 𝓤) (A : Atoms 𝓤) (W : Given 𝓤 H A) (mem : Memory → SProp 𝓤) (run : Routine → Fun 𝓤) (κp κq κb : Lft) (πp πq πb : Share) (p q : RefT (List ℤ)) (v : ℕ) (ys : List Pair) (len : ℕ) (y : RefT (List ℕ)) where
   abbrev ps : Val
   ps = sliceVal (p .ptr) (length (p .now))
 
   abbrev qs : Val
   qs = sliceVal (q .ptr) (length (q .now))
 
-  abbrev a : RefT (List ℤ) × (RefT (List ℤ) × (ℕ × (List Pair × (ℕ × Unit {0}))))
-  a = (p, (q, (v, (ys, (len, tt)))))
+  abbrev bv : Val
+  bv = sliceVal (y .ptr) (length (y .now))
 
-  abbrev vals : List Val × (List Val × (List Val × (List Val × (List Val × Unit {0}))))
-  vals = (ps ∷ [], (qs ∷ [], (vint w64 v ∷ [], (av ys, (vint w64 len ∷ [], tt)))))
+  abbrev a : RefT (List ℤ) × (RefT (List ℤ) × (ℕ × (List Pair × (ℕ × (RefT (List ℕ) × Unit {0})))))
+  a = (p, (q, (v, (ys, (len, (y, tt))))))
+
+  abbrev vals : List Val × (List Val × (List Val × (List Val × (List Val × (List Val × Unit {0})))))
+  vals = (ps ∷ [], (qs ∷ [], (vint w64 v ∷ [], (av ys, (vint w64 len ∷ [], (bv ∷ [], tt))))))
 
   abbrev Post : Val → SProp 𝓤
-  Post = walkOf 𝓤 H A self.ended stayed (self.clauses 𝓤 H A mem run) .post (((κp, (κq, tt)), (πp, (πq, tt)), tt, a, vals), tt)
+  Post = walkOf 𝓤 H A self.ended stayed (self.clauses 𝓤 H A mem run) .post (((κp, (κq, (κb, tt))), (πp, (πq, (πb, tt))), tt, a, vals), tt)
 
   abbrev Sp : Item 𝓤
   Sp = ‵ (ShrSlice (named 0) κp i32 .own p (ps ∷ []))
@@ -140,12 +144,15 @@ module _ {M : Type 1} (𝓤 : URA M) (H : Heap 𝓤) (A : Atoms 𝓤) (W : Given
   abbrev Sq : Item 𝓤
   Sq = ‵ (ShrSlice (named 1) κq i32 .own q (qs ∷ []))
 
-  -- p and q with their tokens
+  abbrev Sw : Item 𝓤
+  Sw = ‵ (MutSlice (named 2) κb u64 .own y (bv ∷ []))
+
+  -- p, q and the lent words with their tokens
   abbrev Mine : Item 𝓤
-  Mine = (‵ (flft κp πp) ⊛ ‵ (flft κq πq)) ⊛ (Sp ⊛ Sq)
+  Mine = ((‵ (flft κp πp) ⊛ ‵ (flft κq πq)) ⊛ (Sp ⊛ Sq)) ⊛ (‵ (flft κb πb) ⊛ Sw)
 
   abbrev Toks : Lft → Item 𝓤
-  Toks ν = ‵ (flft κp πp) ⊛ ‵ (flft κq πq) ⊛ ‵ (flft ν fullShare) ⊛ ‵ ftrue
+  Toks ν = ‵ (flft κp πp) ⊛ ‵ (flft κq πq) ⊛ ‵ (flft ν fullShare) ⊛ ‵ (flft κb πb) ⊛ ‵ ftrue
 
   -- the slice of the first m slots of the local at (b, 0), under the name γ
   abbrev x : ℕ → ℕ → GName → RefT (List Pair)
@@ -154,14 +161,14 @@ module _ {M : Type 1} (𝓤 : URA M) (H : Heap 𝓤) (A : Atoms 𝓤) (W : Given
   abbrev s : ℕ → ℕ → Val
   s m b = sliceVal (b, 0) (length (front m ys))
 
-  abbrev args : ℕ → ℕ → GName → RefT (List ℤ) × (RefT (List ℤ) × (ℕ × (RefT (List Pair) × Unit {0})))
-  args m b γ = (p, (q, (v, (x m b γ, tt))))
+  abbrev args : ℕ → ℕ → GName → RefT (List ℤ) × (RefT (List ℤ) × (ℕ × (RefT (List Pair) × (RefT (List ℕ) × Unit {0}))))
+  args m b γ = (p, (q, (v, (x m b γ, (y, tt)))))
 
   abbrev to-run : ℕ → Lft → ℕ → GName → LeafRun 𝓤 H A mem run .Ghost
-  to-run m ν b γ = (((κp, (κq, (ν, tt))), (πp, (πq, (fullShare, tt))), tt, args m b γ, (ps ∷ [], (qs ∷ [], (vint w64 v ∷ [], (s m b ∷ [], tt))))), tt)
+  to-run m ν b γ = (((κp, (κq, (ν, (κb, tt)))), (πp, (πq, (fullShare, (πb, tt)))), tt, args m b γ, (ps ∷ [], (qs ∷ [], (vint w64 v ∷ [], (s m b ∷ [], (bv ∷ [], tt)))))), tt)
 
-  abbrev Told : Run → ℕ → List Pair → Type 0
-  Told r m zs = (r ≡ runAnswer (now p) (now q) v (length (front m ys))) × (zs ≡ runSlots (now p) (now q) v (front m ys))
+  abbrev Told : Run → ℕ → List Pair → List ℕ → Type 0
+  Told r m zs bs = (r ≡ runAnswer (now p) (now q) v (length (front m ys)) (length (now y))) × (zs ≡ runSlots (now p) (now q) v (front m ys) (length (now y))) × (bs ≡ runBits (now p) (now q) v (length (front m ys)) (now y))
 
   abbrev to-lent : Lent 𝓤 H A mem run .Ghost
   to-lent = ((tt, tt, tt, (len, tt), (vint w64 len ∷ [], tt)), tt)
@@ -176,93 +183,104 @@ module _ {M : Type 1} (𝓤 : URA M) (H : Heap 𝓤) (A : Atoms 𝓤) (W : Given
   goes-with l t l-is t-is =
       qed W [] ∵ nothing ! $ owned ! R.the-row (Is R.the-row) (LL.makes R.the-type R′.the-plain 𝓤 H A) t _ t-is $ fjoin ! $ owned ! Row (Is Row) row-makes l _ l-is $ fjoin ! $ nothing ! $ join ! $ frame ! $ done !
 
-  module _ (p-is : Is (ShrSlice (named 0) κp i32) p (ps ∷ [])) (q-is : Is (ShrSlice (named 1) κq i32) q (qs ∷ [])) (v-fits : v < 2 ^ 64) (y-is : Is Row ys (av ys)) (len-fits : len < 2 ^ 64) where
+  module _ (p-is : Is (ShrSlice (named 0) κp i32) p (ps ∷ [])) (q-is : Is (ShrSlice (named 1) κq i32) q (qs ∷ [])) (v-fits : v < 2 ^ 64) (ys-is : Is Row ys (av ys)) (len-fits : len < 2 ^ 64) (roomb : Room u64 (length (now y))) where
     long : length ys ≡ 256
-    long = y-is .1 .0 .1
+    long = ys-is .1 .0 .1
 
     goes-lent : ent 𝓤 (emp 𝓤) (Lent 𝓤 H A mem run .pre to-lent)
     goes-lent = qed W [] ∵ nothing ! $ owned ! usize (Is usize) (uint-makes 𝓤 H A W w64) len _ (refl, len-fits) $ fjoin ! $ nothing ! $ join ! $ frame ! $ done !
 
-    asked : (m : ℕ) (ν : Lft) (b : ℕ) (γ : GName) → ent 𝓤 (onEntry 𝓤 H A leaf-run.signature (κp, (κq, (ν, tt))) (πp, (πq, (fullShare, tt))) (args m b γ) (to-run m ν b γ .0 .4)) (LeafRun 𝓤 H A mem run .pre (to-run m ν b γ))
+    asked : (m : ℕ) (ν : Lft) (b : ℕ) (γ : GName) → ent 𝓤 (onEntry 𝓤 H A leaf-run.signature (κp, (κq, (ν, (κb, tt)))) (πp, (πq, (fullShare, (πb, tt)))) (args m b γ) (to-run m ν b γ .0 .4)) (LeafRun 𝓤 H A mem run .pre (to-run m ν b γ))
     asked m ν b γ =
-        qed W (Toks ν ∷ ‵ (owns (ShrSlice (named 0) κp i32 ∷ ShrSlice (named 1) κq i32 ∷ usize ∷ MutSlice (named 2) ν P ∷ []) (args m b γ) (to-run m ν b γ .0 .4)) ∷ []) ∵ join ! $ frame ! $ done !
+        qed W (Toks ν ∷ ‵ (owns (ShrSlice (named 0) κp i32 ∷ ShrSlice (named 1) κq i32 ∷ usize ∷ MutSlice (named 2) ν P ∷ MutSlice (named 3) κb u64 ∷ []) (args m b γ) (to-run m ν b γ .0 .4)) ∷ []) ∵ join ! $ frame ! $ done !
 
     goes-run : (m : ℕ) (ν : Lft) (b : ℕ) (γ : GName) → ent 𝓤 (⋆ 𝓤 H A (Mine ∷ ‵ (flft ν fullShare) ∷ ‵ (MutSlice (named 2) ν P .own (x m b γ) (s m b ∷ [])) ∷ []))
         (sep 𝓤 (LeafRun 𝓤 H A mem run .pre (to-run m ν b γ)) (mean 𝓤 H A (Sp ⊛ Sq)))
     goes-run m ν b γ =
         qed W (Mine ∷ ‵ (flft ν fullShare) ∷ ‵ (MutSlice (named 2) ν P .own (x m b γ) (s m b ∷ [])) ∷ []) ∵
-        split ! $ move ! (1 ∷ []) $ split ! $ use1 W (Sp ⊛ Sp) (shr-slice-copy 𝓤 H A W (named 0) κp i32 .twice p (ps ∷ [])) $ split ! $ move ! (2 ∷ []) $ use1 W (Sq ⊛ Sq) (shr-slice-copy 𝓤 H A W (named 1) κq i32 .twice q (qs ∷ [])) $ split ! $
-        -- [q; q; p; p; two tokens; the token of ν; the slots]
-        nothing ! $ move ! (7 ∷ 0 ∷ []) $ fjoin ! $ owned ! usize (Is usize) (uint-makes 𝓤 H A W w64) v _ (refl, v-fits) $ fjoin ! $ move ! (1 ∷ 0 ∷ []) $ fjoin ! $ move ! (2 ∷ 0 ∷ []) $ fjoin ! $
-        -- [what is passed; q; p; two tokens; the token of ν]
-        nothing ! $ move ! (5 ∷ 0 ∷ []) $ join ! $ move ! (4 ∷ []) $ split ! $ move ! (1 ∷ 2 ∷ []) $ join ! $ move ! (1 ∷ 0 ∷ []) $ join ! $
+        split ! $ move ! (1 ∷ []) $ split ! $ move ! (2 ∷ []) $ split ! $ move ! (1 ∷ []) $ split ! $
+        -- [p; q; two tokens; the words' token; the words; the token of ν; the slots]
+        use1 W (Sp ⊛ Sp) (shr-slice-copy 𝓤 H A W (named 0) κp i32 .twice p (ps ∷ [])) $ split ! $ move ! (2 ∷ []) $ use1 W (Sq ⊛ Sq) (shr-slice-copy 𝓤 H A W (named 1) κq i32 .twice q (qs ∷ [])) $ split ! $
+        -- [q; q; p; p; two tokens; the words' token; the words; the token of ν; the slots]
+        nothing ! $ move ! (7 ∷ 0 ∷ []) $ fjoin ! $ move ! (8 ∷ 0 ∷ []) $ fjoin ! $ owned ! usize (Is usize) (uint-makes 𝓤 H A W w64) v _ (refl, v-fits) $ fjoin ! $ move ! (1 ∷ 0 ∷ []) $ fjoin ! $ move ! (2 ∷ 0 ∷ []) $ fjoin ! $
+        -- [what is passed; q; p; two tokens; the words' token; the token of ν]
+        nothing ! $ move ! (5 ∷ 0 ∷ []) $ join ! $ move ! (5 ∷ 0 ∷ []) $ join ! $ move ! (4 ∷ []) $ split ! $ move ! (1 ∷ 2 ∷ []) $ join ! $ move ! (1 ∷ 0 ∷ []) $ join ! $
         use2 W (raw (LeafRun 𝓤 H A mem run .pre (to-run m ν b γ))) (asked m ν b γ) $ frame ! $ move ! (1 ∷ 0 ∷ []) $ done !
 
-    exits : (r : RunArray) → Is N.the-row r (nval r ∷ []) → r ≡ runArray (now p) (now q) v ys len → ent 𝓤 (⋆ 𝓤 H A (‵ (flft κp πp) ∷ ‵ (flft κq πq) ∷ (Sp ⊛ Sq) ∷ [])) (Post (nval r))
-    exits r is e =
-        qed W (‵ (flft κp πp) ∷ ‵ (flft κq πq) ∷ (Sp ⊛ Sq) ∷ []) ∵ suffices ! _ (ends-at 𝓤 H A self.ended stayed (self.clauses 𝓤 H A mem run) W (((κp, (κq, tt)), (πp, (πq, tt)), tt, a, vals), tt) (nval r) r (tt, (tt, (tt, (tt, (tt, tt))))) (tt, (tt, (tt, (tt, (tt, tt)))))) $ says ! e $
-        nothing ! $ move ! (2 ∷ 0 ∷ []) $ join ! $ move ! (1 ∷ 0 ∷ []) $ join ! $ frame ! $
-        nothing ! $ owned ! usize (Is usize) (uint-makes 𝓤 H A W w64) len _ (refl, len-fits) $ fjoin ! $ owned ! Row (Is Row) row-makes ys _ y-is $ fjoin ! $ owned ! usize (Is usize) (uint-makes 𝓤 H A W w64) v _ (refl, v-fits) $ fjoin ! $
+    exits : (r : RunArray) → Is N.the-row r (nval r ∷ []) → (bs : List ℕ) → length bs ≡ length (now y) → (r ≡ runArray (now p) (now q) v ys len (length (now y))) × (bs ≡ runBits (now p) (now q) v (length (front (lentOf 256 len) ys)) (now y))
+        → ent 𝓤 (⋆ 𝓤 H A (‵ (flft κp πp) ∷ ‵ (flft κq πq) ∷ (‵ (flft κb πb) ⊛ ‵ ftrue) ∷ (Sp ⊛ Sq) ∷ ‵ (finally u64 (y .name) bs) ∷ [])) (Post (nval r))
+    exits r is bs same e =
+        qed W (‵ (flft κp πp) ∷ ‵ (flft κq πq) ∷ (‵ (flft κb πb) ⊛ ‵ ftrue) ∷ (Sp ⊛ Sq) ∷ ‵ (finally u64 (y .name) bs) ∷ []) ∵
+        suffices ! _ (ends-at 𝓤 H A self.ended stayed (self.clauses 𝓤 H A mem run) W (((κp, (κq, (κb, tt))), (πp, (πq, (πb, tt))), tt, a, vals), tt) (nval r) r (tt, (tt, (tt, (tt, (tt, (bs, tt)))))) (tt, (tt, (tt, (tt, (tt, (same, tt))))))) $ says ! e $
+        move ! (1 ∷ 2 ∷ []) $ join ! $ move ! (1 ∷ 0 ∷ []) $ join ! $ frame ! $
+        -- [p and q; the last words]
+        nothing ! $ move ! (2 ∷ 0 ∷ []) $ fjoin ! $ owned ! usize (Is usize) (uint-makes 𝓤 H A W w64) len _ (refl, len-fits) $ fjoin ! $ owned ! Row (Is Row) row-makes ys _ ys-is $ fjoin ! $ owned ! usize (Is usize) (uint-makes 𝓤 H A W w64) v _ (refl, v-fits) $ fjoin ! $
         move ! (1 ∷ []) $ split ! $ move ! (1 ∷ 2 ∷ []) $ fjoin ! $ move ! (1 ∷ 0 ∷ []) $ fjoin ! $ owned ! N.the-row (Is N.the-row) (LL.makes N.the-type N′.the-plain 𝓤 H A) r _ is $ move ! (1 ∷ 0 ∷ []) $ done !
 
     module _ (C : Calls 𝓤 H) (Λ : Loops 𝓤 H) (fm : FmC 𝓤 H (W .laws) C) (known-lent : Triple 𝓤 (C #runs·lent-of) (Lent 𝓤 H A mem run)) (known-run : Triple 𝓤 (C #runs·leaf-run) (LeafRun 𝓤 H A mem run)) (known-with : Triple 𝓤 (C #runs·with-slots) (With 𝓤 H A mem run)) where
-      walk : ent 𝓤 (onEntry 𝓤 H A self.signature (κp, (κq, tt)) (πp, (πq, tt)) a vals) (WpFn 𝓤 H C Λ code.function (ps ∷ qs ∷ vint w64 v ∷ array-val ys ∷ vint w64 len ∷ []) Post)
+      walk : ent 𝓤 (onEntry 𝓤 H A self.signature (κp, (κq, (κb, tt))) (πp, (πq, (πb, tt))) a vals) (WpFn 𝓤 H C Λ code.function (ps ∷ qs ∷ vint w64 v ∷ array-val ys ∷ vint w64 len ∷ bv ∷ []) Post)
       walk =
-          qed W ((‵ (flft κp πp) ⊛ ‵ (flft κq πq) ⊛ ‵ ftrue) ∷ ‵ (owns (ShrSlice (named 0) κp i32 ∷ ShrSlice (named 1) κq i32 ∷ usize ∷ Row ∷ usize ∷ []) a vals) ∷ []) ∵
-          move ! (1 ∷ []) $ fsplit ! $ move ! (1 ∷ []) $ fsplit ! $ move ! (1 ∷ []) $ fsplit ! $ drop ! $ fsplit ! $ move ! (1 ∷ []) $ drop ! $
-          -- [what slots owns; q; p; the tokens]
-          move ! (3 ∷ []) $ split ! $ move ! (1 ∷ []) $ split ! $ move ! (1 ∷ []) $ drop ! $ move ! (1 ∷ 0 ∷ []) $ join ! $ move ! (3 ∷ 2 ∷ []) $ join ! $ move ! (1 ∷ 0 ∷ []) $ join ! $
-          enter ! C Λ code.function (ps ∷ qs ∷ vint w64 v ∷ array-val ys ∷ vint w64 len ∷ []) _ $
-          alloc1 ! (λ l₀. alloc1 ! (λ l₁. alloc1 ! (λ l₂. alloc1 ! (λ l₃. alloc1 ! (λ l₄. alloc1 ! (λ l₅. alloc1 ! (λ l₆. alloc1 ! (λ l₇. alloc1 ! (λ l₈. alloc1 ! (λ l₉. alloc1 ! (λ l₁₀. alloc1 ! (λ l₁₁. alloc0 ! $ params1 ! $
-          pass1 ! (init ! 20 refl (shr-slice-lawful 𝓤 H A W (named 0) κp i32 .typed p _ p-is .0)) $ pass1 ! (init ! 18 refl (shr-slice-lawful 𝓤 H A W (named 1) κq i32 .typed q _ q-is .0)) $ pass1 ! (init ! 16 refl (tt, record { fits = v-fits })) $
-          pass1 ! (init ! 14 refl (array-lawful 𝓤 H A W P (LL.lawful T.the-type T′.the-laws 𝓤 H A W) 256 .typed ys _ y-is .0)) $ pass1 ! (init ! 12 refl (tt, record { fits = len-fits })) $ pass0 ! $
-          -- [_11; …; _0; …; p and q with their tokens; what slots owns]
-          assigns ! (of-opd ! (load ! (from ! (stop !)) (look ! 14 refl))) (from ! (stop !)) (init ! 10 refl (array-lawful 𝓤 H A W P (LL.lawful T.the-type T′.the-laws 𝓤 H A W) 256 .typed ys _ y-is .0)) $
+          qed W ((‵ (flft κp πp) ⊛ ‵ (flft κq πq) ⊛ ‵ (flft κb πb) ⊛ ‵ ftrue) ∷ ‵ (owns (ShrSlice (named 0) κp i32 ∷ ShrSlice (named 1) κq i32 ∷ usize ∷ Row ∷ usize ∷ MutSlice (named 2) κb u64 ∷ []) a vals) ∷ []) ∵
+          move ! (1 ∷ []) $ fsplit ! $ move ! (1 ∷ []) $ fsplit ! $ move ! (1 ∷ []) $ fsplit ! $ drop ! $ fsplit ! $ move ! (1 ∷ []) $ fsplit ! $ drop ! $ fsplit ! $ move ! (1 ∷ []) $ drop ! $
+          -- [the words; what slots owns; q; p; the tokens]
+          move ! (4 ∷ []) $ split ! $ move ! (1 ∷ []) $ split ! $ move ! (1 ∷ []) $ split ! $ move ! (1 ∷ []) $ drop ! $
+          -- [the words' token; q's; p's; the words; what slots owns; q; p]
+          move ! (0 ∷ 3 ∷ []) $ join ! $ move ! (5 ∷ 4 ∷ []) $ join ! $ move ! (3 ∷ 2 ∷ []) $ join ! $ join ! $ join ! $
+          enter ! C Λ code.function (ps ∷ qs ∷ vint w64 v ∷ array-val ys ∷ vint w64 len ∷ bv ∷ []) _ $
+          alloc1 ! (λ l₀. alloc1 ! (λ l₁. alloc1 ! (λ l₂. alloc1 ! (λ l₃. alloc1 ! (λ l₄. alloc1 ! (λ l₅. alloc1 ! (λ l₆. alloc1 ! (λ l₇. alloc1 ! (λ l₈. alloc1 ! (λ l₉. alloc1 ! (λ l₁₀. alloc1 ! (λ l₁₁. alloc1 ! (λ l₁₂. alloc1 ! (λ l₁₃. alloc1 ! (λ l₁₄. alloc0 ! $ params1 ! $
+          pass1 ! (init ! 26 refl (shr-slice-lawful 𝓤 H A W (named 0) κp i32 .typed p _ p-is .0)) $ pass1 ! (init ! 24 refl (shr-slice-lawful 𝓤 H A W (named 1) κq i32 .typed q _ q-is .0)) $ pass1 ! (init ! 22 refl (tt, record { fits = v-fits })) $
+          pass1 ! (init ! 20 refl (array-lawful 𝓤 H A W P (LL.lawful T.the-type T′.the-laws 𝓤 H A W) 256 .typed ys _ ys-is .0)) $ pass1 ! (init ! 18 refl (tt, record { fits = len-fits })) $ pass1 ! (init ! 16 refl (tt, (tt, (record { fits = roomb .0 }, tt)))) $ pass0 ! $
+          -- [_14; …; _0; …; p, q and the words with their tokens; what slots owns]
+          assigns ! (of-opd ! (load ! (from ! (stop !)) (look ! 20 refl))) (from ! (stop !)) (init ! 14 refl (array-lawful 𝓤 H A W P (LL.lawful T.the-type T′.the-laws 𝓤 H A W) 256 .typed ys _ ys-is .0)) $
           use0 W (raw (Lent 𝓤 H A mem run .pre to-lent)) goes-lent $
-          calls-at ! fm (Lent 𝓤 H A mem run) known-lent to-lent (and-then ! (load ! (from ! (stop !)) (look ! 13 refl)) (no-more !)) (λ u₀.
+          calls-at ! fm (Lent 𝓤 H A mem run) known-lent to-lent (and-then ! (load ! (from ! (stop !)) (look ! 19 refl)) (no-more !)) (λ u₀.
           use1 W (later (some (λ (r : ℕ). (‵ ftrue ⊛ ‵ (usize .own r (u₀ ∷ []))) ⊛ raw (ensured 𝓤 H A lending.ended (lending.clauses 𝓤 H A mem run) tt (len, tt) tt r)))) (id⊢ 𝓤 _) $ await ! tt $ pick ! (λ m.
           split ! $ move ! (1 ∷ []) $ use1 W (raw (fact 𝓤 (m ≡ lentOf 256 len))) (lent-said 𝓤 H A mem run len m) $ heard ! (m ≡ lentOf 256 len) (λ m-is. split ! $ drop ! $
           facts ! usize (Is usize) (shows 𝓤 H A usize) m (u₀ ∷ []) (λ is₀.
-          land ! (from ! (stop !)) (init ! 8 refl (uint-lawful 𝓤 H A W w64 .typed m _ is₀ .0)) $ rewrite ! 8 (λ (w : Val). ‵ (fat fullShare word l₇ 0 w)) (ap only (is₀ .0)) refl $
-          assigns ! (addr ! (from ! (stop !))) (from ! (stop !)) (init ! 4 refl (tt, tt)) $
-          assigns ! (agg ! (and-then ! (load ! (from ! (stop !)) (look ! 4 refl)) (and-then ! (load ! (from ! (stop !)) (look ! 8 refl)) (no-more !)))) (from ! (stop !)) (init ! 2 refl (tt, (tt, (record { fits = is₀ .1 }, tt)))) $
-          rewrite ! 2 (λ (k : ℕ). ‵ (fat fullShare slice l₁₀ 0 (sliceVal (l₆, 0) k))) (sym (front-long 256 len m m-is ys long)) refl $
+          land ! (from ! (stop !)) (init ! 12 refl (uint-lawful 𝓤 H A W w64 .typed m _ is₀ .0)) $ rewrite ! 12 (λ (w : Val). ‵ (fat fullShare word l₈ 0 w)) (ap only (is₀ .0)) refl $
+          assigns ! (addr ! (from ! (stop !))) (from ! (stop !)) (init ! 8 refl (tt, tt)) $
+          assigns ! (agg ! (and-then ! (load ! (from ! (stop !)) (look ! 8 refl)) (and-then ! (load ! (from ! (stop !)) (look ! 12 refl)) (no-more !)))) (from ! (stop !)) (init ! 6 refl (tt, (tt, (record { fits = is₀ .1 }, tt)))) $
+          rewrite ! 6 (λ (k : ℕ). ‵ (fat fullShare slice l₁₁ 0 (sliceVal (l₇, 0) k))) (sym (front-long 256 len m m-is ys long)) refl $
+          assigns ! (addr ! (from ! (fld ! refl (hop ! (look-in ! 16 (sub ! 0 refl (whole !))) (stop !))))) (from ! (stop !)) (init ! 4 refl (tt, tt)) $
+          assigns ! (agg ! (and-then ! (load ! (from ! (stop !)) (look ! 4 refl)) (and-then ! (load ! (from ! (fld ! refl (stop !))) (look-in ! 16 (sub ! 1 refl (whole !)))) (no-more !)))) (from ! (stop !)) (init ! 2 refl (tt, (tt, (record { fits = roomb .0 }, tt)))) $
           -- the first m slots are lent as a slice, for a lifetime made here
-          move ! (10 ∷ 25 ∷ []) $ use2 W (‵ (row P fullShare ys l₆ 0)) (row-out 𝓤 H A W P 256 tt ys (array-val ys) l₆) $
-          use1 W (‵ (row P fullShare (front m ys) l₆ 0) ⊛ ‵ (row P fullShare (back m ys) l₆ (place width 0 m))) (row-cut 𝓤 H A W P m ys l₆ 0) $ split ! $ use1 W (‵ (cells (memOf P) (front m ys) l₆ 0)) (whole-in 𝓤 H A W P (front m ys) l₆ 0) $
-          -- [the first; the others; _11; …; what frees _6; …; p and q with their tokens]
+          move ! (14 ∷ 31 ∷ []) $ use2 W (‵ (row P fullShare ys l₇ 0)) (row-out 𝓤 H A W P 256 tt ys (array-val ys) l₇) $
+          use1 W (‵ (row P fullShare (front m ys) l₇ 0) ⊛ ‵ (row P fullShare (back m ys) l₇ (place width 0 m))) (row-cut 𝓤 H A W P m ys l₇ 0) $ split ! $ use1 W (‵ (cells (memOf P) (front m ys) l₇ 0)) (whole-in 𝓤 H A W P (front m ys) l₇ 0) $
+          -- [the first; the others; _14; …; what frees _7; …; p, q and the words with their tokens]
           lft-new ! tt (λ ν. move ! (1 ∷ []) $
-          use1 W (later (some (λ (γ : GName). ‵ (MutSlice (named 2) (ν ∷ []) P .own (x m l₆ γ) (s m l₆ ∷ [])) ⊛ ‵ (flent (ν ∷ []) (Held P (length (front m ys)) l₆ 0 γ))))) (lends-slice 𝓤 H A W P (named 2) (ν ∷ []) (front m ys) l₆ 0 (room m m-is)) $ await ! tt $ pick ! (λ γ. split ! $
-          move ! (27 ∷ 2 ∷ 0 ∷ []) $ use3 W (raw (LeafRun 𝓤 H A mem run .pre (to-run m (ν ∷ []) l₆ γ)) ⊛ (Sp ⊛ Sq)) (goes-run m (ν ∷ []) l₆ γ) $ split ! $
-          -- [pre; p and q; the lender's part; the others; _11; …]
-          calls-at ! fm (LeafRun 𝓤 H A mem run) known-run (to-run m (ν ∷ []) l₆ γ) (and-then ! (load ! (from ! (stop !)) (look ! 23 refl)) (and-then ! (load ! (from ! (stop !)) (look ! 21 refl)) (and-then ! (load ! (from ! (stop !)) (look ! 19 refl)) (and-then ! (load ! (from ! (stop !)) (look ! 6 refl)) (no-more !))))) (λ u.
-          use1 W (later (some (λ (r : Run). (Toks (ν ∷ []) ⊛ ‵ (R.the-row .own r (u ∷ []))) ⊛ raw (ensured 𝓤 H A leaf-run.ended (leaf-run.clauses 𝓤 H A mem run) (κp, (κq, (ν ∷ [], tt))) (args m l₆ γ) tt r)))) (id⊢ 𝓤 _) $ await ! tt $ pick ! (λ r.
-          split ! $ move ! (1 ∷ []) $ use1 W (some (λ (zs : Unit {0} × (Unit {0} × (Unit {0} × (List Pair × Unit {0})))). ‵ (lasts leaf-run.ended (κp, (κq, (ν ∷ [], tt))) (args m l₆ γ) zs) ⊛ raw (fact 𝓤 (Told r m (zs .1 .1 .1 .0))))) (id⊢ 𝓤 _) $ pick ! (λ zs.
-          split ! $ move ! (1 ∷ []) $ heard ! (Told r m (zs .1 .1 .1 .0)) (λ e. fsplit ! $ drop ! $ fsplit ! $ drop ! $ fsplit ! $ drop ! $ fsplit ! $ fsplit ! $ move ! (1 ∷ []) $ feqL ! (λ l.
-          -- [the last list; …; the tokens and the result; p and q; the lender's part; the others; _11; …]
-          move ! (2 ∷ []) $ split ! $ move ! (1 ∷ []) $ facts ! R.the-row (Is R.the-row) (shows 𝓤 H A R.the-row) r (u ∷ []) (λ is.
-          land ! (from ! (stop !)) (init ! 12 refl (LL.lawful R.the-type R′.the-laws 𝓤 H A W .typed r _ is .0)) $ rewrite ! 12 (λ (w : Val). ‵ (fat fullShare R′.mir l₈ 0 w)) (ap only (LL.tells R.the-type R′.the-laws r _ is)) refl $
-          split ! $ move ! (1 ∷ []) $ split ! $ move ! (1 ∷ []) $ split ! $ lft-end ! tt $ move ! (0 ∷ 7 ∷ 4 ∷ []) $
-          use3 W (later (‵ (Arr (memOf P) (length (front m ys)) .lies (zs .1 .1 .1 .0) l₆ 0))) (slice-back 𝓤 H A W P (ν ∷ []) γ (zs .1 .1 .1 .0) (length (front m ys)) l₆ 0) $ await ! tt $ fsplit ! $ drop ! $
-          use1 W (‵ (row P fullShare (zs .1 .1 .1 .0) l₆ 0)) (whole-out 𝓤 H A W P (zs .1 .1 .1 .0) l₆ 0) $ move ! (0 ∷ 6 ∷ []) $
-          -- [the first, as they are now; the others; true; q's token; p's; …; p and q; _11; …]
-          rewrite ! 1 (λ (k : ℕ). ‵ (row P fullShare (back m ys) l₆ (place width 0 k))) (sym (l ∙ front-long 256 len m m-is ys long)) refl $
-          use2 W (‵ (row P fullShare (zs .1 .1 .1 .0 ++ back m ys) l₆ 0)) (row-paste 𝓤 H A W P (zs .1 .1 .1 .0) (back m ys) l₆ 0) $
-          use1 W (some (λ (w : Val). ‵ (fat fullShare (tyArray T′.mir 256) l₆ 0 w) ⊛ ‵ (Row .own (zs .1 .1 .1 .0 ++ back m ys) (w ∷ [])))) (row-in 𝓤 H A W P 256 (zs .1 .1 .1 .0 ++ back m ys) l₆ (array-long 256 len m m-is ys long (zs .1 .1 .1 .0) l)) $ pick ! (λ w. split ! $ move ! (1 ∷ []) $
+          use1 W (later (some (λ (γ : GName). ‵ (MutSlice (named 2) (ν ∷ []) P .own (x m l₇ γ) (s m l₇ ∷ [])) ⊛ ‵ (flent (ν ∷ []) (Held P (length (front m ys)) l₇ 0 γ))))) (lends-slice 𝓤 H A W P (named 2) (ν ∷ []) (front m ys) l₇ 0 (room m m-is)) $ await ! tt $ pick ! (λ γ. split ! $
+          move ! (33 ∷ 2 ∷ 0 ∷ []) $ use3 W (raw (LeafRun 𝓤 H A mem run .pre (to-run m (ν ∷ []) l₇ γ)) ⊛ (Sp ⊛ Sq)) (goes-run m (ν ∷ []) l₇ γ) $ split ! $
+          -- [pre; p and q; the lender's part; the others; _14; …]
+          calls-at ! fm (LeafRun 𝓤 H A mem run) known-run (to-run m (ν ∷ []) l₇ γ) (and-then ! (load ! (from ! (stop !)) (look ! 29 refl)) (and-then ! (load ! (from ! (stop !)) (look ! 27 refl)) (and-then ! (load ! (from ! (stop !)) (look ! 25 refl)) (and-then ! (load ! (from ! (stop !)) (look ! 10 refl)) (and-then ! (load ! (from ! (stop !)) (look ! 6 refl)) (no-more !)))))) (λ u.
+          use1 W (later (some (λ (r : Run). (Toks (ν ∷ []) ⊛ ‵ (R.the-row .own r (u ∷ []))) ⊛ raw (ensured 𝓤 H A leaf-run.ended (leaf-run.clauses 𝓤 H A mem run) (κp, (κq, (ν ∷ [], (κb, tt)))) (args m l₇ γ) tt r)))) (id⊢ 𝓤 _) $ await ! tt $ pick ! (λ r.
+          split ! $ move ! (1 ∷ []) $ use1 W (some (λ (zs : Unit {0} × (Unit {0} × (Unit {0} × (List Pair × (List ℕ × Unit {0}))))). ‵ (lasts leaf-run.ended (κp, (κq, (ν ∷ [], (κb, tt)))) (args m l₇ γ) zs) ⊛ raw (fact 𝓤 (Told r m (zs .1 .1 .1 .0) (zs .1 .1 .1 .1 .0))))) (id⊢ 𝓤 _) $ pick ! (λ zs.
+          split ! $ move ! (1 ∷ []) $ heard ! (Told r m (zs .1 .1 .1 .0) (zs .1 .1 .1 .1 .0)) (λ e. fsplit ! $ drop ! $ fsplit ! $ drop ! $ fsplit ! $ drop ! $ fsplit ! $ fsplit ! $ move ! (1 ∷ []) $ feqL ! (λ l.
+          -- [the last list; the last words; the tokens and the result; p and q; …]
+          move ! (1 ∷ []) $ fsplit ! $ fsplit ! $ move ! (1 ∷ []) $ feqL ! (λ l′.
+          -- [the last words; …; the last list; the tokens and the result; p and q; the lender's part; the others; _14; …]
+          move ! (3 ∷ []) $ split ! $ move ! (1 ∷ []) $ facts ! R.the-row (Is R.the-row) (shows 𝓤 H A R.the-row) r (u ∷ []) (λ is.
+          -- [the tokens; the last words; …; the last list; p and q; the lender's part; the others; _14; …]
+          land ! (from ! (stop !)) (init ! 17 refl (LL.lawful R.the-type R′.the-laws 𝓤 H A W .typed r _ is .0)) $ rewrite ! 17 (λ (w : Val). ‵ (fat fullShare R′.mir l₉ 0 w)) (ap only (LL.tells R.the-type R′.the-laws r _ is)) refl $
+          split ! $ move ! (1 ∷ []) $ split ! $ move ! (1 ∷ []) $ split ! $ lft-end ! tt $ move ! (0 ∷ 8 ∷ 6 ∷ []) $
+          use3 W (later (‵ (Arr (memOf P) (length (front m ys)) .lies (zs .1 .1 .1 .0) l₇ 0))) (slice-back 𝓤 H A W P (ν ∷ []) γ (zs .1 .1 .1 .0) (length (front m ys)) l₇ 0) $ await ! tt $ fsplit ! $ drop ! $
+          use1 W (‵ (row P fullShare (zs .1 .1 .1 .0) l₇ 0)) (whole-out 𝓤 H A W P (zs .1 .1 .1 .0) l₇ 0) $ move ! (0 ∷ 7 ∷ []) $
+          -- [the first, as they are now; the others; the words' token; q's; p's; the last words; …; p and q; _14; …]
+          rewrite ! 1 (λ (k : ℕ). ‵ (row P fullShare (back m ys) l₇ (place width 0 k))) (sym (l ∙ front-long 256 len m m-is ys long)) refl $
+          use2 W (‵ (row P fullShare (zs .1 .1 .1 .0 ++ back m ys) l₇ 0)) (row-paste 𝓤 H A W P (zs .1 .1 .1 .0) (back m ys) l₇ 0) $
+          use1 W (some (λ (w : Val). ‵ (fat fullShare (tyArray T′.mir 256) l₇ 0 w) ⊛ ‵ (Row .own (zs .1 .1 .1 .0 ++ back m ys) (w ∷ [])))) (row-in 𝓤 H A W P 256 (zs .1 .1 .1 .0 ++ back m ys) l₇ (array-long 256 len m m-is ys long (zs .1 .1 .1 .0) l)) $ pick ! (λ w. split ! $ move ! (1 ∷ []) $
           facts ! Row (Is Row) (shows 𝓤 H A Row) (zs .1 .1 .1 .0 ++ back m ys) (w ∷ []) (λ ris.
-          rewrite ! 0 (λ (t : Val). ‵ (fat fullShare (tyArray T′.mir 256) l₆ 0 t)) (ap only (array-tells P pv (LL.tells T.the-type T′.the-laws) 256 (zs .1 .1 .1 .0 ++ back m ys) _ ris)) refl $
-          -- [_6; true; q's token; p's; …; p and q; _11; …; what frees _6; …; room for _0; …]
-          assigns ! (of-opd ! (load ! (from ! (stop !)) (look ! 0 refl))) (from ! (stop !)) (init ! 6 refl (array-lawful 𝓤 H A W P (LL.lawful T.the-type T′.the-laws 𝓤 H A W) 256 .typed (zs .1 .1 .1 .0 ++ back m ys) _ (told (zs .1 .1 .1 .0 ++ back m ys) w ris) .0)) $
+          rewrite ! 0 (λ (t : Val). ‵ (fat fullShare (tyArray T′.mir 256) l₇ 0 t)) (ap only (array-tells P pv (LL.tells T.the-type T′.the-laws) 256 (zs .1 .1 .1 .0 ++ back m ys) _ ris)) refl $
+          -- [_7; the words' token; q's; p's; the last words; …; p and q; _14; …; what frees _7; …; room for _0; …]
+          assigns ! (of-opd ! (load ! (from ! (stop !)) (look ! 0 refl))) (from ! (stop !)) (init ! 7 refl (array-lawful 𝓤 H A W P (LL.lawful T.the-type T′.the-laws 𝓤 H A W) 256 .typed (zs .1 .1 .1 .0 ++ back m ys) _ (told (zs .1 .1 .1 .0 ++ back m ys) w ris) .0)) $
           use0 W (raw (With 𝓤 H A mem run .pre (to-with (zs .1 .1 .1 .0 ++ back m ys) r))) (goes-with (zs .1 .1 .1 .0 ++ back m ys) r (told (zs .1 .1 .1 .0 ++ back m ys) w ris) (subst (Is R.the-row r) (LL.tells R.the-type R′.the-laws r _ is) is)) $
-          calls-at ! fm (With 𝓤 H A mem run) known-with (to-with (zs .1 .1 .1 .0 ++ back m ys) r) (and-then ! (load ! (from ! (stop !)) (look ! 7 refl)) (and-then ! (load ! (from ! (stop !)) (look ! 13 refl)) (no-more !))) (λ u₁.
+          calls-at ! fm (With 𝓤 H A mem run) known-with (to-with (zs .1 .1 .1 .0 ++ back m ys) r) (and-then ! (load ! (from ! (stop !)) (look ! 8 refl)) (and-then ! (load ! (from ! (stop !)) (look ! 18 refl)) (no-more !))) (λ u₁.
           use1 W (later (some (λ (t : RunArray). (‵ ftrue ⊛ ‵ (N.the-row .own t (u₁ ∷ []))) ⊛ raw (ensured 𝓤 H A making.ended (making.clauses 𝓤 H A mem run) tt (zs .1 .1 .1 .0 ++ back m ys, (r, tt)) tt t)))) (id⊢ 𝓤 _) $ await ! tt $ pick ! (λ t.
           split ! $ move ! (1 ∷ []) $ use1 W (raw (fact 𝓤 (t ≡ withSlots (zs .1 .1 .1 .0 ++ back m ys) r))) (with-said 𝓤 H A mem run (zs .1 .1 .1 .0 ++ back m ys) r t) $ heard ! (t ≡ withSlots (zs .1 .1 .1 .0 ++ back m ys) r) (λ t-is. split ! $ drop ! $
           facts ! N.the-row (Is N.the-row) (shows 𝓤 H A N.the-row) t (u₁ ∷ []) (λ is₁.
-          land ! (from ! (stop !)) (init ! 27 refl (LL.lawful N.the-type N′.the-laws 𝓤 H A W .typed t _ is₁ .0)) $ rewrite ! 27 (λ (z : Val). ‵ (fat fullShare N′.mir l₀ 0 z)) (ap only (LL.tells N.the-type N′.the-laws t _ is₁)) refl $
-          returns ! (look ! 27 refl) $ forget ! 0 refl $ forget ! 6 refl $ forget ! 8 refl $ forget ! 10 refl $ forget ! 12 refl $ forget ! 14 refl $ forget ! 17 refl $ forget ! 19 refl $ forget ! 21 refl $ forget ! 23 refl $ forget ! 25 refl $ forget ! 27 refl $
-          move ! (27 ∷ 28 ∷ []) $ free1 ! $ move ! (25 ∷ 26 ∷ []) $ free1 ! $ move ! (23 ∷ 24 ∷ []) $ free1 ! $ move ! (21 ∷ 22 ∷ []) $ free1 ! $ move ! (19 ∷ 20 ∷ []) $ free1 ! $ move ! (17 ∷ 18 ∷ []) $ free1 ! $ move ! (0 ∷ 16 ∷ []) $ free1 ! $
-          move ! (13 ∷ 14 ∷ []) $ free1 ! $ move ! (11 ∷ 12 ∷ []) $ free1 ! $ move ! (9 ∷ 10 ∷ []) $ free1 ! $ move ! (7 ∷ 8 ∷ []) $ free1 ! $ move ! (5 ∷ 6 ∷ []) $ free1 ! $ free0 ! $ keep ! (2 ∷ 1 ∷ 4 ∷ []) $
-          by ! (exits t (subst (Is N.the-row t) (LL.tells N.the-type N′.the-laws t _ is₁) is₁) (runs-array-is (now p) (now q) v ys len m r (zs .1 .1 .1 .0) t m-is (e .0) (e .1) t-is))))))))))))))))))))))))))))))))
+          land ! (from ! (stop !)) (init ! 34 refl (LL.lawful N.the-type N′.the-laws 𝓤 H A W .typed t _ is₁ .0)) $ rewrite ! 34 (λ (z : Val). ‵ (fat fullShare N′.mir l₀ 0 z)) (ap only (LL.tells N.the-type N′.the-laws t _ is₁)) refl $
+          returns ! (look ! 34 refl) $ forget ! 0 refl $ forget ! 7 refl $ forget ! 9 refl $ forget ! 11 refl $ forget ! 13 refl $ forget ! 15 refl $ forget ! 17 refl $ forget ! 19 refl $ forget ! 22 refl $ forget ! 24 refl $ forget ! 26 refl $ forget ! 28 refl $ forget ! 30 refl $ forget ! 32 refl $ forget ! 34 refl $
+          move ! (34 ∷ 35 ∷ []) $ free1 ! $ move ! (32 ∷ 33 ∷ []) $ free1 ! $ move ! (30 ∷ 31 ∷ []) $ free1 ! $ move ! (28 ∷ 29 ∷ []) $ free1 ! $ move ! (26 ∷ 27 ∷ []) $ free1 ! $ move ! (24 ∷ 25 ∷ []) $ free1 ! $ move ! (22 ∷ 23 ∷ []) $ free1 ! $ move ! (0 ∷ 21 ∷ []) $ free1 ! $ move ! (18 ∷ 19 ∷ []) $ free1 ! $ move ! (16 ∷ 17 ∷ []) $ free1 ! $ move ! (14 ∷ 15 ∷ []) $ free1 ! $ move ! (12 ∷ 13 ∷ []) $ free1 ! $ move ! (10 ∷ 11 ∷ []) $ free1 ! $ move ! (8 ∷ 9 ∷ []) $ free1 ! $ move ! (6 ∷ 7 ∷ []) $ free1 ! $ free0 ! $ keep ! (2 ∷ 1 ∷ 0 ∷ 5 ∷ 3 ∷ []) $
+          by ! (exits t (subst (Is N.the-row t) (LL.tells N.the-type N′.the-laws t _ is₁) is₁) (zs .1 .1 .1 .1 .0) l′ (runs-array-is (now p) (now q) v ys len m m-is (now y) r (zs .1 .1 .1 .0) t (e .0) (e .1) t-is, runs-array-words (now p) (now q) v ys len m m-is (now y) (zs .1 .1 .1 .1 .0) (e .2)))))))))))))))))))))))))))))))))))))
         where
           room : (m : ℕ) → m ≡ lentOf 256 len → Room P (length (front m ys))
           room m e = subst (Room P) (sym (front-long 256 len m e ys long)) (lent-room 256 len m e (omega arith))
@@ -273,13 +291,13 @@ module _ {M : Type 1} (𝓤 : URA M) (H : Heap 𝓤) (A : Atoms 𝓤) (W : Given
 module _ {M : Type 1} (𝓤 : URA M) (H : Heap 𝓤) (A : Atoms 𝓤) (W : Given 𝓤 H A) (mem : Memory → SProp 𝓤) (run : Routine → Fun 𝓤) where
   walks : (C : Calls 𝓤 H) (Λ : Loops 𝓤 H) → FmC 𝓤 H (W .laws) C → Triple 𝓤 (C #runs·lent-of) (Lent 𝓤 H A mem run) → Triple 𝓤 (C #runs·leaf-run) (LeafRun 𝓤 H A mem run) → Triple 𝓤 (C #runs·with-slots) (With 𝓤 H A mem run) → Walks 𝓤 H A self.ended stayed (WpFn 𝓤 H C Λ code.function) (self.clauses 𝓤 H A mem run)
   walks C Λ fm known-lent known-run known-with = walked 𝓤 H A self.ended stayed (self.clauses 𝓤 H A mem run) (WpFn 𝓤 H C Λ code.function)
-      (λ κs. (slice-vals, (slice-vals, (uint-vals w64, (av, (uint-vals w64, tt)))))) (λ κs. (shr-slice-tells (named 0) (κs .0) i32, (shr-slice-tells (named 1) (κs .1 .0) i32, (uint-tells w64, (array-tells P pv (LL.tells T.the-type T′.the-laws) 256, (uint-tells w64, tt))))))
-      (λ κs πs bounds a _ are. via 𝓤 _ (fst∗ 𝓤 _ (emp 𝓤)) (walk 𝓤 H A W mem run (κs .0) (κs .1 .0) (πs .0) (πs .1 .0) (a .0) (a .1 .0) (a .1 .1 .0) (a .1 .1 .1 .0) (a .1 .1 .1 .1 .0) (are .0) (are .1 .0) (are .1 .1 .0 .1) (are .1 .1 .1 .0) (are .1 .1 .1 .1 .0 .1) C Λ fm known-lent known-run known-with))
+      (λ κs. (slice-vals, (slice-vals, (uint-vals w64, (av, (uint-vals w64, (slice-vals, tt))))))) (λ κs. (shr-slice-tells (named 0) (κs .0) i32, (shr-slice-tells (named 1) (κs .1 .0) i32, (uint-tells w64, (array-tells P pv (LL.tells T.the-type T′.the-laws) 256, (uint-tells w64, (mut-slice-tells (named 2) (κs .1 .1 .0) u64, tt)))))))
+      (λ κs πs bounds a _ are. via 𝓤 _ (fst∗ 𝓤 _ (emp 𝓤)) (walk 𝓤 H A W mem run (κs .0) (κs .1 .0) (κs .1 .1 .0) (πs .0) (πs .1 .0) (πs .1 .1 .0) (a .0) (a .1 .0) (a .1 .1 .0) (a .1 .1 .1 .0) (a .1 .1 .1 .1 .0) (a .1 .1 .1 .1 .1 .0) (are .0) (are .1 .0) (are .1 .1 .0 .1) (are .1 .1 .1 .0) (are .1 .1 .1 .1 .0 .1) (are .1 .1 .1 .1 .1 .0 .0 .1) C Λ fm known-lent known-run known-with))
 
 meets : {M : Type 1} (𝓤 : URA M) (H : Heap 𝓤) (A : Atoms 𝓤) (W : Given 𝓤 H A) (mem : Memory → SProp 𝓤) (run : Routine → Fun 𝓤) (𝓣 : Tables 𝓤 H) → Triple 𝓤 (𝓣 .C #runs·lent-of) (Lent 𝓤 H A mem run) → Triple 𝓤 (𝓣 .C #runs·leaf-run) (LeafRun 𝓤 H A mem run) → Triple 𝓤 (𝓣 .C #runs·with-slots) (With 𝓤 H A mem run)
     → Meets 𝓤 H A self.signature (WpFn 𝓤 H (𝓣 .C) (𝓣 .Λ) code.function) (self.spec 𝓤 H A mem run)
 meets 𝓤 H A W mem run 𝓣 known-lent known-run known-with =
-    walk-meets 𝓤 H A self.ended stayed W (goes-none-slice 𝓤 H A W 2 (0 ∷ []) tt (plain (λ _. i32)) yes, (goes-none-slice 𝓤 H A W 2 (1 ∷ []) tt (plain (λ _. i32)) yes, (goes-none 𝓤 H A W 2 (λ _. usize) yes (λ κs x f. refl), (goes-none 𝓤 H A W 2 (λ _. Row) yes (λ κs x f. refl), (goes-none 𝓤 H A W 2 (λ _. usize) yes (λ κs x f. refl), tt))))) (self.clauses 𝓤 H A mem run)
+    walk-meets 𝓤 H A self.ended stayed W (goes-none-slice 𝓤 H A W 3 (0 ∷ []) tt (plain (λ _. i32)) yes, (goes-none-slice 𝓤 H A W 3 (1 ∷ []) tt (plain (λ _. i32)) yes, (goes-none 𝓤 H A W 3 (λ _. usize) yes (λ κs x f. refl), (goes-none 𝓤 H A W 3 (λ _. Row) yes (λ κs x f. refl), (goes-none 𝓤 H A W 3 (λ _. usize) yes (λ κs x f. refl), (goes-gave-slice 𝓤 H A W 3 2 tt (plain (λ _. u64)), tt)))))) (self.clauses 𝓤 H A mem run)
     (WpFn 𝓤 H (𝓣 .C) (𝓣 .Λ) code.function) (WpFn-mono 𝓤 H (W .laws) 𝓣 code.function) (walks 𝓤 H A W mem run (𝓣 .C) (𝓣 .Λ) (fmOf 𝓤 H (W .laws) 𝓣) known-lent known-run known-with)
 
 pub run-array-spec : {M : Type 1} → stated.statement M

@@ -18,42 +18,49 @@ use Rattle.shortest.proofs.with_page.Statement.{statement}
 use Rattle.shortest.proofs.with_page.Tie as tie
 
 abbrev Inv-loop : tie.InvT-loop
-Inv-loop p q k d n r₀ i₀ r i = Passed k (shown (pairsOf p q) (r₀ .key) 16) r₀ r i
+Inv-loop p q k bits d n r₀ i₀ r i = Passed k (shown (pairsOf p q) (r₀ .key) 16) r₀ r i
 
 abbrev μ-loop : tie.MeasureT-loop
-μ-loop p q k d n r₀ i₀ r i = n - i
+μ-loop p q k bits d n r₀ i₀ r i = n - i
 
 -- the list of the two sheets, and the page of it that was made
-module _ (a : tie.After-page-made Inv-loop μ-loop) where
+module _ (a : tie.After-made-on Inv-loop μ-loop) where
+  abbrev start : tie.Start Inv-loop μ-loop
+  start = a .before .before .before .before
+
   abbrev list : List Pair
-  list = pairsOf (a .before .before .args .p .now) (a .before .before .args .q .now)
+  list = pairsOf (start .args .p .now) (start .args .q .now)
 
-  page : Made list (a .before .before .args .g .key) (a .page-made .result)
-  page = made (a .before .before .pre .0) (a .before .before .pre .1) (a .before .before .pre .2) _ _ (a .page-made .ensures)
+  page : Made list (start .args .g .key) (a .made-on .result)
+  page = made (start .pre .0) (start .pre .1) _ (start .pre .2 .enough) _ _ (a .made-on .ensures)
 
-  few : a .page-made .result .count ≤ 16
+  few : a .made-on .result .count ≤ 16
   few = made-few _ _ _ page
 
-page-made-requires : tie.Need-page-made-requires Inv-loop μ-loop
-page-made-requires c κs = let p = c .before .pre in (p .0, p .1, omega arith, p .2, of-two _ refl _ _)
+-- the loop stands after it
+abbrev work : tie.At-loop Inv-loop μ-loop → tie.After-made-on Inv-loop μ-loop
+work l = l .before .before .before
+
+made-on-requires : tie.Need-made-on-requires Inv-loop μ-loop
+made-on-requires c κs = let p = c .before .before .before .pre in (p .0, p .1, omega arith, p .2, of-two _ refl _ _)
 
 loop-holds : tie.Need-loop-holds Inv-loop μ-loop
-loop-holds c = let p = c .before .before .pre in passed-start _ (p .3) (p .4) _ _ (p .5)
+loop-holds c = let p = start (c .before .before) .pre in passed-start _ (p .3) (p .4) _ _ (p .5)
 
 mul-v : tie.Need-mul-v Inv-loop μ-loop
-mul-v c = record { fits = omega (arith, few (c .before .before)) }
+mul-v c = record { fits = omega (arith, few (work (c .before))) }
 
 element-copy-out-v : tie.Need-element-copy-out-v Inv-loop μ-loop
-element-copy-out-v c = omega (arith, few (c .before .before))
+element-copy-out-v c = omega (arith, few (work (c .before)))
 
 with-pair-requires : tie.Need-with-pair-requires Inv-loop μ-loop
 with-pair-requires c κs =
     let l = c .before .before .before in
-    let p = l .before .before .before .pre in
+    let p = start (work l) .pre in
     put-asked _ (p .3) (p .4) _ _ (p .5) (l .loop .r) (l .loop .i) (l .loop .inv) _ (omega arith) (c .if1 .taken)
 
 sub-last : tie.Need-sub-last Inv-loop μ-loop
-sub-last c = c .before .before .before .before .before .before .pre .3
+sub-last c = start (work (c .before .before .before)) .pre .3
 
 mul-last : tie.Need-mul-last Inv-loop μ-loop
 mul-last c = search needs
@@ -65,13 +72,13 @@ is-shorter-requires : tie.Need-is-shorter-requires Inv-loop μ-loop
 is-shorter-requires c κs = search needs
 
 sub-with-pair : tie.Need-sub-with-pair Inv-loop μ-loop
-sub-with-pair c = c .before .before .before .before .before .before .before .before .before .pre .3
+sub-with-pair c = start (work (c .before .before .before .before .before .before)) .pre .3
 
 with-pair-requires-2 : tie.Need-with-pair-requires-2 Inv-loop μ-loop
 with-pair-requires-2 c κs =
     let e = c .before .before .before in
     let l = e .before .before .before in
-    let p = l .before .before .before .pre in
+    let p = start (work l) .pre in
     put-asked _ (p .3) (p .4) _ _ (p .5) (l .loop .r) (l .loop .i) (l .loop .inv) _ (omega (arith, e .if1 .left)) (omega (arith, p .3))
 
 add-i : tie.Need-add-i Inv-loop μ-loop
@@ -84,10 +91,10 @@ loop-again : tie.Need-loop-again Inv-loop μ-loop
 loop-again c =
     let t = c .before .before in
     let l = t .before in
-    let a = l .before in
-    let p = a .before .before .pre in
-    let v = getD (a .page-made .result .pairs) (l .loop .i) none in
-    let i-in : l .loop .i < length (shown (list a) (a .before .before .args .g .key) 16) = omega (arith, t .loop-test .taken, page a .count) in
+    let a = work l in
+    let p = start a .pre in
+    let v = getD (a .made-on .result .pairs) (l .loop .i) none in
+    let i-in : l .loop .i < length (shown (list a) (start a .args .g .key) 16) = omega (arith, t .loop-test .taken, page a .count) in
     let is = made-at _ _ _ (page a) (l .loop .i) (t .loop-test .taken) in
     ⊎-elim
     (λ w. passed-put _ (p .3) (p .4) _ _ (p .5) (l .loop .r) (l .loop .i) (l .loop .inv) i-in v is (w .0 .taken) (c .if1 .r) (w .2 ∙ w .1 .ensures))
@@ -102,28 +109,31 @@ sub-key-of : tie.Need-sub-key-of Inv-loop μ-loop
 sub-key-of c = search needs
 
 mul-key-of : tie.Need-mul-key-of Inv-loop μ-loop
-mul-key-of c = record { fits = omega (arith, few (c .before .before .before)) }
+mul-key-of c = record { fits = omega (arith, few (work (c .before .before))) }
 
 element-copy-out-key-of : tie.Need-element-copy-out-key-of Inv-loop μ-loop
-element-copy-out-key-of c = omega (arith, few (c .before .before .before), c .if3 .taken)
+element-copy-out-key-of c = omega (arith, few (work (c .before .before)), c .if3 .taken)
 
 key-of-requires : tie.Need-key-of-requires Inv-loop μ-loop
 key-of-requires c κs = search needs
+
+same-length : tie.Need-same-length Inv-loop μ-loop
+same-length c = work (c .before .before) .made-on .kept .1 .1 .1 .1 .1 .0
 
 returns : tie.Need-returns Inv-loop μ-loop
 returns c =
     let o = c .before in
     let l = o .before in
-    let a = l .before in
-    let g = a .before .before .args .g in
-    let whole = passed-all (list a) (a .before .before .args .k) g (a .page-made .result) (page a) (l .loop .r) (l .loop .i) (l .loop .inv) (o .loop-test .left) in
+    let a = work l in
+    let g = start a .args .g in
+    let whole = passed-all (list a) (start a .args .k) g (a .made-on .result) (page a) (l .loop .r) (l .loop .i) (l .loop .inv) (o .loop-test .left) in
     ⊎-elim
     (λ w.
-    let key = key-last (list a) (a .before .before .args .k) g (a .page-made .result) (page a) (l .loop .r) (l .loop .i) (l .loop .inv) (o .loop-test .left) (w .0 .taken) in
-    ap (λ (x : Search). record { pairs = x .pairs; count = x .count; key = x .key; end = not (a .page-made .result .more) }) (w .3) ∙ whole _ (w .2 .ensures ∙ key))
+    let key = key-last (list a) (start a .args .k) g (a .made-on .result) (page a) (l .loop .r) (l .loop .i) (l .loop .inv) (o .loop-test .left) (w .0 .taken) in
+    ap (λ (x : Search). record { pairs = x .pairs; count = x .count; key = x .key; end = not (a .made-on .result .more) }) (w .3) ∙ whole _ (w .2 .ensures ∙ key))
     (λ w.
-    let key = key-none (list a) (a .before .before .args .k) g (a .page-made .result) (page a) (l .loop .r) (l .loop .i) (l .loop .inv) (o .loop-test .left) (w .0 .left) in
-    ap (λ (x : Search). record { pairs = x .pairs; count = x .count; key = x .key; end = not (a .page-made .result .more) }) (w .1) ∙ whole _ key)
+    let key = key-none (list a) (start a .args .k) g (a .made-on .result) (page a) (l .loop .r) (l .loop .i) (l .loop .inv) (o .loop-test .left) (w .0 .left) in
+    ap (λ (x : Search). record { pairs = x .pairs; count = x .count; key = x .key; end = not (a .made-on .result .more) }) (w .1) ∙ whole _ key)
     (c .if3 .came)
 
 pub with-page-spec : {M : Type 1} → statement M
@@ -132,7 +142,7 @@ with-page-spec =
     (tie.spec
     Inv-loop
     μ-loop
-    page-made-requires
+    made-on-requires
     loop-holds
     mul-v
     element-copy-out-v
@@ -150,4 +160,5 @@ with-page-spec =
     mul-key-of
     element-copy-out-key-of
     key-of-requires
+    same-length
     returns)

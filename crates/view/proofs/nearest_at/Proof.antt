@@ -1,4 +1,5 @@
--- `view::nearest_at` meets its contract: a walk of its code. It calls `nearest::nearest`, and all that the proof knows of `nearest` is that it meets its own contract.
+-- `view::nearest_at` meets its contract: a walk of its code.
+-- It calls `nearest::nearest`, and all that the proof knows of `nearest` is that it meets its own contract.
 -- Written by tools/thin. Assumes nothing.
 use mathlib.Core.Path.{_≡_, refl}
 use Prim.Native.Nat.{ℕ}

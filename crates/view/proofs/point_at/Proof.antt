@@ -1,4 +1,5 @@
--- `view::point_at` meets its contract: a walk of its code. It calls `ring::point::point`, and all that the proof knows of `point` is that it meets its own contract.
+-- `view::point_at` meets its contract: a walk of its code.
+-- It calls `ring::point::point`, and all that the proof knows of `point` is that it meets its own contract.
 -- Written by tools/thin. Assumes nothing.
 use mathlib.Core.Path.{_≡_, refl}
 use Prim.Native.Nat.{ℕ}

@@ -1,4 +1,5 @@
--- `view::ring_walk_at` meets its contract: a walk of its code. It calls `ring::ringwalk::ring_walk`, and all that the proof knows of `ring_walk` is that it meets its own contract.
+-- `view::ring_walk_at` meets its contract: a walk of its code.
+-- It calls `ring::ringwalk::ring_walk`, and all that the proof knows of `ring_walk` is that it meets its own contract.
 -- Written by tools/thin. Assumes nothing.
 use mathlib.Core.Path.{_≡_, refl}
 use Prim.Native.Nat.{ℕ}

@@ -5,7 +5,7 @@ use Prim.Native.Nat.{_+_, _-_, _*_, _/_, _<_}
 use native.Mathlib.Omega.{arith}
 use Rattle.bits.proofs.NextLaws.{from-le}
 use Rattle.walk.proofs.SiftLaws.{sift-next}
-use Rattle.leaf.proofs.RunCode.{Going, Passed, Told, Met, tell, leaf-going-start, passed-long, words-few, place-in, position-in, going-met, going-few, leaf-going-room, going-clear, going-gone, made-set, made-count, made-opened}
+use Rattle.leaf.proofs.RunCode.{Going, Passed, Told, Met, tell, leaf-going-start, passed-long, run-words-few, place-in, position-in, going-met, going-few, leaf-going-room, going-clear, going-gone, made-set, made-count, made-opened}
 use Rattle.leaf.proofs.run.run_made.Statement.{statement}
 use Rattle.leaf.proofs.run.run_made.Tie as tie
 
@@ -32,10 +32,10 @@ abbrev start : tie.At-loop Inv-loop μ-loop → tie.Start Inv-loop μ-loop
 start l = read l .before .before .before
 
 mul-end : tie.Need-mul-end Inv-loop μ-loop
-mul-end c = omega (arith, words-few (told (c .before .before .before)) _ (c .count-at .ensures))
+mul-end c = omega (arith, run-words-few (told (c .before .before .before)) _ (c .count-at .ensures))
 
 mul-end-2 : tie.Need-mul-end-2 Inv-loop μ-loop
-mul-end-2 c = omega (arith, words-few (told (c .before .before .before)) _ (c .count-at .ensures))
+mul-end-2 c = omega (arith, run-words-few (told (c .before .before .before)) _ (c .count-at .ensures))
 
 leaf-kept-requires : tie.Need-leaf-kept-requires Inv-loop μ-loop
 leaf-kept-requires c κs = c .before .before .before .before .pre
@@ -111,7 +111,7 @@ turn c =
 add-next-from : tie.Need-add-next-from Inv-loop μ-loop
 add-next-from c =
     let i = c .before .before .before .before .before .before in
-    omega (arith, i .loop-test .taken, words-few (told (start (i .before))) _ (read (i .before) .count-at .ensures))
+    omega (arith, i .loop-test .taken, run-words-few (told (start (i .before))) _ (read (i .before) .count-at .ensures))
 
 next-from-requires-2 : tie.Need-next-from-requires-2 Inv-loop μ-loop
 next-from-requires-2 c κs =

@@ -1,43 +1,32 @@
 -- `lister::pages::put_next` meets its contract. Assumes nothing.
-use mathlib.Core.Path.{_≡_, sym, subst, _∙_}
+use mathlib.Core.Path.{sym, subst, _∙_}
 use mathlib.Core.List.{List}
 use borrow.Author.Needs.{needs}
 use Rattle.sheet.specs.Places.{pointsOf}
 use Rattle.list.specs.declared.Pair.{Pair}
-use Rattle.list.specs.Pages.{pageOf}
-use Rattle.list.specs.Terms.{full}
-use Rattle.ring.specs.Page.{sourceOf}
 use Rattle.text.specs.Text.{Grown}
 use Rattle.lister.specs.Listing.{linesOf}
-use Rattle.lister.specs.Outcome.{InRange, pairsOf}
-use Rattle.lister.proofs.ShowLaws.{page-is, page-count, page-few, lister-page-pairs, page-last, page-end, page-has, next-in}
+use Rattle.lister.specs.Outcome.{InRange}
+use Rattle.lister.proofs.ShowLaws.{page-count, page-few, lister-page-pairs, page-last, page-end, page-has, next-in}
 use Rattle.lister.proofs.pages.put_next.Statement.{statement}
 use Rattle.lister.proofs.pages.put_next.Tie as tie
 
-module _ (a : tie.After-page) where
-  abbrev s : tie.Start
-  s = a .before .before
-
-  -- the page that was answered
-  asked : a .page .result .page ≡ pageOf (sourceOf (s .args .p .now) (s .args .q .now) full) (pairsOf (s .args .p .now) (s .args .q .now)) (s .args .key) 16
-  asked = page-is (s .pre .0) (s .args .key) (s .pre .1) (a .page .result) (a .page .ensures)
-
-page-requires : tie.Need-page-requires
-page-requires c κs = search needs
+page-after-requires : tie.Need-page-after-requires
+page-after-requires c κs = let s = c .before in (s .pre .0 .p-no, s .pre .0 .q-no, s .pre .1)
 
 put-page-requires : tie.Need-put-page-requires
 put-page-requires c κs =
-    let a = c .before .before in
+    let a = c .before in
     let s = a .before .before in
-    let b = s .pre .0 in (
-      (b .p-opens, b .q-opens),
-      (page-has b (s .args .key) _ (a .page .result .page) (asked a), (page-few b (s .args .key) _ (a .page .result .page) (asked a), search needs)),
-    )
+    let b = s .pre .0 in
+    let e = a .page-after .ensures in
+    ((b .p-opens, b .q-opens), (page-has b (s .args .key) _ (a .page-after .result) e, (page-few b (s .args .key) _ (a .page-after .result) e, search needs)))
 
 last-key-requires : tie.Need-last-key-requires
 last-key-requires c κs =
-    let a = c .before .before .before .before .before in
-    page-few (s a .pre .0) (s a .args .key) _ (a .page .result .page) (asked a)
+    let a = c .before .before .before .before in
+    let s = a .before .before in
+    page-few (s .pre .0) (s .args .key) _ (a .page-after .result) (a .page-after .ensures)
 
 same-length : tie.Need-same-length
 same-length c = search needs
@@ -45,12 +34,12 @@ same-length c = search needs
 returns : tie.Need-returns
 returns c =
     let t = c .before .before .before in
-    let a = t .before .before .before in
+    let a = t .before .before in
     let s = a .before .before in
     let b = s .pre .0 in
-    let g = a .page .result .page in
+    let g = a .page-after .result in
     let k = s .args .key in
-    let e = asked a in
+    let e = a .page-after .ensures in
     let last = c .last-key .ensures ∙ page-last b k _ g e in (
       subst (λ (l : List Pair). Grown (s .args .out .now) (s .args .at) (t .put-page .last .1 .1 .1 .1 .1 .0) (t .put-page .result) (linesOf (pointsOf (s .args .p .now)) (pointsOf (s .args .q .now)) l))
           (lister-page-pairs b k _ g e) (t .put-page .ensures .0),
@@ -58,4 +47,4 @@ returns c =
     )
 
 pub put-next-spec : {M : Type 1} → statement M
-put-next-spec = tie.close (tie.spec page-requires put-page-requires last-key-requires same-length returns)
+put-next-spec = tie.close (tie.spec page-after-requires put-page-requires last-key-requires same-length returns)

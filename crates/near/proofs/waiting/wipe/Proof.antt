@@ -3,10 +3,10 @@ use mathlib.Core.Path.{_≡_, refl, ap, _∙_}
 use Prim.Native.Nat.{ℕ, _-_, _≤_}
 use native.Mathlib.Omega.{arith}
 use lib.ListN.{length, length-set}
-use Rattle.near.specs.Room.{wiped}
 use Rattle.near.proofs.WaitingLaws.{wiped-start, wiped-step}
 use Rattle.near.proofs.waiting.wipe.Statement.{statement}
 use Rattle.near.proofs.waiting.wipe.Tie as tie
+use Rattle.bits.specs.Set.{wiped}
 
 abbrev Inv-loop : tie.InvT-loop
 Inv-loop waiting₀ k i₀ waiting i = (i ≤ k) × (waiting ≡ wiped i waiting₀) × (length waiting ≡ length waiting₀)

@@ -11,7 +11,7 @@ put-order-requires : tie.Need-put-order-requires
 put-order-requires c κs = (omega arith, omega arith, omega (arith, sheet-size (c .before .before .before .before .args .n)))
 
 put-ranks-requires : tie.Need-put-ranks-requires
-put-ranks-requires c κs = let s = c .before .before .before .before .before .before .before in (omega arith, omega (arith, sheet-size (s .args .n)), s .pre .2, s .pre .3)
+put-ranks-requires c κs = let s = c .before .before .before .before .before .before .before in (omega arith, omega (arith, sheet-size (s .args .n)), s .pre .3, s .pre .4)
 
 nodes-for-requires : tie.Need-nodes-for-requires
 nodes-for-requires c κs = search needs
@@ -22,7 +22,7 @@ put-nodes-requires c κs =
     let o = c .before .before .before .before .before .before .put-order in
     let p = c .before .before .before .before .before .before .before .before .before .put-points in
     let s = c .before .before .before .before .before .before .before .before .before .before .before in
-    (omega arith, c .before .nodes-for .ensures, omega (arith, sheet-size (s .args .n)), record { points = s .args .p .now; order = s .args .o .now; ordered = s .pre .3; holds = r .ensures _ (o .ensures _ (p .ensures _)) })
+    (omega arith, c .before .nodes-for .ensures, omega (arith, sheet-size (s .args .n)), record { points = s .args .p .now; order = s .args .o .now; ordered = s .pre .4; holds = r .ensures _ (o .ensures _ (p .ensures _)) })
 
 put-trailer-requires : tie.Need-put-trailer-requires
 put-trailer-requires c κs = search needs
@@ -38,7 +38,7 @@ returns c =
     let o = a .before .before .before .before .before .before .put-order in
     let p = a .before .before .before .before .before .before .before .before .before .put-points in
     let s = a .before .before .before .before .before .before .before .before .before .before .before in
-    c .before .put-trailer .ensures _ _ (f .put-nodes .ensures _ _ (s .pre .3) (r .ensures _ (o .ensures _ (p .ensures _))))
+    c .before .put-trailer .ensures _ _ (f .put-nodes .ensures _ _ (s .pre .4) (r .ensures _ (o .ensures _ (p .ensures _))))
 
 pub put-sheet-spec : {M : Type 1} → statement M
 put-sheet-spec =

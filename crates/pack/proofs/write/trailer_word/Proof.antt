@@ -56,9 +56,12 @@ returns-5 : tie.Need-returns-5
 unfolding trailerWord
 returns-5 c = handed (c .word5 .ok) (c .word5 .ensures) ∙ sym (rw (ne-eqb _ 0 (c .before .before .before .before .before .if1 .left), ne-eqb _ 1 (c .before .before .before .before .if2 .left), ne-eqb _ 2 (c .before .before .before .if3 .left), ne-eqb _ 3 (c .before .before .if4 .left), eq-eqb _ 4 (c .before .if5 .taken)))
 
+word-requires-6 : tie.Need-word-requires-6
+word-requires-6 c κs = search needs
+
 returns-6 : tie.Need-returns-6
 unfolding trailerWord
-returns-6 c = rw (ne-eqb _ 0 (c .before .before .before .before .if1 .left), ne-eqb _ 1 (c .before .before .before .if2 .left), ne-eqb _ 2 (c .before .before .if3 .left), ne-eqb _ 3 (c .before .if4 .left), ne-eqb _ 4 (c .if5 .left))
+returns-6 c = handed (c .word6 .ok) (c .word6 .ensures) ∙ sym (rw (ne-eqb _ 0 (c .before .before .before .before .before .if1 .left), ne-eqb _ 1 (c .before .before .before .before .if2 .left), ne-eqb _ 2 (c .before .before .before .if3 .left), ne-eqb _ 3 (c .before .before .if4 .left), ne-eqb _ 4 (c .before .if5 .left)))
 
 pub trailer-word-spec : {M : Type 1} → statement M
 trailer-word-spec =
@@ -78,4 +81,5 @@ trailer-word-spec =
     returns-4
     word-requires-5
     returns-5
+    word-requires-6
     returns-6)

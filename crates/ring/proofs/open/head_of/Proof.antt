@@ -15,13 +15,13 @@ returns : tie.Need-returns
 returns c = head-shut _ _ (sym (c .before .open-no .ensures)) (c .if1 .taken)
 
 sub-num-at : tie.Need-sub-num-at
-sub-num-at c = omega (arith, long _ (sym (c .before .open-no .ensures) ∙ c .if1 .left))
+sub-num-at c = omega (arith, long (c .before .before .args .words .now) (sym (c .before .open-no .ensures) ∙ c .if1 .left))
 
 num-at-requires : tie.Need-num-at-requires
 num-at-requires c κs = search needs
 
 sub-num-at-2 : tie.Need-sub-num-at-2
-sub-num-at-2 c = omega (arith, long _ (sym (c .before .before .open-no .ensures) ∙ c .before .if1 .left))
+sub-num-at-2 c = omega (arith, long (c .before .before .before .args .words .now) (sym (c .before .before .open-no .ensures) ∙ c .before .if1 .left))
 
 num-at-requires-2 : tie.Need-num-at-requires-2
 num-at-requires-2 c κs = search needs

@@ -1,7 +1,9 @@
 -- `ring::page::page` meets its contract, number by number. Assumes nothing.
-use mathlib.Core.Path.{refl}
+use mathlib.Core.Path.{refl, sym, _∙_}
+use native.Mathlib.Omega.{arith}
+use Rattle.bits.proofs.LentLaws.{part-long}
 use Rattle.ring.proofs.HeadLaws.{headed-both}
-use Rattle.ring.proofs.PageLaws.{size-in, page-sheets, page-asked, page-made, pumps-fit, of-two}
+use Rattle.ring.proofs.PageLaws.{size-in, page-sheets, page-asked, page-short, page-made, of-two}
 use borrow.Author.Needs.{needs}
 use Rattle.ring.proofs.page.page.Statement.{statement}
 use Rattle.ring.proofs.page.page.Tie as tie
@@ -14,8 +16,8 @@ refused-requires c κs = search needs
 
 returns : tie.Need-returns
 returns c =
-    let h = c .before .before .before in
-    page-sheets _ _ (h .before .args .request) _ (h .heads-of .ensures) _ (c .before .if1 .taken) (c .refused .ensures)
+    let s = c .before .before .before .before .before .args in
+    page-sheets _ _ (s .request) (s .bits .now) _ (c .before .before .before .heads-of .ensures) _ (c .before .if1 .taken) (c .refused .ensures)
 
 asked-no-requires : tie.Need-asked-no-requires
 asked-no-requires c κs = search needs
@@ -25,25 +27,41 @@ refused-requires-2 c κs = search needs
 
 returns-2 : tie.Need-returns-2
 returns-2 c =
-    let a = c .before .before in
-    let e = a .before .before in
-    let h = e .before .before in
-    page-asked _ _ (h .before .args .request) _ (h .heads-of .ensures) _ (e .if1 .left) _ (a .asked-no .ensures) (c .before .if2 .taken) (c .refused2 .ensures)
+    let s = c .before .before .before .before .before .before .before .before .args in
+    page-asked _ _ (s .request) (s .bits .now) _ (c .before .before .before .before .before .before .heads-of .ensures) _ (c .before .before .before .before .if1 .left) _ (c .before .before .asked-no .ensures) (c .before .if2 .taken) (c .refused2 .ensures)
 
-given-requires : tie.Need-given-requires
-given-requires c κs =
-    let a = c .before in
-    let e = a .before .before in
-    let h = e .before .before .heads-of in
-    let o = headed-both _ _ _ (h .ensures) (e .if1 .left) in
-    (o .p-facts, o .q-facts, pumps-fit _ _ _ o, size-in _ _ _ (a .asked-no .ensures) (c .if2 .left), of-two _ refl _ _)
+words-for-requires : tie.Need-words-for-requires
+words-for-requires c κs =
+    let o = headed-both _ _ _ (c .before .before .before .before .before .heads-of .ensures) (c .before .before .before .if1 .left) in
+    omega (arith, o .p-facts .n-le)
+
+refused-requires-3 : tie.Need-refused-requires-3
+refused-requires-3 c κs = search needs
 
 returns-3 : tie.Need-returns-3
 returns-3 c =
-    let a = c .before .before in
-    let e = a .before .before in
-    let h = e .before .before in
-    page-made _ _ (h .before .args .request) _ (h .heads-of .ensures) _ (e .if1 .left) _ (a .asked-no .ensures) (c .before .if2 .left) (c .given .ensures)
+    let s = c .before .before .before .before .before .before .before .before .before .before .args in
+    page-short _ _ (s .request) (s .bits .now) _ (c .before .before .before .before .before .before .before .before .heads-of .ensures) _ (c .before .before .before .before .before .before .if1 .left) _ (c .before .before .before .before .asked-no .ensures) (c .before .before .before .if2 .left) _ (c .before .before .words-for .ensures) (c .before .if3 .taken) (c .refused3 .ensures)
+
+slice-relend-prefix-given : tie.Need-slice-relend-prefix-given
+slice-relend-prefix-given c = search needs
+
+slice-aggregate-given : tie.Need-slice-aggregate-given
+slice-aggregate-given c = sym (part-long _ _ (omega arith))
+
+given-requires : tie.Need-given-requires
+given-requires c κs =
+    let o = headed-both _ _ _ (c .before .before .before .before .before .before .before .before .heads-of .ensures) (c .before .before .before .before .before .before .if1 .left) in
+    (o .p-facts, o .q-facts, size-in _ _ _ (c .before .before .before .before .asked-no .ensures) (c .before .before .before .if2 .left), part-long _ _ (c .before .if3 .left) ∙ c .before .before .words-for .ensures, of-two _ refl _ _)
+
+same-length : tie.Need-same-length
+same-length c = search needs
+
+returns-4 : tie.Need-returns-4
+returns-4 c =
+    let s = c .before .before .before .before .before .before .before .before .before .before .before .before .before .args in
+    let g = c .before .before .given .ensures in
+    page-made _ _ (s .request) (s .bits .now) _ (c .before .before .before .before .before .before .before .before .before .before .before .heads-of .ensures) _ (c .before .before .before .before .before .before .before .before .before .if1 .left) _ (c .before .before .before .before .before .before .before .asked-no .ensures) (c .before .before .before .before .before .before .if2 .left) _ (c .before .before .before .before .before .words-for .ensures) (c .before .before .before .before .if3 .left) (g .0) _ (g .1)
 
 pub page-spec : {M : Type 1} → statement M
 page-spec =
@@ -55,5 +73,11 @@ page-spec =
     asked-no-requires
     refused-requires-2
     returns-2
+    words-for-requires
+    refused-requires-3
+    returns-3
+    slice-relend-prefix-given
+    slice-aggregate-given
     given-requires
-    returns-3)
+    same-length
+    returns-4)

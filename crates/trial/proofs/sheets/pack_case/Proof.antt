@@ -5,6 +5,9 @@ use borrow.Author.Needs.{needs}
 use Rattle.trial.proofs.sheets.pack_case.Statement.{statement}
 use Rattle.trial.proofs.sheets.pack_case.Tie as tie
 
+next-id-requires : tie.Need-next-id-requires
+next-id-requires c κs = search needs
+
 next-long-requires : tie.Need-next-long-requires
 next-long-requires c κs = search needs
 
@@ -14,8 +17,8 @@ next-up-to-requires c κs = search needs
 next-up-to-requires-2 : tie.Need-next-up-to-requires-2
 next-up-to-requires-2 c κs = search needs
 
-next-id-requires : tie.Need-next-id-requires
-next-id-requires c κs = search needs
+next-id-requires-2 : tie.Need-next-id-requires-2
+next-id-requires-2 c κs = search needs
 
 next-up-to-requires-3 : tie.Need-next-up-to-requires-3
 next-up-to-requires-3 c κs = search needs
@@ -60,10 +63,11 @@ pub pack-case-spec : {M : Type 1} → statement M
 pack-case-spec =
     tie.close
     (tie.spec
+    next-id-requires
     next-long-requires
     next-up-to-requires
     next-up-to-requires-2
-    next-id-requires
+    next-id-requires-2
     next-up-to-requires-3
     slice-aggregate-fill
     fill-requires

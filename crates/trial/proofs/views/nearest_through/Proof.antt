@@ -1,4 +1,5 @@
--- `trial::views::nearest_through` meets its contract: a walk of its code. It calls `view::nearest_at`, and all that the proof knows of `nearest_at` is that it meets its own contract.
+-- `trial::views::nearest_through` meets its contract: a walk of its code.
+-- It calls `view::nearest_at`, and all that the proof knows of `nearest_at` is that it meets its own contract.
 -- Written by tools/thin. Assumes nothing.
 use mathlib.Core.Path.{_≡_, refl}
 use Prim.Native.Nat.{ℕ}

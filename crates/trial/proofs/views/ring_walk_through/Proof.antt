@@ -1,4 +1,5 @@
--- `trial::views::ring_walk_through` meets its contract: a walk of its code. It calls `view::ring_walk_at`, and all that the proof knows of `ring_walk_at` is that it meets its own contract.
+-- `trial::views::ring_walk_through` meets its contract: a walk of its code.
+-- It calls `view::ring_walk_at`, and all that the proof knows of `ring_walk_at` is that it meets its own contract.
 -- Written by tools/thin. Assumes nothing.
 use mathlib.Core.Path.{_≡_, refl}
 use Prim.Native.Nat.{ℕ}
