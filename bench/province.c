@@ -1,7 +1,7 @@
 /* The whole list of two provinces (tests/c/province.h), each a sheet of form 2: how many pairs it has, a digest of them, and where the time goes.
 
        province runs N     leaf after leaf of Q, by the proved calls and then by their twins
-       province pages N    by pages of 16
+       province pages N PART PARTS    by pages of 16, of the chambers of one of so many parts of Q
        province check N    by a reading of its own, on a grid: no tree, no walk
 
    N is the number of points of each. The digest does not depend on the order of the pairs. Prints lines of a name and numbers; times are nanoseconds of the
@@ -105,21 +105,24 @@ static int by_runs(void)
     return 0;
 }
 
-static int by_pages(void)
+static int by_pages(size_t part, size_t parts)
 {
     list l = {0, 0, 0};
     long slowest = 0, begun = now();
-    RingKey key = {0, 0};
-    size_t pages = 0;
-    for (bool end = false; !end; pages++) {
+    size_t from = part * q.n / parts, to = (part + 1) * q.n / parts, pages = 0;
+    uint32_t past = to < q.n ? (uint32_t)q.words[3 * to] : 2000000001u;
+    RingKey key = {(uint32_t)q.words[3 * from] - 1, 2000000000};
+    for (bool end = from == to; !end; pages++) {
         long at = now();
         RingPaged r = ring_page(p.words, p.len, q.words, q.len, (RingRequest){key, 16, 0}, bits, RING_WORDS(p.n));
         at = now() - at;
         if (r.number) { printf("refused %u\n", r.number); return 1; }
         if (at > slowest) slowest = at;
         l.opened += r.opened;
-        for (size_t k = 0; k < r.page.count; k++) add(&l, r.page.pairs[k].q, r.page.pairs[k].p, r.page.pairs[k].size);
         end = r.page.end;
+        for (size_t k = 0; k < r.page.count; k++)
+            if (r.page.pairs[k].q < past) add(&l, r.page.pairs[k].q, r.page.pairs[k].p, r.page.pairs[k].size);
+            else end = true;
         if (r.page.count) key = (RingKey){r.page.pairs[r.page.count - 1].q, r.page.pairs[r.page.count - 1].p};
     }
     tell("pages", &l, now() - begun);
@@ -215,7 +218,8 @@ static int by_grid(void)
 int main(int count, char **words)
 {
     size_t n = count > 2 ? (size_t)strtol(words[2], 0, 10) : MOST;
-    if (count < 2 || n < 1 || n > MOST) return 2;
+    size_t part = count > 4 ? (size_t)strtol(words[3], 0, 10) : 0, parts = count > 4 ? (size_t)strtol(words[4], 0, 10) : 1;
+    if (count < 2 || n < 1 || n > MOST || part >= parts) return 2;
     if (!made(&p, n, 1, 7, "p") || !made(&q, n, 2, 9, "q")) return 1;
-    return !strcmp(words[1], "runs") ? by_runs() : !strcmp(words[1], "pages") ? by_pages() : !strcmp(words[1], "check") ? by_grid() : 2;
+    return !strcmp(words[1], "runs") ? by_runs() : !strcmp(words[1], "pages") ? by_pages(part, parts) : !strcmp(words[1], "check") ? by_grid() : 2;
 }
