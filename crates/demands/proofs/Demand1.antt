@@ -11,14 +11,21 @@
 -- the slots of take and leaf_run, the numbers of nearest and near_filter, the words for kept sets of each call that filters. What an answer leaves there: Lent.
 -- Assumes nothing. [N1, N2, D1]
 use mathlib.Core.Path.{_≡_, refl, sym, ap, subst, _∙_}
+use mathlib.Core.Bool.{Bool, true, false}
 use mathlib.Core.List.{List, [], _++_}
-use Prim.Native.Nat.{ℕ}
-use lib.IntN.{ℤ}
+use Prim.Native.Nat.{ℕ, _≤_}
+use lib.IntN.{ℤ, pos}
 use lib.ListN.{length, take, drop, take-append-drop}
+use borrow.Author.Tests.{le-ltb}
+use Rattle.words.specs.First.{given, first}
 use Rattle.words.proofs.FirstLaws.{answer-refused}
 use denote.Ref.{RefT, now}
-use Rattle.sheet.specs.Layout.{points, nodes}
-use Rattle.sheet.specs.Open.{sheetNo}
+use Rattle.words.specs.Word.{eqZ}
+use Rattle.words.proofs.Signs.{eqZ-eq}
+use Rattle.sheet.specs.Limits.{form1, form2, limitsOf}
+use Rattle.sheet.specs.Layout.{form, points, nodes, trailerNo}
+use Rattle.sheet.proofs.SheetLaws.{form1-as-before, form2-as-stated}
+use Rattle.sheet.specs.Open.{openNo, sheetNo}
 use Rattle.list.specs.declared.Key.{Key}
 use Rattle.list.specs.declared.Pair.{Pair}
 use Rattle.list.specs.declared.Request.{Request}
@@ -92,6 +99,27 @@ Refuses k = k ≡ 0 → ⊥
 -- [N6, N7, N8, N9, N10, N11, N12, N13, N35, Y1]
 pub open-no : (w : List ℤ) (r : ℕ) → OpenAnswers w r → r ≡ sheetNo w
 open-no w r a = a .promised
+
+-- "Form 1 sheets open as before under their own limits", those of form 2 under theirs; "2 for a form other than 1 or 2", of words that have their trailer [Y2]
+pub open-first : (w : List ℤ) (r : ℕ) → OpenAnswers w r → form w ≡ pos 1 → r ≡ openNo form1 w
+open-first w r a e = a .promised ∙ form1-as-before w e
+
+-- [Y1]
+pub open-second : (w : List ℤ) (r : ℕ) → OpenAnswers w r → form w ≡ pos 2 → r ≡ openNo form2 w
+open-second w r a e = a .promised ∙ form2-as-stated w e
+
+-- [N7, Y1]
+pub open-other : (w : List ℤ) (r : ℕ) → OpenAnswers w r → 6 ≤ length w → (form w ≡ pos 1 → ⊥) → (form w ≡ pos 2 → ⊥) → r ≡ 2
+unfolding limitsOf form1 openNo trailerNo first given
+open-other w r a long no-first no-second =
+    a .promised ∙ rw (off (form w) (pos 2) no-second, le-ltb (length w) 6 long, off (form w) (pos 1) no-first)
+  where
+    off : (y z : ℤ) → (y ≡ z → ⊥) → eqZ y z ≡ false
+    off y z ne = go (eqZ y z) refl
+      where
+        go : (t : Bool) → eqZ y z ≡ t → eqZ y z ≡ false
+        go true e = absurd (ne (eqZ-eq y z e))
+        go false e = e
 
 pub head-no : (w : List ℤ) (h : Head) → HeadAnswers w h
     → (h .number ≡ sheetNo w) × (Refuses (sheetNo w) → h ≡ record { number = sheetNo w; len = 0; n = 0; m = 0 })

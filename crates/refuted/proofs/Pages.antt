@@ -40,8 +40,9 @@ use Rattle.join.specs.Work.{firstFrom, ringSteps, steps, spentOn, pageOpened}
 use Rattle.join.specs.Sheets.{walksOf, selfWalks}
 use Rattle.join.specs.Threshold.{foundFor, ringOpened, allWalked, walksFor, smaller}
 use Rattle.ring.specs.declared.Paged.{Paged}
-use Rattle.ring.specs.Lent.{need, bitsNo, wipedBy}
+use Rattle.ring.specs.Lent.{need, bitsNo, keptBy, wipedBy}
 use Rattle.ring.specs.Numbers.{sheetsNo, positionNo, filterNo}
+use Rattle.ring.specs.Answers.{filteredBits}
 use Rattle.ring.specs.Page.{keyNo, askedNo, pageNo, pageGiven, pageRefused, pageAnswer, pageBits}
 use Rattle.ring.specs.Partners.{idNo, leastNo, partnersNo, partnersCount, partnersGiven}
 use Rattle.refuted.proofs.Cases.{key, chambers, pumpSheet, chamberSheet, words, nothing, noForm}
@@ -175,6 +176,14 @@ allCleared ws = replicate (length ws) 0
 pub clears-all-wrong : (allCleared (9 ∷ 9 ∷ []) ≡ 0 ∷ 0 ∷ []) × (pageBits pumpSheet chamberSheet request (9 ∷ 9 ∷ []) ≡ 0 ∷ 9 ∷ [])
 unfolding pageBits wipedBy wiped pageNo answer keyNo sizeNo thresholdNo bitsNo wordsFor openNo bodyNo trailerNo first given countsOk within editionWord layoutOk rootWord pointsOk pointOk fieldsOk risesOk idWord coordWord before orderOk placeOk isBelow rankOf orderOf nodesOk tableOk nodeOk nodeRule runOk endOk isLast sameLevel dueOf dueNext tightOk tightSide best better minZ maxZ coordOf sideOf levelOf firstOf countOf eqZ num allB limitsOf form1
 clears-all-wrong = (refl, refl)
+
+-- A filter walk leaves zeros, as any other call does. "a filter walk leaves its kept set there": chamber 5 keeps both pump houses. [Y9]
+abbrev filterWiped : List ℕ → List ℕ
+filterWiped ws = wipedBy (filterNo pumpSheet chamberSheet 0 (length ws)) (need pumpSheet) ws
+
+pub filter-wiped-wrong : (filterWiped (9 ∷ 9 ∷ []) ≡ 0 ∷ 9 ∷ []) × (filteredBits pumpSheet chamberSheet 0 (9 ∷ 9 ∷ []) ≡ 3 ∷ 9 ∷ [])
+unfolding filteredBits keptBy wipedBy wiped filterNo positionNo answer bitsNo wordsFor openNo bodyNo trailerNo first given countsOk within editionWord layoutOk rootWord pointsOk pointOk fieldsOk risesOk idWord coordWord before orderOk placeOk isBelow rankOf orderOf nodesOk tableOk nodeOk nodeRule runOk endOk isLast sameLevel dueOf dueNext tightOk tightSide best better minZ maxZ coordOf sideOf levelOf firstOf countOf eqZ num allB limitsOf form1 filterKept filterVisit filterTake filterPlace consider dropped shut some walkAll walk inTurn none kept with bitAt digit boxOf spotOf blocks drops dropsBox sameSpot inBox
+filter-wiped-wrong = (refl, refl)
 
 -- ---- a chamber's partners
 
