@@ -28,6 +28,13 @@
  *   2      to 60,000   to 24,000   -1,000,000,000 to 1,000,000,000
  * The words are the same in both. P and Q may be of different forms in every call.
  *
+ * Profiles of lists: `grid`
+ *   - false, the circle: a record blocks a pair when it stands in or on the smallest circle around the two; a pair's size is the squared distance of the two.
+ *   - true, the street grid: distances are along the streets, |dx| + |dy|. A record x blocks a, b when the distance of 2x and a+b is at most that of a and b; a
+ *     pair's size is the square of the latter, at most 16,000,000,000,000. Sheets of form 1 only: 29 else.
+ *   In both a record at exactly the place of either end doesn't block. Pages, books and ring_pair_walk are of either profile, every other call of the circle.
+ *   Along the streets two sheets that hold assets may give no pair at all.
+ *
  * Words lent for kept sets: `bits`
  *   - A call that filters works on 64-bit words that the caller lends: at least RING_WORDS(n), where n is P's number of points (ring_open says it), of a self
  *     join its sheet's; ring_leaf_run 16 times as many. Where n is 0 none is needed.
@@ -57,7 +64,7 @@ typedef struct RingKey {
 } RingKey;
 
 /* A ring pair: a chamber's id and a pump house's, and its size, the squared distance of the two, which is the squared diameter of the circle on them: at most
- * 8,000,000,000,000,000,000. */
+ * 8,000,000,000,000,000,000. Of the street grid the squared distance along the streets: at most 16,000,000,000,000. */
 typedef struct RingPair {
     uint32_t q;
     uint32_t p;
@@ -65,10 +72,11 @@ typedef struct RingPair {
 } RingPair;
 
 /* What is asked of a list beside its points: the threshold, the list of all pairs where it is 0, and otherwise of the pairs of the chambers that have at least
- * so many; and the kind: `own` is set for the self join of one sheet, whose threshold is 0. */
+ * so many; the kind: `own` is set for the self join of one sheet, whose threshold is 0; and the profile: `grid` is set for the street grid. */
 typedef struct RingTerms {
     uint32_t threshold;
     bool own;
+    bool grid;
 } RingTerms;
 
 /* What list a page or a book is of: the editions of both sheets, and the terms. The edition of a self join's sheet stands twice. */
@@ -78,11 +86,12 @@ typedef struct RingSource {
     RingTerms terms;
 } RingSource;
 
-/* What a page request asks for: the pairs strictly after a key, how many of them, 1 to 16, and of which list. */
+/* What a page request asks for: the pairs strictly after a key, how many of them, 1 to 16, and of which list: its threshold and its profile. */
 typedef struct RingRequest {
     RingKey key;
     size_t size;
     uint32_t threshold;
+    bool grid;
 } RingRequest;
 
 /* One page of a list. Of `pairs` the first `count` are used, the others are three zeros. `end` is set exactly when no pair follows the last one shown, or
@@ -139,7 +148,8 @@ enum { RING_LEFT = 0, RING_BOTTOM = 1, RING_RIGHT = 2, RING_TOP = 3 };
 
 /* The answer of ring_pair_walk. RING_CLEAR: no other record blocks the pair; set, side and at are 0. RING_BY_POINT: the record at position `at` of the set
  * blocks it; side is 0. RING_BY_SIDE: `side` of the box of node `at` of the set does, the first of left, bottom, right, top both of whose corners lie strictly
- * inside the circle. `opened` is how many nodes were opened, in both sheets. */
+ * inside: inside the circle, or of the street grid nearer to the middle than the ends are, along the streets. `opened` is how many nodes were opened, in both
+ * sheets. */
 typedef struct RingWalked {
     uint32_t number;
     uint32_t kind;
@@ -245,31 +255,35 @@ RingPoint ring_point(const int32_t *words, size_t len, size_t position);
  * Refused  1 to 8 for P, then 1 to 8 for Q, then 9 where j is not below Q's n, then 24 where fewer words are lent; no lent word is written. */
 RingFiltered ring_filter_walk(const int32_t *p, size_t p_len, const int32_t *q, size_t q_len, size_t j, uint64_t *bits, size_t bits_len);
 
-/* The ring walk: whether the chamber at position j of Q and the pump house at position i of P are a ring pair, or what blocks them. Q is walked first,
- * then P if Q is clear.
- * Input    both sheets, a position of Q and a position of P. The words are only read.
+/* The ring walk: whether the chamber at position j of Q and the pump house at position i of P are a ring pair of a profile, or what blocks them. Q is walked
+ * first, then P if Q is clear.
+ * Input    both sheets, a position of Q and a position of P, and the profile: `grid` is set for the street grid. The words are only read.
  * Answer   clear, or the first that blocks, and the nodes opened.
- * Refused  1 to 8 for P, then 1 to 8 for Q, then 9 where j is not below Q's n or i is not below P's. */
-RingWalked ring_pair_walk(const int32_t *p, size_t p_len, const int32_t *q, size_t q_len, size_t j, size_t i);
+ * Refused  1 to 8 for P, then 1 to 8 for Q, then 29 where `grid` is set and a sheet is of form 2, then 9 where j is not below Q's n or i is not below P's. */
+RingWalked ring_pair_walk(const int32_t *p, size_t p_len, const int32_t *q, size_t q_len, size_t j, size_t i, bool grid);
 
 /* The first `size` ring pairs strictly after a key, of the list of the threshold: all pairs where it is 0, and otherwise those of the chambers that have at
  * least so many. The key need not be a listed pair.
- * Input    both sheets, and a request: a key, a size 1 to 16, and a threshold 0 to 60,000. The sheets' words are only read.
+ * Input    both sheets, and a request: a key, a size 1 to 16, a threshold 0 to 60,000, and the profile. The sheets' words are only read.
  * Lent     bits: RING_WORDS(P's n) words or more. After an answer the first so many are 0; those past them are not written.
- * Answer   the page: both editions and the threshold, the key, the pairs in the list's order, their number, the end mark. With a threshold above 0 the nodes
- *          opened are those of all kept partners of each chamber reached.
- * Refused  1 to 8 for P, then 1 to 8 for Q, then 9 where an id of the key is over 2,000,000,000, then 10 where the size is not 1 to 16, then 21, then 24 where
- *          fewer words are lent; no lent word is written. */
+ * Answer   the page: both editions, the threshold and the profile, the key, the pairs in the list's order, their number, the end mark. With a threshold above 0
+ *          the nodes opened are those of all kept partners of each chamber reached.
+ * Cost     of the circle a filter walk for each chamber reached, and a ring walk for each partner that it keeps. Of the street grid nothing is filtered: every
+ *          pump house of each chamber reached is ring-walked, and the nodes opened are those of the ring walks alone.
+ * Refused  1 to 8 for P, then 1 to 8 for Q, then 29 where `grid` is set and a sheet is of form 2, then 9 where an id of the key is over 2,000,000,000, then 10
+ *          where the size is not 1 to 16, then 21, then 24 where fewer words are lent; no lent word is written. */
 RingPaged ring_page(const int32_t *p, size_t p_len, const int32_t *q, size_t q_len, RingRequest request, uint64_t *bits, size_t bits_len);
 
 /* The self join of one sheet: the first `size` pairs strictly after a key. Its list has two different records of the sheet exactly if no other record of it
  * blocks them, each pair once, by the lower id, then the higher: in a pair q is the lower id, p the higher.
- * Input    the sheet, a key and a size 1 to 16. The sheet's words are only read.
+ * Input    the sheet, a key, a size 1 to 16, and the profile: `grid` is set for the street grid. The sheet's words are only read.
  * Lent     bits: RING_WORDS(the sheet's n) words or more. After an answer the first so many are 0; those past them are not written.
- * Answer   the page: the edition twice, the threshold 0, the kind, the key, the pairs in the list's order, their number, the end mark; and the nodes opened.
- * Refused  1 to 8, then 9 where an id of the key is over 2,000,000,000, then 10 where the size is not 1 to 16, then 24 where fewer words are lent; no lent word
- *          is written. */
-RingPaged ring_own_page(const int32_t *words, size_t words_len, RingKey key, size_t size, uint64_t *bits, size_t bits_len);
+ * Answer   the page: the edition twice, the threshold 0, the kind, the profile, the key, the pairs in the list's order, their number, the end mark; and the
+ *          nodes opened.
+ * Cost     as of ring_page: along the streets every record of higher id is ring-walked for each one reached.
+ * Refused  1 to 8, then 29 where `grid` is set and the sheet is of form 2, then 9 where an id of the key is over 2,000,000,000, then 10 where the size is not
+ *          1 to 16, then 24 where fewer words are lent; no lent word is written. */
+RingPaged ring_own_page(const int32_t *words, size_t words_len, RingKey key, size_t size, bool grid, uint64_t *bits, size_t bits_len);
 
 /* Whether the chamber with this id has at least t ring partners.
  * Input    both sheets, the id of a chamber, and a t from 1 to 60,000. The sheets' words are only read.
@@ -304,8 +318,8 @@ RingFound ring_nearest(const int32_t *p, size_t p_len, const int32_t *q, size_t 
 RingFiltered ring_near_filter(const int32_t *p, size_t p_len, const int32_t *q, size_t q_len, uint32_t id, uint64_t *waiting, size_t waiting_len,
                               uint64_t *bits, size_t bits_len);
 
-/* Begins a book of the list of two editions and a threshold, or of a self join: nothing held, open.
- * Input    two editions, each 1 to 1,000,000,000, and a threshold 0 to 60,000; for a self join one edition in both fields, and the threshold 0.
+/* Begins a book of the list of two editions and a threshold, or of a self join, of either profile: nothing held, open.
+ * Input    two editions, each 1 to 1,000,000,000, and a threshold 0 to 60,000; for a self join one edition in both fields, and the threshold 0; the profile.
  * Answer   the book. A book begun again starts from nothing.
  * Refused  3, then 21. */
 RingBegun ring_book_begin(RingSource source);
@@ -321,10 +335,10 @@ RingNext ring_book_next_key(RingBook book, const RingPair *slots, size_t slots_l
  * Input    the book, and a page.
  * Lent     slots: those of the book. Slots that were held before, and slots past those held after, are not written.
  * Answer   0 and the book from now on.
- * Refused  11 the book holds more than there are slots; 12 it is closed; 22 the page is of the other kind; 13 it is of other editions; 31 it is of another
- *          threshold; 14 its key is not the book's next key;
- *          15 it has over 16 pairs, an id outside 1 to 2,000,000,000, a size over 8,000,000,000,000,000,000, pairs not ascending strictly after the key, or no
- *          pair and no end mark;
+ * Refused  11 the book holds more than there are slots; 12 it is closed; 22 the page is of the other kind; 30 it is of the other profile; 13 it is of other
+ *          editions; 31 it is of another threshold; 14 its key is not the book's next key;
+ *          15 it has over 16 pairs, an id outside 1 to 2,000,000,000, a size over 8,000,000,000,000,000,000, of the street grid over 16,000,000,000,000,
+ *          pairs not ascending strictly after the key, or no pair and no end mark;
  *          16 it has more pairs than slots are left. In this order, and no slot is written. */
 RingTaken ring_book_take(RingBook book, RingPair *slots, size_t slots_len, RingPage page);
 
@@ -360,8 +374,8 @@ RingRun ring_leaf_run(const int32_t *p, size_t p_len, const int32_t *q, size_t q
  *   12  book closed (ring_book_take)
  *   13  page of other editions (ring_book_take)
  *   14  page key is not the book's next key (ring_book_take)
- *   15  over 16 pairs; an id outside 1 to 2,000,000,000; a size over 8,000,000,000,000,000,000; pairs not ascending strictly after the key; no pair and no
- *       end mark (ring_book_take)
+ *   15  over 16 pairs; an id outside 1 to 2,000,000,000; a size over 8,000,000,000,000,000,000, of the street grid over 16,000,000,000,000; pairs not
+ *       ascending strictly after the key; no pair and no end mark (ring_book_take)
  *   16  more pairs than slots left (ring_book_take); more pairs than slots (ring_leaf_run)
  *   17  lent output not exactly the sheet's length (ring_pack)
  *   18  point words not 3n, or order list not n long (ring_pack)
@@ -372,6 +386,8 @@ RingRun ring_leaf_run(const int32_t *p, size_t p_len, const int32_t *q, size_t q
  *   24  fewer words lent than the points need (ring_filter_walk, ring_page, ring_own_page, ring_partners, ring_shortest, ring_near_filter), or than
  *       16 times so many (ring_leaf_run)
  *   25  fewer numbers lent than P has points and nodes (ring_nearest, ring_near_filter)
+ *   29  form 2 with `grid` set (ring_pair_walk, ring_page, ring_own_page)
+ *   30  page of the other profile (ring_book_take)
  *   31  page of another threshold (ring_book_take)
  */
 

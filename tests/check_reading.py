@@ -59,6 +59,61 @@ def examples():
     assert reading.near_filter_call(P, Q, 6, [7, 7, 7], [7, 7]) == (0, [1], 1, [0, 0, 0], [2, 7])
 
 
+# request 12: the pair a, b and another point x, how far 2x is from a + b, how far a is from b, and whether x blocks
+STREET_BLOCKING = [
+    # on the border two block; one beyond it doesn't; nor does another record at an end's place
+    ((0, 0), (4, 0), (2, 2), 4, 4, True),
+    ((0, 0), (4, 0), (3, 1), 4, 4, True),
+    ((0, 0), (4, 0), (2, 3), 6, 4, False),
+    ((0, 0), (4, 0), (0, 0), 4, 4, False),
+    ((0, 0), (4, 0), (4, 0), 4, 4, False),
+    # halves count
+    ((0, 0), (1, 0), (1, 1), 3, 1, False),
+    # each of two pump houses blocks the other's pair
+    ((0, 0), (4, 4), (5, 3), 8, 8, True),
+    ((0, 0), (5, 3), (4, 4), 8, 8, True),
+]
+# a box for the pair (0, 0), (4, 0): whether it is skipped, and the side that blocks
+STREET_ENTERING = [
+    ((2, 2, 5, 5), False, None),
+    ((4, 1, 6, 6), True, None),
+    ((0, 0, 0, 0), False, None),
+    ((1, 0, 9, 1), False, None),
+    ((2, 0, 9, 1), False, 0),
+]
+
+
+def street_examples():
+    for a, b, x, doubled, apart, blocked in STREET_BLOCKING:
+        assert reading.from_middle(a, b, x) == doubled and reading.along_streets(a, b) == apart and reading.street_blocks(a, b, x) == blocked
+    a, b = (0, 0), (4, 0)
+    for box, skipped, side in STREET_ENTERING:
+        assert reading.street_far(a, b, box) == skipped and reading.side_inside(a, b, box, True) == side
+    assert (reading.street_size((0, 0), (3, 4)), reading.squared((0, 0), (3, 4))) == (49, 25)
+    # two sheets that hold assets, and no visit along the streets; the circle gives one
+    p, q = reading.pack([(1, 4, 4), (2, 5, 3)], [0, 1], 7), reading.pack([(5, 0, 0)], [0], 9)
+    both = reading.Sheet(p).points, reading.Sheet(q).points
+    assert reading.ring_list(*both, True) == [] and reading.ring_list(*both) == [(5, 1, 32)]
+    number, page, opened, _ = reading.page_call(p, q, (0, 0), 16, grid=True)
+    assert (number, page.pairs, page.end, page.grid, opened) == (0, [], True, True, 4)
+    # the listing along the streets, and with a form 2 sheet: 29 comes after 8 and before 9
+    listed = reading.ring_list(reading.Sheet(P).points, reading.Sheet(Q).points, True)
+    assert listed == [(5, 1, 16), (5, 2, 36), (6, 2, 49)]
+    for p, q in ((P[:-1] + [2], Q), (P, Q[:-1] + [2]), (P[:-1] + [2], Q[:-1] + [2])):
+        assert reading.page_call(p, q, (reading.ID + 1, 0), 0, reading.THRESHOLD + 1, None, [], True)[0] == 29 and reading.page_call(p, q, (0, 0), 16)[0] == 0
+        assert reading.ring_call(p, q, 9, 9, True)[0] == 29 and reading.ring_call(p, q, 9, 9)[0] == 9
+    assert reading.own_call(P[:-1] + [2], (reading.ID + 1, 0), 0, None, [], True)[0] == 29 and reading.own_call(P[:-1] + [3], (0, 0), 1, grid=True)[0] == 2
+
+
+def streets_turned(rng):
+    """Along the streets x blocks where neither of its turned coordinates, x + y and x - y, is farther from the middle than half the distance of the two."""
+    for _ in range(4000):
+        a, b, x = [(rng.randint(-5, 5), rng.randint(-5, 5)) for _ in range(3)]
+        turned = [abs(2 * (x[0] + sign * x[1]) - (a[0] + sign * a[1]) - (b[0] + sign * b[1])) for sign in (1, -1)]
+        apart = max(abs((a[0] + sign * a[1]) - (b[0] + sign * b[1])) for sign in (1, -1))
+        assert reading.street_blocks(a, b, x) == (max(turned) <= apart and x != a and x != b)
+
+
 def one_corner_is_enough(rng):
     """Of a box the corner farthest along the way from the kept point to q decides for all four."""
     for _ in range(2000):
@@ -69,7 +124,7 @@ def one_corner_is_enough(rng):
 
 
 def walks_mean_the_rule(p_words, q_words):
-    """A pair is clear exactly if it is a ring pair, and is kept then; no walk of one sheet opens more than m nodes."""
+    """A pair is clear exactly if it is a ring pair, in either profile, and of the circle is kept then; no walk of one sheet opens more than m nodes."""
     p, q = reading.Sheet(p_words), reading.Sheet(q_words)
     for j in range(q.n):
         kept, _ = reading.filter_walk(p, q.place(j))
@@ -78,6 +133,8 @@ def walks_mean_the_rule(p_words, q_words):
             ring = reading.is_ring_pair(p.points, q.points, j, i)
             assert ring == (answer == reading.CLEAR)
             assert i in kept or not ring
+            answer, _ = reading.pair_walk(p, q, j, i, True)
+            assert reading.is_ring_pair(p.points, q.points, j, i, True) == (answer == reading.CLEAR)
 
 
 def nearest_are_listed(p_words, q_words):
@@ -98,6 +155,9 @@ def self_join_is_its_list(words):
         kept, opened = reading.filter_walk(sheet, sheet.place(j))
         assert reading.self_filter(sheet, j) == ([i for i in kept if i != j], opened) and j in kept
     assert reading.self_opened(sheet, (0, 0), len(listed))[1] == listed
+    listed = reading.self_list(sheet.points, True)
+    assert listed == [pair for pair in reading.ring_list(sheet.points, sheet.points, True) if pair[0] < pair[1]]
+    assert reading.self_opened(sheet, (0, 0), len(listed), True)[1] == listed
 
 
 def runs_are_the_list(p_words, q_words):
@@ -110,53 +170,57 @@ def runs_are_the_list(p_words, q_words):
     return runs
 
 
-def book_of_lost_pages(rng, pairs, t):
-    """Pages lost, repeated and late: the book holds the first so many pairs, and all of them once it is closed."""
+def book_of_lost_pages(rng, pairs, t, grid):
+    """Pages lost, repeated and late, and of the other profile: the book holds the first so many pairs, and all of them once it is closed."""
     editions = (3, 4)
-    _, book = reading.begin(editions, t)
+    _, book = reading.begin(editions, t, False, grid)
     full, pairs = pairs, reading.list_of(pairs, t)
     slots, made = [(9, 9, 9)] * len(pairs), []
     for _ in range(400):
         key = reading.next_key(book, slots)[1] if rng.random() < 0.7 else reading.key_of(rng.choice(full + [reading.UNUSED]))
-        made.append(reading.page_of(full, editions, key, rng.randint(1, 16), rng.choice([t, t, t, t, t + 1])))
+        made.append(reading.page_of(full, editions, key, rng.randint(1, 16), rng.choice([t, t, t, t, t + 1]), False, grid != (rng.random() < 0.1)))
         page = rng.choice(made[-3:])
         before = (book.held, book.closed, list(slots))
         number = reading.take(book, slots, page)
-        assert number in (0, 12, 31, 14) and (number == 0 or before == (book.held, book.closed, slots))
+        assert number in (0, 12, 30, 31, 14) and (number == 0 or before == (book.held, book.closed, slots))
         assert slots[:book.held] == pairs[:book.held] and slots[book.held:] == [(9, 9, 9)] * (len(pairs) - book.held)
         assert not book.closed or book.held == len(pairs)
     assert book.closed
 
 
-def taken(rules, pairs, count, unused):
+def taken(rules, pairs, count, unused, grid=False):
     """The number by which an empty book takes a page of these pairs, with others behind those that it counts."""
-    _, book = rules.begin((3, 4))
+    _, book = rules.begin((3, 4), 0, False, grid)
     slots = [(9, 9, 9)] * 20
-    number = rules.take(book, slots, rules.Page((3, 4), (0, 0), pairs + unused, True), count)
+    number = rules.take(book, slots, rules.Page((3, 4), (0, 0), pairs + unused, True, 0, False, grid), count)
     return number, book.held, slots[:2]
 
 
-def begun(rules, editions, t, own=False):
-    """The number of begin."""
-    return rules.begin(editions, t, own)[0]
+def begun(rules, editions, t, own=False, grid=False):
+    """The number of begin, and the profile of the book."""
+    number, book = rules.begin(editions, t, own, grid)
+    return number, book.grid if book else None
 
 
-def taken_of(rules, editions, t, key, own=False):
-    """The number by which an empty book of editions (3, 4) and t 2 takes a page of others."""
-    _, book = rules.begin((3, 4), 2)
-    return rules.take(book, [(9, 9, 9)] * 3, rules.Page(editions, key, [(5, 1, 4)], True, t, own))
+def taken_of(rules, editions, t, key, own=False, grid=False, of_grid=False):
+    """The number by which an empty book of editions (3, 4) and t 2, of either profile, takes a page of others."""
+    _, book = rules.begin((3, 4), 2, False, of_grid)
+    return rules.take(book, [(9, 9, 9)] * 3, rules.Page(editions, key, [(5, 1, 4)], True, t, own, grid))
 
 
-def taken_alone(rules, editions, own, closed):
+def taken_alone(rules, editions, own, closed, grid=False, of_grid=False):
     """The number by which a book of a self join, open or closed, takes a page."""
-    _, book = rules.begin((3, 3), 0, True)
+    _, book = rules.begin((3, 3), 0, True, of_grid)
     book.closed = closed
-    return rules.take(book, [(9, 9, 9)] * 3, rules.Page(editions, (0, 0), [(1, 5, 4)], True, 0, own))
+    return rules.take(book, [(9, 9, 9)] * 3, rules.Page(editions, (0, 0), [(1, 5, 4)], True, 0, own, grid))
+
+
+PROFILES = [(grid, of_grid) for grid in (False, True) for of_grid in (False, True)]
 
 
 def book():
     """Pages at the bounds of number 15, and what a book must answer: cases for the wrong readings of it."""
-    most = reading.DIAMETER
+    most, streets = reading.DIAMETER, reading.STREETS
     asked = [(taken, [(5, 1, size)], 1, []) for size in (0, 1, most - 1, most, most + 1, 2 * most, 2 ** 64 - 1)]
     asked += [(taken, [(5, 1, 0), (5, 2, size)], 2, []) for size in (most, most + 1)]
     asked += [(taken, [(5, 1, 4)], 1, [(5, 2, most + 1)])]
@@ -167,15 +231,27 @@ def book():
     asked += [(begun, editions, t, True) for editions in ((3, 3), (3, 4), (4, 3), (0, 0), (0, 3), (reading.EDITION + 1,) * 2) for t in (0, 1, reading.THRESHOLD, reading.THRESHOLD + 1)]
     asked += [(taken_of, editions, t, key, True) for editions in ((3, 4), (3, 5)) for t in (2, 3) for key in ((0, 0), (5, 0))]
     asked += [(taken_alone, editions, own, closed) for editions in ((3, 3), (3, 4)) for own in (False, True) for closed in (False, True)]
+    # of the street grid: its own limit, and that of the circle no longer; the profile of a page against that of the book, beside every other number
+    of_streets = [(taken, [(5, 1, size)], 1, [], True) for size in (0, 1, streets - 1, streets, streets + 1, most, most + 1)]
+    of_streets += [(taken, [(5, 1, 0), (5, 2, size)], 2, [], True) for size in (streets, streets + 1)] + [(taken, [(5, 1, 4)], 1, [(5, 2, streets + 1)], True)]
+    asked += [(taken, [(5, 1, size)], 1, []) for size in (streets - 1, streets, streets + 1)]
+    for own in (False, True):
+        for both in PROFILES:
+            asked += [(taken_of, editions, t, key, own) + both for editions in ((3, 4), (3, 5)) for t in (2, 3) for key in ((0, 0), (5, 0))]
+            asked += [(taken_alone, editions, own, closed) + both for editions in ((3, 3), (3, 4)) for closed in (False, True)]
+        asked += [(begun, editions, t, own, True) for editions in ((3, 3), (3, 4), (0, 3)) for t in (0, 1, reading.THRESHOLD, reading.THRESHOLD + 1)]
+    asked = of_streets + asked
     lines = [ask(reading, *given) for ask, *given in asked]
-    assert [line[0] for line in lines[:10]] == [0, 0, 0, 0, 15, 15, 15, 0, 15, 0]
+    assert [line[0] for line in lines[:20]] == [0, 0, 0, 0, 15, 15, 15, 0, 15, 0, 0, 0, 0, 0, 15, 15, 15, 0, 15, 0]
     return types.SimpleNamespace(name="the book", asked=asked, lines=lines)
 
 
 def main():
     examples()
+    street_examples()
     book()
     one_corner_is_enough(Chance("corners"))
+    streets_turned(Chance("streets"))
     rng = Chance("reading")
     for k in range(60):
         places = towns.PLACES[k % len(towns.PLACES)]
@@ -187,4 +263,5 @@ def main():
     for count in (0, 1, 16, 40):
         keys = sorted({(rng.randint(1, 9), rng.randint(1, 40)) for _ in range(count)})
         for t in (0, 1, 2, 5, 40):
-            book_of_lost_pages(rng, [key + (rng.randint(0, reading.DIAMETER),) for key in keys], t)
+            for grid, most in ((False, reading.DIAMETER), (True, reading.STREETS)):
+                book_of_lost_pages(rng, [key + (rng.randint(0, most),) for key in keys], t, grid)

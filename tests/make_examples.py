@@ -1,5 +1,5 @@
-"""The part `examples` of the tape: the checked examples of document 01. Its rules on places and boxes stand in the program, and are a case of no arguments; its
-walks of small sheets and the pages of its two sheets are cases as those of the parts `walks` and `pages`."""
+"""The part `examples` of the tape: the checked examples of document 01. Its rules on places and boxes stand in the program, and are a case of no arguments, with
+some examples of the street grid after them; its walks of small sheets and the pages of its two sheets are cases as those of the parts `walks` and `pages`."""
 from make_listing_cases import P, Q
 from make_pages import Pages
 from make_walks import Walks
@@ -20,6 +20,21 @@ SAID = [
     "box rules (0,0) (4,0) box (0,0) (0,0) 16 0 against 16 opened",
     "box rules (0,0) (4,0) box (2,2) (5,5) 0 16 against 16 opened",
     "box rules (0,0) (4,0) box (4,1) (6,6) 16 4 against 16 skipped",
+    # request 12, as the table of crates/plane says
+    "street rule (0,0) (4,0) (2,2) blocks",
+    "street rule (0,0) (4,0) (3,1) blocks",
+    "street rule (0,0) (4,0) (2,3) does not block",
+    "street rule (0,0) (4,0) (0,0) does not block",
+    "street rule (0,0) (4,0) (4,0) does not block",
+    "street rule (0,0) (1,0) (1,1) does not block",
+    "street rule (0,0) (4,4) (5,3) blocks",
+    "street rule (0,0) (5,3) (4,4) blocks",
+    "street boxes (0,0) (4,0) box (2,2) (5,5) opened",
+    "street boxes (0,0) (4,0) box (4,1) (6,6) skipped",
+    "street boxes (0,0) (4,0) box (0,0) (0,0) opened",
+    "street boxes (0,0) (4,0) box (1,0) (9,1) opened",
+    "street boxes (0,0) (4,0) box (2,0) (9,1) blocks by side 0",
+    "street size (0,0) (3,4) 49",
 ]
 
 # one record; one beside it; two on its spot
@@ -60,4 +75,6 @@ def cases():
     out.join(walks("small sheets", (KEPT, CHAMBER, [0], []), (SIDE, CHAMBER, [], [(0, 1)]), (KEPT, CHAMBER, [], [(0, 0), (0, 1), (0, 3)])))
     out.join(pages("the listing", (P, Q, [(0, 0, 16), (0, 0, 2), (5, 2, 2), (6, 2, 2), (5, 3, 2), (5, 3, 17)])))
     out.join(walks("the listing", (P, Q, [], [(0, 0), (0, 1), (1, 0), (1, 1)])))
+    out.join(pages("the listing along the streets", (P, Q, [(0, 0, 16, 0, 1), (0, 0, 2, 0, 1), (5, 2, 2, 0, 1)])))
+    out.join(walks("the listing along the streets", (P, Q, [], [(0, 0, 1), (0, 1, 1), (1, 0, 1), (1, 1, 1)])))
     return out

@@ -2,10 +2,11 @@
 at least t partners; and page requests of self joins, of one sheet each.
 
 A case, in words: its kind, the lengths of P's and Q's sheet, the number of requests, P's words, Q's words, and for each request the number of words lent, the
-key's q id and p id, the size and the threshold; for each question the words lent, a q id and a t; of a self join the length of one sheet, 0, the number of
-requests, its words, and for each request the words lent, the key and the size. A negative word stands for the largest number that a call can be given. A line
-has the request, its number of refusal, the nodes opened, and the page whole: both editions, the threshold, the kind, the key, the number of pairs, the end mark,
-sixteen pairs with their sizes; or the question, its number of refusal, the count and the yes; then what the words hold that were marked before.
+key's q id and p id, the size, the threshold and the profile, 0 for the circle and 1 for the street grid; for each question the words lent, a q id and a t; of a
+self join the length of one sheet, 0, the number of requests, its words, and for each request the words lent, the key, the size and the profile. A negative word
+stands for the largest number that a call can be given. A line has the request, its number of refusal, the nodes opened, and the page whole: both editions, the
+threshold, the kind, the profile, the key, the number of pairs, the end mark, sixteen pairs with their sizes; or the question, its number of refusal, the count
+and the yes; then what the words hold that were marked before.
 """
 import collections
 
@@ -24,16 +25,17 @@ def fields(rules, lent, number, page, opened, after):
     if number:
         page = rules.Page((0, 0), (0, 0), [], False)
     shown = page.pairs + [rules.UNUSED] * (16 - len(page.pairs))
-    words = [number, opened, *page.editions, page.t, int(page.own), *page.key, len(page.pairs), int(page.end)] + [word for pair in shown for word in pair]
+    said = [page.t, int(page.own), int(page.grid)]
+    words = [number, opened, *page.editions, *said, *page.key, len(page.pairs), int(page.end)] + [word for pair in shown for word in pair]
     return " ".join(map(str, words)) + lent_told(lent, after)
 
 
-def page_line(rules, p, q, key, size, t, listed, lent):
-    return "page %d %d %d %d: %s" % (key + (size, t, fields(rules, lent, *rules.page_call(p, q, key, size, t, listed, marks(lent)))))
+def page_line(rules, p, q, key, size, t, grid, listed, lent):
+    return "page %d %d %d %d %d: %s" % (key + (size, t, grid, fields(rules, lent, *rules.page_call(p, q, key, size, t, listed, marks(lent), bool(grid)))))
 
 
-def own_line(rules, words, key, size, listed, lent):
-    return "own %d %d %d: %s" % (key + (size, fields(rules, lent, *rules.own_call(words, key, size, listed, marks(lent)))))
+def own_line(rules, words, key, size, grid, listed, lent):
+    return "own %d %d %d %d: %s" % (key + (size, grid, fields(rules, lent, *rules.own_call(words, key, size, listed, marks(lent), bool(grid)))))
 
 
 def partners_line(rules, p, q, q_id, t, listed, lent):
@@ -46,34 +48,39 @@ class Pages(Asked):
     kind = PAGES
 
     def add(self, label, p, q, requests, listed=None, lent=None):
-        requests = [(n,) + request + (0,) * (4 - len(request)) for n, request in zip(lent or by_turns(p, len(requests)), requests)]
+        requests = [(n,) + request + (0,) * (5 - len(request)) for n, request in zip(lent or by_turns(p, len(requests)), requests)]
         asked = []
-        for n, key_q, key_p, size, t in requests:
+        for n, key_q, key_p, size, t, grid in requests:
             key_q, key_p, t = (LARGEST_ID if word < 0 else word for word in (key_q, key_p, t))
-            asked.append((page_line, p, q, (key_q, key_p), LARGEST if size < 0 else size, t, listed, n))
+            asked.append((page_line, p, q, (key_q, key_p), LARGEST if size < 0 else size, t, grid, listed, n))
         for line in self.put(label, p, q, requests, asked):
-            size, t = map(int, line.split(":")[0].split()[3:5])
-            number, _, _, _, _, _, _, _, count, end = map(int, line.split(": ")[1].split()[:10])
-            self.seen[number] += 1
-            if not number:
+            size, t, grid = map(int, line.split(":")[0].split()[3:6])
+            number, _, _, _, _, _, _, _, _, count, end = map(int, line.split(": ")[1].split()[:11])
+            self.seen[("grid", number) if grid else number] += 1
+            if not number and grid:
+                self.seen["grid end mark" if end else "grid no end mark"] += 1
+                self.seen["grid empty page"] += end and count == 0
+                self.seen["grid page of a t"] += t > 0 and count > 0
+            elif not number:
                 self.seen["end mark" if end else "no end mark"] += 1
                 self.seen["full last page"] += end and count == size
                 self.seen["empty page"] += end and count == 0
                 self.seen["page of a t"] += t > 0 and count > 0
 
     def own(self, label, sheet, requests, listed=None, lent=None):
-        requests = [(n,) + request for n, request in zip(lent or by_turns(sheet, len(requests)), requests)]
+        requests = [(n,) + request + (0,) * (4 - len(request)) for n, request in zip(lent or by_turns(sheet, len(requests)), requests)]
         asked = []
-        for n, key_q, key_p, size in requests:
+        for n, key_q, key_p, size, grid in requests:
             key = tuple(LARGEST_ID if word < 0 else word for word in (key_q, key_p))
-            asked.append((own_line, sheet, key, LARGEST if size < 0 else size, listed, n))
+            asked.append((own_line, sheet, key, LARGEST if size < 0 else size, grid, listed, n))
         for line in self.put(label, sheet, [], requests, asked, kind=OWN):
-            size = int(line.split(":")[0].split()[3])
-            number, _, _, _, _, _, _, _, count, end = map(int, line.split(": ")[1].split()[:10])
-            self.seen["own", number] += 1
+            size, grid = map(int, line.split(":")[0].split()[3:5])
+            number, _, _, _, _, _, _, _, _, count, end = map(int, line.split(": ")[1].split()[:11])
+            own = "grid own" if grid else "own"
+            self.seen[own, number] += 1
             if not number:
-                self.seen["own full last page"] += end and count == size
-                self.seen["own page amid"] += not end
+                self.seen[own + " full last page"] += end and count == size
+                self.seen[own + " page amid"] += not end
 
     def ask(self, label, p, q, questions, listed=None, lent=None):
         questions = [(n,) + question for n, question in zip(lent or by_turns(p, len(questions)), questions)]
@@ -331,6 +338,110 @@ def words_lent(out, rng):
     out.add("no point in Q, words lent", some, empty, [(0, 0, 16)] * 3, [], [0, 1, 2])
 
 
+def on_streets(requests):
+    """The same requests, with their thresholds, of the street grid."""
+    return [request[:4] + (1,) for request in requests]
+
+
+def street_listing(out):
+    """The listing's sheets, and an empty list of two sheets that are not: two pump houses, each of which blocks the other's pair with the one chamber."""
+    p = [1, 0, 0, 2, 10, 0, 0, 1, 0, 1, 0, 0, 2, 0, 0, 10, 0, 17, 7, 2, 1, 7, 1]
+    q = [5, 4, 0, 6, 16, 1, 0, 1, 0, 1, 0, 0, 2, 4, 0, 16, 1, 17, 7, 2, 1, 9, 1]
+    listed = reading.ring_list(reading.Sheet(p).points, reading.Sheet(q).points, True)
+    assert listed == [(5, 1, 16), (5, 2, 36), (6, 2, 49)]
+    requests = [(0, 0, 2, 0), (5, 2, 2, 0), (6, 2, 2, 0), (5, 3, 2, 0), (0, 0, 16, 1), (0, 0, 16, 2), (0, 0, 16, 3)]
+    out.add("the listing along the streets", p, q, on_streets(requests + [ask + (0,) for ask in ENDS + OUTSIDE] + T_OUTSIDE), listed)
+    p, q = reading.pack([(1, 4, 4), (2, 5, 3)], [0, 1], 7), reading.pack([(5, 0, 0)], [0], 9)
+    for one, other in ((p, q), (q, p)):
+        assert reading.page_call(one, other, (0, 0), 16, grid=True)[1].pairs == []
+        assert len(reading.page_call(one, other, (0, 0), 16)[1].pairs) == 1
+        out.add("no visit along the streets", one, other, on_streets([(0, 0, 16, 0), (5, 1, 1, 0), (0, 0, 16, 1)]) + [(0, 0, 16)])
+    far = reading.COORDINATE
+    for one, other, size in (((-far, -far), (far, far), 16 * far * far), ((far, -far), (-far, far), 16 * far * far), ((far, far), (far, far), 0),
+                             ((-far, far), (far, 1 - far), (4 * far - 1) ** 2), ((-far, 0), (far, 0), 4 * far * far), ((3, 4), (4, 4), 1), ((0, 0), (3, 4), 49)):
+        p, q = reading.pack([(8,) + one], [0], 3), reading.pack([(9,) + other], [0], 4)
+        assert reading.ring_list(reading.Sheet(p).points, reading.Sheet(q).points, True) == [(9, 8, size)] and size <= reading.STREETS
+        out.add("one pair along the streets, size %d" % size, p, q, on_streets([(0, 0, 1, 0), (9, 7, 1, 0), (9, 8, 1, 0), (0, 0, 16, 1)]))
+
+
+def street_pages(out, rng):
+    """Lists of the street grid followed, from any key, and of each t; self joins likewise. Some with the list handed in, and some with it made anew."""
+    for k in range(72):
+        places = towns.STREET_PLACES[k % len(towns.STREET_PLACES)]
+        most = 30 if k % 12 == 0 else 10
+        p, q = towns.sheet(rng, places, rng.randint(1, most))[1], towns.sheet(rng, places, rng.randint(1, most))[1]
+        houses, chambers = reading.Sheet(p), reading.Sheet(q)
+        listed = reading.ring_list(houses.points, chambers.points, True)
+        many = collections.Counter(pair[0] for pair in listed)
+        requests = followed(rng, listed, [1, 2, 3, 16] if k % 3 else [1, 15])
+        requests += [key + (0,) for key in some_keys(rng, houses, chambers, listed, 3)] + [ask + (0,) for ask in rng.sample(ENDS, 1)]
+        for t in rng.sample(sorted({1, 2, max(many.values(), default=3), max(many.values(), default=3) + 1}), 2):
+            requests += followed(rng, listed, [2, 3, 16], t) + [key + (t,) for key in some_keys(rng, houses, chambers, listed, 2)]
+        out.add("%s, along the streets" % places.__name__, p, q, on_streets(requests) + [(0, 0, 16, 0, 0)], None)
+        listed = reading.self_list(houses.points, True)
+        asked = [request[:3] for request in followed(rng, listed, [1, 2, 3, 16])] + some_keys(rng, houses, houses, listed, 3)
+        out.own("%s, one sheet along the streets" % places.__name__, p, [ask + (1,) for ask in asked], None)
+
+
+def street_refused(out, rng):
+    """29 after the sheets' numbers and before the key, the size, the threshold and the words, for P, for Q and for both; and every other number as of the circle."""
+    asked = [(0, 0, 1, 0), (PAST, 0, 1, 0), (0, -1, 1, 0), (0, 0, 0, 0), (PAST, 0, 0, 60001), (0, 0, 1, 60001), (0, 0, 16, 2)]
+    for p, q in towns.too_wide(rng):
+        assert reading.page_call(p, q, (PAST, 0), 0, grid=True)[0] == 29 and reading.page_call(p, q, (0, 0), 1)[0] == 0
+        out.add("form 2 along the streets", p, q, on_streets(asked) + asked[:2])
+        out.add("form 2 along the streets, no word lent", p, q, on_streets(asked), None, [0] * len(asked))
+        for one in (p, q):
+            out.own("a sheet of its form along the streets", one, [ask[:3] + (grid,) for ask in asked[:5] for grid in (1, 0)])
+            out.own("a sheet of its form along the streets, no word lent", one, [ask[:3] + (1,) for ask in asked[:5]], None, [0] * 5)
+    for number in range(1, 9):
+        _, wide = towns.sheet(rng, towns.grid, rng.randint(1, 5), form=2)
+        _, right = towns.sheet(rng, towns.grid, rng.randint(1, 5))
+        wrong = towns.faulty(rng, number)
+        for p, q in ((wrong, wide), (wide, wrong), (wrong, right), (right, wrong)):
+            assert reading.page_call(p, q, (PAST, 0), 0, grid=True)[0] == number
+            out.add("a bad sheet along the streets", p, q, on_streets(asked[:3]))
+        out.own("a bad sheet along the streets", wrong, [(0, 0, 1, 1), (PAST, 0, 0, 1)])
+    _, p = towns.sheet(rng, towns.grid, 5)
+    _, q = towns.sheet(rng, towns.grid, 4)
+    out.add("bad keys along the streets", p, q, on_streets([ask + (0,) for ask in ENDS + OUTSIDE] + T_OUTSIDE))
+    for words in (p, reading.pack([(4, 2, 2), (6, 2, 2), (9, 5, 5)], [2, 0, 1], 3), reading.pack([(4, 2, 2)], [0], 3), reading.pack([], [], 3)):
+        out.own("bad keys along the streets, self join", words, [ask + (1,) for ask in ENDS + OUTSIDE])
+    empty = reading.pack([], [], 3)
+    for one, other in ((empty, p), (p, empty), (empty, empty), (reading.pack([], [], 3, 2), p), (p, reading.pack([], [], 3, 2))):
+        out.add("an empty sheet along the streets", one, other, on_streets([(0, 0, 16, 0), (PAST, 0, 1, 0), (0, 0, 16, 1)]))
+
+
+def street_words(out, rng):
+    """Of the street grid all of P is kept, so as many words are lent: one too few, none, exactly enough and more."""
+    for n in (1, 2, 63, 64, 65, 128, 129):
+        p, q = towns.sheet(rng, rng.choice([towns.town, towns.land]), n)[1], towns.sheet(rng, towns.town, rng.randint(2, 4))[1]
+        need = needed(p)
+        listed = reading.ring_list(reading.Sheet(p).points, reading.Sheet(q).points, True)
+        requests = on_streets([(0, 0, 16, 0), (0, 0, 16, 1), (reading.ID, 0, 1, 0), (PAST, 0, 1, 0), (0, 0, 0, 0), (0, 0, 1, 60001)])
+        several = [(lent, request) for lent in (need - 1, 0, need, need + 1, WORDS) for request in requests]
+        out.add("words lent along the streets", p, q, [request for _, request in several], listed, [lent for lent, _ in several])
+        several = [(lent, ask + (1,)) for lent in (need - 1, 0, need, need + 1) for ask in ((0, 0, 16), (PAST, 0, 1), (0, 0, 17), (reading.ID, 0, 1))]
+        listed = reading.self_list(reading.Sheet(p).points, True)
+        out.own("words lent along the streets, self join", p, [ask for _, ask in several], listed, [lent for lent, _ in several])
+
+
+def street_large(out, rng):
+    """1,000 points each, from a key among the last few q: every pump house of each is ring-walked. And the self join of 200."""
+    points = [[(n,) + place for n, place in zip(trees.ids(rng, 1000, reading.ID), towns.land(rng, 1000))] for _ in range(2)]
+    p, q = [trees.sheet(these, trees.near(rng, these), reading.runs_of_sixteen(1000), 40 + k) for k, these in enumerate(points)]
+    last = range(997, 1000)
+    couples = [(j, i) for j in last for i in range(1000) if reading.is_ring_pair(points[0], points[1], j, i, True)]
+    listed = sorted(reading.pair_of(points[0], points[1], j, i, True) for j, i in couples)
+    key = points[1][996][0]
+    requests = [(key, reading.ID, 2, 0), (key, reading.ID, 16, 0), reading.key_of(listed[-1]) + (1, 0), (key, reading.ID, 16, 1), (key, reading.ID, 16, 4)]
+    out.add("1,000 points along the streets", p, q, on_streets(requests), listed)
+    points = [(number,) + place for number, place in zip(trees.ids(rng, 200, reading.ID), towns.land(rng, 200))]
+    words = trees.sheet(points, trees.near(rng, points), reading.runs_of_sixteen(200), 43)
+    listed = reading.self_list(points, True)
+    asked = [(0, 0, 16), reading.key_of(listed[len(listed) // 2]) + (16,), reading.key_of(listed[-17]) + (16,), reading.key_of(listed[-1]) + (1,)]
+    out.own("200 points along the streets, self join", words, [ask + (1,) for ask in asked], listed)
+
+
 def cases():
     rng = Chance("pages")
     out = Pages()
@@ -346,6 +457,11 @@ def cases():
     large_pairs(out, rng)
     of_forms(out, Chance("pages of both forms"))
     words_lent(out, Chance("words for pages"))
+    street_listing(out)
+    street_pages(out, Chance("pages along the streets"))
+    street_refused(out, Chance("refused along the streets"))
+    street_words(out, Chance("words along the streets"))
+    street_large(out, Chance("large along the streets"))
     assert out.pairs >= 100
     assert all(out.seen[number] >= 10 for number in range(11)), out.seen
     assert all(out.seen[what] >= 10 for what in ("end mark", "no end mark", "full last page", "empty page", "page of a t", "yes", "no", 21, 24)), out.seen
@@ -353,4 +469,8 @@ def cases():
     assert all(out.seen[what] >= 10 for what in ("own full last page", "own page amid")), out.seen
     assert out.seen["own", 24] >= 2
     assert all(out.seen["question", number] >= 2 for number in list(range(9)) + [20, 21, 24]), out.seen
+    assert all(out.seen["grid", number] >= 4 and out.seen["grid own", number] >= 2 for number in list(range(11)) + [24, 29]) and out.seen["grid", 21] >= 4, out.seen
+    several = ("grid end mark", "grid no end mark", "grid empty page", "grid page of a t", "grid own full last page", "grid own page amid")
+    assert all(out.seen[what] >= 10 for what in several), out.seen
+    assert not out.seen[29] and not out.seen["own", 29]
     return out.cases

@@ -2,9 +2,9 @@
 views claim counts that need not be their sheet's, and the answer is that of the words alone.
 
 A case, in words: its kind, the lengths of P's and Q's sheet, the number of requests, P's words, Q's words, and for each request the number of words lent, the
-call, the numbers of points and of nodes that the view of P claims, those that the view of Q claims, two positions or ids, and a size. A count of -1 stands for
-the largest that there is. A line has the call and its answer: of the pairs and points the first, the second and the last; of the call for the nearest the four
-lent numbers after it, of which all are lent, or two; and what the words hold that were marked before.
+call, the numbers of points and of nodes that the view of P claims, those that the view of Q claims, two positions or ids, a size, and the profile, 0 for the
+circle and 1 for the street grid. A count of -1 stands for the largest that there is. A line has the call and its answer: of the pairs and points the first, the
+second and the last; of the call for the nearest the four lent numbers after it, of which all are lent, or two; and what the words hold that were marked before.
 """
 import reading
 from make_listing_cases import P, Q, changed
@@ -48,15 +48,16 @@ def filter_line(rules, p, q, j, words):
     return "filter %d %d %d%s" % (number, len(kept), opened, lent_told(words, after))
 
 
-def ring_line(rules, p, q, j, i):
-    number, answer, opened = rules.ring_call(p, q, j, i)
+def ring_line(rules, p, q, j, i, grid):
+    number, answer, opened = rules.ring_call(p, q, j, i, bool(grid))
     return no_words("ring refused %d" % number if number else "ring %s, opened %d" % (" ".join(map(str, answer)), opened))
 
 
-def page_line(rules, p, q, key, size, words):
-    number, page, opened, after = rules.page_call(p, q, key, size, words=marks(words))
-    pairs, end = ([], False) if number else (page.pairs, page.end)
-    return "page %d %d %d%s %s%s" % (number, opened, len(pairs), " end" * end, shown(pairs, rules.UNUSED), lent_told(words, after))
+def page_line(rules, p, q, key, size, words, grid=0):
+    number, page, opened, after = rules.page_call(p, q, key, size, words=marks(words), grid=bool(grid))
+    pairs, end, streets = ([], False, False) if number else (page.pairs, page.end, page.grid)
+    marked = " grid" * streets + " end" * end
+    return "page %d %d %d%s %s%s" % (number, opened, len(pairs), marked, shown(pairs, rules.UNUSED), lent_told(words, after))
 
 
 def nearest_line(rules, p, q, q_id, size, lent):
@@ -68,8 +69,8 @@ class Views(Asked):
     name = "views"
     kind = VIEWS
 
-    def add(self, label, call, asked, p, q=(), claims=(SO, SO), a=0, b=0, size=0, words=0):
-        request = [words, call] + [-1 if count == LARGEST else count for claim in claims for count in claim] + [a, b, size]
+    def add(self, label, call, asked, p, q=(), claims=(SO, SO), a=0, b=0, size=0, words=0, grid=0):
+        request = [words, call] + [-1 if count == LARGEST else count for claim in claims for count in claim] + [a, b, size, grid]
         self.put(label, list(p), list(q), [request], [asked])
 
 
@@ -92,7 +93,8 @@ def filtered(out, p, q, claims, j, words=1):
 
 
 def walked(out, p, q, claims, j, i):
-    out.add("ring walk", RING, (ring_line, p, q, j, i), p, q, claims, j, i)
+    for grid in (0, 1):
+        out.add("ring walk", RING, (ring_line, p, q, j, i, grid), p, q, claims, j, i, grid=grid)
 
 
 def walks(out, claims):
@@ -106,7 +108,8 @@ def walks(out, claims):
 def pages(out, claims):
     for p, key, size in ((P, (0, 0), 2), (P, (5, 2), 2), (P, (6, 2), 2), (P, (5, 3), 2), (P, (0, 2000000001), 0), (P, (0, 0), 0), (P, (0, 0), 17), ([], (0, 2000000001), 0)):
         for words in (0, 1, 2):
-            out.add("page", PAGE, (page_line, p, Q, key, size, words), p, Q, claims, *key, size, words)
+            for grid in (0, 1):
+                out.add("page", PAGE, (page_line, p, Q, key, size, words, grid), p, Q, claims, *key, size, words, grid)
 
 
 def nearest(out, claims):
@@ -134,9 +137,10 @@ def cases():
             ask(out, claims)
     for p, q in ((changed(P, 22, 3), changed(Q, 19, 1001)), (P, changed(Q, 19, 1001)), (changed(P, 15, 11), changed(Q, 22, 3)), (P, Q)):
         refused(out, p, q)
-    # of form 2, one of them or both
+    # of form 2, one of them or both: along the streets 29
     for p, q in ((changed(P, 22, 2), Q), (P, changed(Q, 22, 2)), (changed(P, 22, 2), changed(Q, 22, 2))):
         filtered(out, p, q, (SO, SO), 0)
         walked(out, p, q, (SO, SO), 0, 1)
-        out.add("page", PAGE, (page_line, p, q, (0, 0), 16, 1), p, q, (SO, SO), 0, 0, 16, 1)
+        for grid in (0, 1):
+            out.add("page", PAGE, (page_line, p, q, (0, 0), 16, 1, grid), p, q, (SO, SO), 0, 0, 16, 1, grid)
     return out.cases

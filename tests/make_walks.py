@@ -1,8 +1,9 @@
 """The part `walks` of the tape: pairs of sheets with both walks over them: kept words, numbers of bits, hits, nodes opened.
 
 A case, in words: its kind, the lengths of P's and Q's sheet, the numbers of filter walks and of ring walks asked, P's words, Q's words, the number of words
-lent and a position j of Q for each filter walk, and positions j of Q and i of P for each ring walk. A position of -1 stands for the largest that a call can be
-given. Each word that can be lent holds a mark before the call, and the line of a filter walk ends with what they hold after it.
+lent and a position j of Q for each filter walk, and for each ring walk positions j of Q and i of P, and the profile: 0 for the circle, 1 for the street grid. A
+position of -1 stands for the largest that a call can be given. Each word that can be lent holds a mark before the call, and the line of a filter walk ends with
+what they hold after it.
 """
 import reading
 import towns
@@ -23,10 +24,10 @@ def filter_line(rules, p, q, j, lent):
     return "filter %d: %d %d %d%s" % (j, number, len(kept), opened, lent_told(lent, after))
 
 
-def ring_line(rules, p, q, j, i):
-    number, answer, opened = rules.ring_call(p, q, j, i)
+def ring_line(rules, p, q, j, i, grid):
+    number, answer, opened = rules.ring_call(p, q, j, i, bool(grid))
     said = "refused %d" % number if number else "%s %d" % (" ".join(map(str, answer)), opened)
-    return "ring %d %d: %s" % (j, i, said)
+    return "ring %d %d %d: %s" % (j, i, grid, said)
 
 
 class Walks(Asked):
@@ -35,14 +36,16 @@ class Walks(Asked):
 
     def add(self, label, p, q, filters, rings, lent=None):
         lent = lent or by_turns(p, len(filters))
+        rings = [ring + (0,) * (3 - len(ring)) for ring in rings]
         words = [self.kind, len(p), len(q), len(filters), len(rings)] + p + q
         words += [word for request in list(zip(lent, filters)) + list(rings) for word in request]
-        asked = [(filter_line, p, q, position(j), n) for n, j in zip(lent, filters)] + [(ring_line, p, q, position(j), position(i)) for j, i in rings]
+        asked = [(filter_line, p, q, position(j), n) for n, j in zip(lent, filters)] + [(ring_line, p, q, position(j), position(i), grid) for j, i, grid in rings]
         for line in self.cases.add(label, words, asked):
             kind, said = line.split()[0], line.split(": ")[1].split()
+            kind = "street" if kind == "ring" and line.split(":")[0].endswith(" 1") else kind
             self.seen[" ".join([kind] + said[:1 if said[0] in ("0", "9", "24", "clear") else 2])] += 1
             if said[0] == "side":
-                self.seen["named %s" % said[3]] += 1
+                self.seen["%s named %s" % (kind, said[3])] += 1
         self.pairs += 1
 
 
@@ -161,6 +164,50 @@ def words_lent(out, rng):
     out.add("no point in P, no word lent", empty, some, [0, 3, 4, 0], [], [0, 0, 0, 3])
 
 
+def along_streets(out, rng):
+    """The ring walks of the street grid: every pair of sheets small enough and some of others, over trees of every shape, the circle's beside some of them."""
+    for k in range(150):
+        places = towns.STREET_PLACES[k % len(towns.STREET_PLACES)]
+        np, nq = (rng.randint(17, 50), rng.randint(17, 50)) if k % 10 == 0 else (rng.randint(1, 8), rng.randint(1, 7))
+        _, p = towns.sheet(rng, places, np)
+        _, q = (None, p) if k % 8 == 0 else towns.sheet(rng, places, nq)
+        walks_mean_the_rule(p, q)
+        pairs = [(j, i) for j in range(q[-4]) for i in range(np)]
+        pairs = sorted(rng.sample(pairs, 30)) if len(pairs) > 45 else pairs
+        out.add("%s, along the streets" % places.__name__, p, q, [], [pair + (1,) for pair in pairs] + [pair + (0,) for pair in pairs[:2]])
+    for k in range(16):
+        np, nq = rng.randint(2, 12), rng.randint(2, 12)
+        ps, qs = [[(number,) + place for number, place in zip(trees.ids(rng, n), rng.choice(towns.STREET_PLACES)(rng, n))] for n in (np, nq)]
+        p = trees.sheet(ps, trees.near(rng, ps), trees.singles(np, 1 + k % 7) if k % 2 else trees.uneven(rng, np, 5), 4)
+        q = trees.sheet(qs, trees.near(rng, qs), trees.singles(nq, 7) if k % 2 else trees.uneven(rng, nq, 6), 5)
+        walks_mean_the_rule(p, q)
+        pairs = [(j, i, 1) for j in range(nq) for i in range(np)]
+        out.add("deep trees, along the streets", p, q, [], sorted(rng.sample(pairs, min(len(pairs), 24))))
+    points = [[(number,) + place for number, place in zip(trees.ids(rng, 1000, reading.ID), towns.land(rng, 1000))] for _ in range(2)]
+    p, q = [trees.sheet(some, trees.near(rng, some), reading.runs_of_sixteen(1000), 15 + k) for k, some in enumerate(points)]
+    clear = [(j, i, 1) for j in rng.sample(range(1000), 4) for i in range(1000) if reading.is_ring_pair(points[0], points[1], j, i, True)]
+    assert len(clear) >= 4
+    out.add("1,000 points, along the streets", p, q, [], clear + [(rng.randrange(1000), rng.randrange(1000), 1) for _ in range(20)])
+
+
+def too_wide(out, rng):
+    """A sheet of form 2, P's or Q's or both: 29 along the streets, whatever the positions, and after the sheets' own numbers; with the circle nothing of it."""
+    for p, q in towns.too_wide(rng):
+        np, nq = p[-4], q[-4]
+        assert reading.ring_call(p, q, nq, np, True)[0] == 29 and reading.ring_call(p, q, 0, 0)[0] == 0
+        out.add("form 2, along the streets", p, q, [], [pair + (grid,) for pair in ((0, 0), (nq - 1, np - 1), (nq, 0), (0, np), (-1, -1)) for grid in (1, 0)])
+    for number in range(1, 9):
+        _, wide = towns.sheet(rng, towns.grid, rng.randint(1, 5), form=2)
+        _, right = towns.sheet(rng, towns.grid, rng.randint(1, 5))
+        wrong = towns.faulty(rng, number)
+        for p, q in ((wrong, wide), (wide, wrong), (wrong, right), (right, wrong)):
+            assert reading.ring_call(p, q, 9, 9, True)[0] == number
+            out.add("a bad sheet, along the streets", p, q, [], [(0, 0, 1), (9, 9, 1)])
+    empty, some = reading.pack([], [], 3), towns.sheet(rng, towns.grid, 4)[1]
+    for p, q in ((empty, some), (some, empty), (reading.pack([], [], 3, 2), some), (some, some)):
+        out.add("positions, along the streets", p, q, [], [(0, 0, 1), (3, 3, 1), (4, 0, 1), (0, 4, 1), (-1, 0, 1), (0, -1, 1)])
+
+
 def refused(out, rng):
     """A bad sheet, P's before Q's, and a position not below n: the earlier number each time. Empty sheets."""
     for p, q, number in towns.both_faulty(rng):
@@ -195,10 +242,15 @@ def cases():
     many_kept(out, rng)
     of_forms(out, Chance("walks of both forms"))
     words_lent(out, Chance("words for walks"))
+    along_streets(out, Chance("walks along the streets"))
+    too_wide(out, Chance("walks of form 2 along the streets"))
     assert out.pairs >= 300
-    for answer in ("clear", "point 0", "point 1", "side 0", "side 1"):
-        assert out.seen["ring " + answer] >= 50, (answer, out.seen)
-    for side in range(4):
-        assert out.seen["named %d" % side] >= 50, (side, out.seen)
+    for kind in ("ring", "street"):
+        for answer in ("clear", "point 0", "point 1", "side 0", "side 1"):
+            assert out.seen["%s %s" % (kind, answer)] >= 50, (kind, answer, out.seen)
+        for side in range(4):
+            assert out.seen["%s named %d" % (kind, side)] >= 40, (kind, side, out.seen)
+        assert all(out.seen["%s refused %d" % (kind, number)] >= 4 for number in range(1, 10)), (kind, out.seen)
+    assert out.seen["street refused 29"] >= 10 and not out.seen["ring refused 29"]
     assert out.seen["ring refused 9"] >= 10 and out.seen["filter 9"] >= 10 and out.seen["filter 24"] >= 10
     return out.cases

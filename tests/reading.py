@@ -3,7 +3,9 @@
 It is written from the sentences of the rules, which stand above each function, and shares nothing with the Rattle code: the generators beside it take
 from here what every call must answer. It is slow and says each thing the long way.
 
-A point is (id, x, y), a place is (x, y), a pair is (q id, p id, squared diameter), a key is (q id, p id). 0 is P, 1 is Q. Positions go q's first, then p's.
+A point is (id, x, y), a place is (x, y), a pair is (q id, p id, size), a key is (q id, p id). 0 is P, 1 is Q. Positions go q's first, then p's.
+
+There are two profiles: the circle, and the street grid of request 12. `grid` says which; where it is not handed in it is the circle.
 """
 
 COORDINATE = 1_000_000
@@ -14,9 +16,11 @@ NODES = 400
 LEVEL = 7
 COVERED = 16
 SIZE = 16
-# "Request 5's threshold goes to 60,000", "Refusal 15's size limit becomes 8,000,000,000,000,000,000 for every page"
+# "Request 5's threshold goes to 60,000", "Refusal 15's size limit becomes 8,000,000,000,000,000,000 for every page"; of the street grid "the size limit is
+# 16,000,000,000,000"
 THRESHOLD = 60_000
 DIAMETER = 8_000_000_000_000_000_000
+STREETS = 16_000_000_000_000
 
 # "Form number 2: the same words, with up to 60,000 points, 24,000 nodes and coordinates from -1,000,000,000 to 1,000,000,000. Form 1 sheets open as before
 # under their own limits."
@@ -241,22 +245,68 @@ def blocks(a, b, x):
     return product(a, b, x) <= 0 and x != a and x != b
 
 
+# "the squared diameter"
+def squared(q, p):
+    return (q[0] - p[0]) ** 2 + (q[1] - p[1]) ** 2
+
+
+# ---------------------------------------------------------------- the street grid
+
+# "the sum of the absolute differences [..], over both coordinates"
+def along_streets(one, other):
+    return abs(one[0] - other[0]) + abs(one[1] - other[1])
+
+
+# "the absolute differences of 2x and a+b"
+def from_middle(a, b, x):
+    return along_streets((2 * x[0], 2 * x[1]), (a[0] + b[0], a[1] + b[1]))
+
+
+# "x blocks a, b when the sum of the absolute differences of 2x and a+b, over both coordinates, is at most the sum of the absolute differences of a and b; a
+# record at an end's place doesn't block."
+def street_blocks(a, b, x):
+    if x in (a, b):
+        return False
+    return from_middle(a, b, x) <= along_streets(a, b)
+
+
+# "The box rules carry over with this distance": rule (1) with that of a+b to the doubled box
+def street_far(a, b, box):
+    low, high = (2 * box[0], 2 * box[1]), (2 * box[2], 2 * box[3])
+    middle = (a[0] + b[0], a[1] + b[1])
+    nearest = tuple(min(max(low[k], middle[k]), high[k]) for k in (0, 1))
+    return along_streets(middle, nearest) > along_streets(a, b)
+
+
+# "strictly inside for sides"
+def street_inside(a, b, corner):
+    return from_middle(a, b, corner) < along_streets(a, b)
+
+
+# "the size is the squared sum of absolute differences"
+def street_size(q, p):
+    return along_streets(q, p) ** 2
+
+
+# ---------------------------------------------------------------- the list
+
 # "(q, p) is a ring pair when no other record of P or Q blocks it."
-def is_ring_pair(p_points, q_points, j, i):
+def is_ring_pair(p_points, q_points, j, i, grid=False):
     q, p = q_points[j][1:], p_points[i][1:]
+    blocking = street_blocks if grid else blocks
     for k, point in enumerate(p_points):
-        if k != i and blocks(q, p, point[1:]):
+        if k != i and blocking(q, p, point[1:]):
             return False
     for k, point in enumerate(q_points):
-        if k != j and blocks(q, p, point[1:]):
+        if k != j and blocking(q, p, point[1:]):
             return False
     return True
 
 
 # "Each pair in pages, books and leaf runs now has its squared diameter beside the ids."
-def pair_of(p_points, q_points, j, i):
+def pair_of(p_points, q_points, j, i, grid=False):
     q, p = q_points[j], p_points[i]
-    return q[0], p[0], (q[1] - p[1]) ** 2 + (q[2] - p[2]) ** 2
+    return q[0], p[0], street_size(q[1:], p[1:]) if grid else squared(q[1:], p[1:])
 
 
 # "Unused pairs are three zeros."
@@ -268,12 +318,12 @@ def key_of(pair):
 
 
 # "The list runs by q id, then p id."
-def ring_list(p_points, q_points):
+def ring_list(p_points, q_points, grid=False):
     pairs = []
     for j in range(len(q_points)):
         for i in range(len(p_points)):
-            if is_ring_pair(p_points, q_points, j, i):
-                pairs.append(pair_of(p_points, q_points, j, i))
+            if is_ring_pair(p_points, q_points, j, i, grid):
+                pairs.append(pair_of(p_points, q_points, j, i, grid))
     return sorted(pairs)
 
 
@@ -354,6 +404,14 @@ def filter_walk(sheet, q):
     return sorted(kept), opened
 
 
+# Of the street grid: "The half-plane filter doesn't [carry over], so all of P is kept and no filter nodes are counted."
+def kept_of(sheet, q, grid):
+    """The positions that are ring-walked for q, ascending, and the nodes counted for finding them."""
+    if grid:
+        return list(range(sheet.n)), 0
+    return filter_walk(sheet, q)
+
+
 # "The kept set is one bit a position [..] (position i is bit i mod 64, counted from the lowest, of word i div 64)"
 def kept_words(kept, count):
     """The kept set on so many words."""
@@ -405,15 +463,20 @@ def far(a, b, box):
     return dx * dx + dy * dy > (a[0] - b[0]) ** 2 + (a[1] - b[1]) ** 2
 
 
-# "If both corners of some side lie strictly inside ((a-c)·(b-c) < 0), the pair is blocked, by that node's side." "The answer shall also name the side, the
-# first that qualifies of left, bottom, right, top."
-def side_inside(a, b, box):
+# "strictly inside ((a-c)·(b-c) < 0)"
+def inside(a, b, corner):
+    return product(a, b, corner) < 0
+
+
+# "If both corners of some side lie strictly inside, the pair is blocked, by that node's side." "The answer shall also name the side, the first that
+# qualifies of left, bottom, right, top."
+def side_inside(a, b, box, grid=False):
     """The number of that side: 0 left, 1 bottom, 2 right, 3 top. None where no side qualifies."""
     xmin, ymin, xmax, ymax = box
     left, right = [(xmin, ymin), (xmin, ymax)], [(xmax, ymin), (xmax, ymax)]
     bottom, top = [(xmin, ymin), (xmax, ymin)], [(xmin, ymax), (xmax, ymax)]
     for number, side in enumerate((left, bottom, right, top)):
-        if all(product(a, b, corner) < 0 for corner in side):
+        if all(street_inside(a, b, corner) if grid else inside(a, b, corner) for corner in side):
             return number
     return None
 
@@ -424,17 +487,18 @@ CLEAR = ("clear",)
 # "at each box, the root's included, in this order. (1) .. skip. (2) .. blocked, by that node's side. (3) Otherwise open the node. In a leaf, the first
 # record that is not an end of the pair and blocks it stops the walk. The answer is clear, or blocked by a point (its set and position) or by a box side
 # (its set and node number), together with the nodes opened." A box side is named too, after its node. "A point answer stays as it is."
-def ring_walk(sheet, which, a, b, end):
+def ring_walk(sheet, which, a, b, end, grid=False):
     """The walk for the pair a, b over one sheet, which is set `which`; `end` is the position in it that is an end of the pair."""
     opened = 0
+    is_far, blocking = (street_far, street_blocks) if grid else (far, blocks)
 
     def visit(j):
         nonlocal opened
         level, first, count = sheet.nodes[j][:3]
         box = sheet.nodes[j][3:]
-        if far(a, b, box):
+        if is_far(a, b, box):
             return CLEAR
-        side = side_inside(a, b, box)
+        side = side_inside(a, b, box, grid)
         if side is not None:
             return ("side", which, j, side)
         opened += 1
@@ -445,7 +509,7 @@ def ring_walk(sheet, which, a, b, end):
                     return answer
             else:
                 position = sheet.order[k]
-                if position != end and blocks(a, b, sheet.place(position)):
+                if position != end and blocking(a, b, sheet.place(position)):
                     return ("point", which, position)
         return CLEAR
 
@@ -455,12 +519,12 @@ def ring_walk(sheet, which, a, b, end):
 
 
 # "Q is walked first, then P if Q is clear; the counts add up."
-def pair_walk(p, q, j, i):
+def pair_walk(p, q, j, i, grid=False):
     a, b = q.place(j), p.place(i)
-    answer, opened = ring_walk(q, 1, a, b, j)
+    answer, opened = ring_walk(q, 1, a, b, j, grid)
     if answer != CLEAR:
         return answer, opened
-    answer, more = ring_walk(p, 0, a, b, i)
+    answer, more = ring_walk(p, 0, a, b, i, grid)
     return answer, opened + more
 
 
@@ -482,15 +546,22 @@ def filter_call(p_words, q_words, j, words=ENOUGH):
     return 0, kept, opened, with_kept(words, p, kept)
 
 
-def ring_call(p_words, q_words, j, i):
+# 29: "form 1 sheets only", "29 a form 2 sheet, after 26 and before 9"
+def too_wide(grid, *sheets):
+    return grid and any(sheet.form == 2 for sheet in sheets)
+
+
+def ring_call(p_words, q_words, j, i, grid=False):
     """(number, answer, opened) of the ring walk of position j of Q and position i of P."""
     number = open_number(p_words) or open_number(q_words)
     if number:
         return number, None, 0
     p, q = Sheet(p_words), Sheet(q_words)
+    if too_wide(grid, p, q):
+        return 29, None, 0
     if j >= q.n or i >= p.n:
         return 9, None, 0
-    answer, opened = pair_walk(p, q, j, i)
+    answer, opened = pair_walk(p, q, j, i, grid)
     return 0, answer, opened
 
 
@@ -509,35 +580,35 @@ def point_call(words, i):
 
 class Page:
     """"The page holds both editions, the key, the first `size` ring pairs strictly after the key (fewer if fewer follow), their number and an end mark".
-    "Pages and books now carry t, 0 for the full list"; "Pages and books now say their kind" """
+    "Pages and books now carry t, 0 for the full list"; "Pages and books now say their kind"; "Pages and books carry the profile" """
 
-    def __init__(self, editions, key, pairs, end, t=0, own=False):
-        self.editions, self.key, self.pairs, self.end, self.t, self.own = editions, key, pairs, end, t, own
+    def __init__(self, editions, key, pairs, end, t=0, own=False, grid=False):
+        self.editions, self.key, self.pairs, self.end, self.t, self.own, self.grid = editions, key, pairs, end, t, own, grid
 
 
 # "an end mark, set exactly when no ring pair follows the last one shown, or follows the key if none is shown"
-def page_of(pairs, editions, key, size, t=0):
+def page_of(pairs, editions, key, size, t=0, own=False, grid=False):
     """The page of the list of t. No tree is in it."""
     following = [pair for pair in list_of(pairs, t) if key_of(pair) > key]
-    return Page(editions, key, following[:size], len(following) <= size, t)
+    return Page(editions, key, following[:size], len(following) <= size, t, own, grid)
 
 
 # "each q in id order from the lowest id not below the key's is filtered once, its kept partners after the key are ring-walked in id order, and the work
 # stops at the first pair beyond the size, or after the last q"
-def page_opened(p, q, key, size):
+def page_opened(p, q, key, size, grid=False):
     """The nodes opened, and the pairs found on the way, the one beyond the size left out."""
     opened, found = 0, []
     for j in range(q.n):
         q_id = q.points[j][0]
         if q_id < key[0]:
             continue
-        kept, more = filter_walk(p, q.place(j))
+        kept, more = kept_of(p, q.place(j), grid)
         opened += more
         for i in kept:
-            pair = pair_of(p.points, q.points, j, i)
+            pair = pair_of(p.points, q.points, j, i, grid)
             if key_of(pair) <= key:
                 continue
-            answer, more = pair_walk(p, q, j, i)
+            answer, more = pair_walk(p, q, j, i, grid)
             opened += more
             if answer == CLEAR:
                 if len(found) == size:
@@ -547,20 +618,20 @@ def page_opened(p, q, key, size):
 
 
 # "With t above 0 a page's count takes in all kept partners of each chamber reached, the last one too."
-def page_opened_of(p, q, key, size, t):
+def page_opened_of(p, q, key, size, t, grid=False):
     """The same, of the list of a t above 0."""
     opened, found = 0, []
     for j in range(q.n):
         if q.points[j][0] < key[0]:
             continue
-        kept, more = filter_walk(p, q.place(j))
+        kept, more = kept_of(p, q.place(j), grid)
         opened += more
         partners = []
         for i in kept:
-            answer, more = pair_walk(p, q, j, i)
+            answer, more = pair_walk(p, q, j, i, grid)
             opened += more
             if answer == CLEAR:
-                partners.append(pair_of(p.points, q.points, j, i))
+                partners.append(pair_of(p.points, q.points, j, i, grid))
         for pair in partners:
             if len(partners) >= t and key_of(pair) > key:
                 if len(found) == size:
@@ -570,11 +641,13 @@ def page_opened_of(p, q, key, size, t):
 
 
 # 9: "key out of range", each 0 to 2,000,000,000; 10: size out of range, 1 to 16; "21 t outside 0 to 1,000 [..] after 10 for a page"
-def page_call(p_words, q_words, key, size, t=0, pairs=None, words=ENOUGH):
+def page_call(p_words, q_words, key, size, t=0, pairs=None, words=ENOUGH, grid=False):
     """(number, page, opened, the lent words from now on) of a page request. `pairs` is the list of ring pairs, made anew where it is not handed in."""
     number = open_number(p_words) or open_number(q_words)
     if number:
         return number, None, 0, words
+    if too_wide(grid, Sheet(p_words), Sheet(q_words)):
+        return 29, None, 0, words
     if key[0] < 0 or key[0] > ID or key[1] < 0 or key[1] > ID:
         return 9, None, 0, words
     if size < 1 or size > SIZE:
@@ -585,9 +658,9 @@ def page_call(p_words, q_words, key, size, t=0, pairs=None, words=ENOUGH):
     if too_short(words, p):
         return 24, None, 0, words
     if pairs is None:
-        pairs = ring_list(p.points, q.points)
-    page = page_of(pairs, (p.edition, q.edition), key, size, t)
-    opened, found = page_opened_of(p, q, key, size, t) if t > 0 else page_opened(p, q, key, size)
+        pairs = ring_list(p.points, q.points, grid)
+    page = page_of(pairs, (p.edition, q.edition), key, size, t, grid=grid)
+    opened, found = page_opened_of(p, q, key, size, t, grid) if t > 0 else page_opened(p, q, key, size, grid)
     assert found == page.pairs
     return 0, page, opened, with_zeros(words, p)
 
@@ -596,13 +669,14 @@ def page_call(p_words, q_words, key, size, t=0, pairs=None, words=ENOUGH):
 
 # "the self join [..]: pairs of two different records of one sheet, lower id first, in order of lower then higher id, blocked by the other records of that
 # sheet under request 3's rule"
-def self_list(points):
+def self_list(points, grid=False):
+    blocking = street_blocks if grid else blocks
     pairs = []
     for j, one in enumerate(points):
         for i, other in enumerate(points):
             others = [point for k, point in enumerate(points) if k != j and k != i]
-            if one[0] < other[0] and not any(blocks(one[1:], other[1:], point[1:]) for point in others):
-                pairs.append(pair_of(points, points, j, i))
+            if one[0] < other[0] and not any(blocking(one[1:], other[1:], point[1:]) for point in others):
+                pairs.append(pair_of(points, points, j, i, grid))
     return sorted(pairs)
 
 
@@ -619,19 +693,19 @@ def self_filter(sheet, j):
     return sorted(kept), more
 
 
-# "Pages, counts [..] work as before"; "kept partners of higher id get one ring walk"
-def self_opened(sheet, key, size):
+# "Pages, counts [..] work as before"; "kept partners of higher id get one ring walk". Of the street grid all are kept, but q, and nothing is counted for that.
+def self_opened(sheet, key, size, grid=False):
     """The nodes opened, and the pairs found on the way, the one beyond the size left out."""
     opened, found = 0, []
     for j in range(sheet.n):
         if sheet.points[j][0] < key[0]:
             continue
-        kept, more = self_filter(sheet, j)
+        kept, more = ([i for i in range(sheet.n) if i != j], 0) if grid else self_filter(sheet, j)
         opened += more
         for i in kept:
-            pair = pair_of(sheet.points, sheet.points, j, i)
+            pair = pair_of(sheet.points, sheet.points, j, i, grid)
             if pair[1] > pair[0] and key_of(pair) > key:
-                answer, more = ring_walk(sheet, 0, sheet.place(j), sheet.place(i), i)
+                answer, more = ring_walk(sheet, 0, sheet.place(j), sheet.place(i), i, grid)
                 opened += more
                 if answer == CLEAR and len(found) == size:
                     return opened, found
@@ -639,12 +713,14 @@ def self_opened(sheet, key, size):
     return opened, found
 
 
-# "with one edition in both fields and t 0"; 1 to 8 of the sheet, then 9, then 10
-def own_call(s_words, key, size, pairs=None, words=ENOUGH):
+# "with one edition in both fields and t 0"; 1 to 8 of the sheet, 29 of it, then 9, then 10
+def own_call(s_words, key, size, pairs=None, words=ENOUGH, grid=False):
     """(number, page, opened, the lent words from now on) of a page request of a self join. `pairs` is its list, made anew where it is not handed in."""
     number = open_number(s_words)
     if number:
         return number, None, 0, words
+    if too_wide(grid, Sheet(s_words)):
+        return 29, None, 0, words
     if not (0 <= key[0] <= ID and 0 <= key[1] <= ID):
         return 9, None, 0, words
     if not 1 <= size <= SIZE:
@@ -653,10 +729,9 @@ def own_call(s_words, key, size, pairs=None, words=ENOUGH):
     if too_short(words, sheet):
         return 24, None, 0, words
     if pairs is None:
-        pairs = self_list(sheet.points)
-    page = page_of(pairs, (sheet.edition, sheet.edition), key, size)
-    page.own = True
-    opened, found = self_opened(sheet, key, size)
+        pairs = self_list(sheet.points, grid)
+    page = page_of(pairs, (sheet.edition, sheet.edition), key, size, 0, True, grid)
+    opened, found = self_opened(sheet, key, size, grid)
     assert found == page.pairs
     return 0, page, opened, with_zeros(words, sheet)
 
@@ -938,15 +1013,15 @@ def mark_call(a, b):
 # ---------------------------------------------------------------- the book
 
 class Book:
-    """"A book is begun for two editions with nothing held, open, key (0, 0)." "Pages and books now carry t" and "say their kind" """
+    """"A book is begun for two editions with nothing held, open, key (0, 0)." "Pages and books now carry t", "say their kind" and "carry the profile" """
 
-    def __init__(self, editions, t, own):
-        self.editions, self.t, self.own, self.held, self.closed = editions, t, own, 0, False
+    def __init__(self, editions, t, own, grid):
+        self.editions, self.t, self.own, self.grid, self.held, self.closed = editions, t, own, grid, 0, False
 
 
 # 3: edition out of range; "21 t outside 0 to 1,000 [..] after [..] 3 for begin", to 60,000 since request 9; "begin gives 3 for a self join of two editions,
 # 21 with a t"
-def begin(editions, t=0, own=False):
+def begin(editions, t=0, own=False, grid=False):
     if any(edition < 1 or edition > EDITION for edition in editions):
         return 3, None
     if own and editions[0] != editions[1]:
@@ -955,7 +1030,7 @@ def begin(editions, t=0, own=False):
         return 21, None
     if t < 0 or t > THRESHOLD:
         return 21, None
-    return 0, Book(editions, t, own)
+    return 0, Book(editions, t, own, grid)
 
 
 # "Its next key is its last pair." 11: held exceeds the slice's length. "Asking the next key refuses only by 11."
@@ -980,6 +1055,9 @@ def take(book, slots, page, page_count=None):
     # 22: "wrong kind, after 12 and before 13"
     if page.own != book.own:
         return 22
+    # 30: "page of the other profile", after 22 and before 13
+    if page.grid != book.grid:
+        return 30
     # 13: page of other editions
     if page.editions != book.editions:
         return 13
@@ -990,14 +1068,15 @@ def take(book, slots, page, page_count=None):
     if page.key != next_key(book, slots)[1]:
         return 14
     # 15: over 16 pairs; an id outside 1 to 2,000,000,000; pairs not ascending strictly after the key; no pair and no end mark; "15 is also given when a size
-    # lies outside" its limit
+    # lies outside" its limit, which is that of the profile
     if count > SIZE:
         return 15
+    most = STREETS if page.grid else DIAMETER
     last = page.key
     for pair in page.pairs[:count]:
         if pair[0] < 1 or pair[0] > ID or pair[1] < 1 or pair[1] > ID or key_of(pair) <= last:
             return 15
-        if pair[2] < 0 or pair[2] > DIAMETER:
+        if pair[2] < 0 or pair[2] > most:
             return 15
         last = key_of(pair)
     if count == 0 and not page.end:

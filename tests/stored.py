@@ -13,7 +13,7 @@ RULES, OPEN, POINT, PACK, WALKS = range(1, 6)
 PAGES, PARTNERS, OWN, RUNS, SHORTEST, NEAR, VIEWS, MARK = range(7, 15)
 
 # of the kinds that are asked of two sheets: the words of a request, of which the first says how many words for kept bits are lent
-WIDTH = {PAGES: 5, PARTNERS: 3, OWN: 4, RUNS: 3, SHORTEST: 2, NEAR: 5, VIEWS: 9}
+WIDTH = {PAGES: 6, PARTNERS: 3, OWN: 5, RUNS: 3, SHORTEST: 2, NEAR: 5, VIEWS: 10}
 
 # How many words for kept bits the program has, of which some are lent; what number k of those that can be lent holds before a call.
 WORDS = 512
@@ -66,7 +66,7 @@ def split(tape):
             end = at + 2 + words[at + 1] + (kind == POINT)
         elif kind == WALKS:
             p, q, filters, rings = words[at + 1:at + 5]
-            end = at + 5 + p + q + 2 * filters + 2 * rings
+            end = at + 5 + p + q + 2 * filters + 3 * rings
         else:
             p, q, count = words[at + 1:at + 4]
             end = at + 4 + p + q + WIDTH[kind] * count

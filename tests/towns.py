@@ -45,6 +45,19 @@ def land(rng, n, far=reading.COORDINATE):
 PLACES = [grid, line, circle, corner, spots, town, land]
 
 
+def diamond(rng, n):
+    """As far from (0, 0) along the streets, one step more or less now and then, and (0, 0) among them."""
+    out = []
+    for _ in range(n):
+        radius = rng.choice([0, 5, 5, 6, 6, 6, 6, 7])
+        x = rng.randint(-radius, radius)
+        out.append((x, rng.choice([-1, 1]) * (radius - abs(x))))
+    return out
+
+
+STREET_PLACES = PLACES + [diamond, diamond]
+
+
 def ends(rng, n):
     """At the corners of form 2's range, and one step inside."""
     return corner(rng, n, reading.WIDE_COORDINATE)
@@ -98,6 +111,13 @@ def many(rng, n=1300):
     """A sheet of form 2 of more points than form 1 has, packed by 16: they need more than sixteen words."""
     points = [(number,) + place for number, place in zip(trees.ids(rng, n, reading.ID), province(rng, n))]
     return trees.sheet(points, trees.near(rng, points), reading.runs_of_sixteen(n), 44, 2)
+
+
+def too_wide(rng):
+    """Two sheets of at most 5 points, of which P, Q or both are of form 2, all three in turn: for each P and Q. Their points may be in form 1's range."""
+    for forms in ((2, 1), (1, 2), (2, 2)):
+        for places in (grid, ends):
+            yield [sheet(rng, places if form == 2 else grid, rng.randint(1, 5), form=form)[1] for form in forms]
 
 
 def few_words(rng):

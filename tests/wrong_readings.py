@@ -27,8 +27,16 @@ SEVENTEEN_THEN_SIX = '''    if out_length != packed_length(n):
     if sorted(order) != list(range(n)):
         return 6
 '''
-FIRST_OF_TWO = "    answer, opened = ring_walk(q, 1, a, b, j)\n    if answer != CLEAR:\n        return answer, opened\n    answer, more = ring_walk(p, 0, a, b, i)\n"
-OTHER_FIRST = "    answer, opened = ring_walk(p, 0, a, b, i)\n    if answer != CLEAR:\n        return answer, opened\n    answer, more = ring_walk(q, 1, a, b, j)\n"
+FIRST_OF_TWO = '''    answer, opened = ring_walk(q, 1, a, b, j, grid)
+    if answer != CLEAR:
+        return answer, opened
+    answer, more = ring_walk(p, 0, a, b, i, grid)
+'''
+OTHER_FIRST = '''    answer, opened = ring_walk(p, 0, a, b, i, grid)
+    if answer != CLEAR:
+        return answer, opened
+    answer, more = ring_walk(q, 1, a, b, j, grid)
+'''
 SHEETS_OF_PAGE = '''handed in."""
     number = open_number(p_words) or open_number(q_words)'''
 KEY_THEN_SIZE = '''        return 9, None, 0, words
@@ -38,7 +46,7 @@ KEY_THEN_SIZE = '''        return 9, None, 0, words
         return 21, None, 0, words
     p, q'''
 AFTER_KEY = "            if len(partners) >= t and key_of(pair) > key:\n"
-WALKED_WHOLE = '''            answer, more = pair_walk(p, q, j, i)
+WALKED_WHOLE = '''            answer, more = pair_walk(p, q, j, i, grid)
             opened += more
             if answer == CLEAR:
                 partners.append('''
@@ -182,6 +190,13 @@ ZEROS = LENT + [
     (ZEROS_LEFT, "    return [0] * (count - 1) + words[max(0, count - 1):]\n"),
 ]
 
+BOX_RULES = '''        if is_far(a, b, box):
+            return CLEAR
+        side = side_inside(a, b, box, grid)
+        if side is not None:
+            return ("side", which, j, side)
+'''
+
 NINE_THEN_SHORT = '''    if j >= q.n:
         return 9, [], 0, words
     if too_short(words, p):
@@ -195,7 +210,7 @@ WALKS = LEFT + [
     (NINE_THEN_SHORT, NINE_THEN_SHORT.replace("24, [], 0, words", "24, [], 0, [0] * len(words)")),
     (NINE_THEN_SHORT, NINE_THEN_SHORT.replace("9, [], 0, words", "9, [], 0, [0] * len(words)")),
     # "Letting a side that touches the circle block" [V7]
-    ("        if all(product(a, b, corner) < 0 for corner", "        if all(product(a, b, corner) <= 0 for corner"),
+    ("    return product(a, b, corner) < 0\n", "    return product(a, b, corner) <= 0\n"),
     # "Halving the centre in whole numbers" [V8]
     ("    x, y = a[0] + b[0], a[1] + b[1]\n", "    x, y = (a[0] + b[0]) // 2 * 2, (a[1] + b[1]) // 2 * 2\n"),
     # "Skipping a box when its centre, or three corners, lie behind the line" [V9, V10]
@@ -219,8 +234,7 @@ WALKS = LEFT + [
     (NO_END_BLOCKS, " and x != b"),
     ("        if side is not None:", "        if j < sheet.m - 1 and side is not None:"),
     ("        if side is not None:", "        if level == 0 and side is not None:"),
-    ("        if far(a, b, box):\n            return CLEAR\n        side = side_inside(a, b, box)\n        if side is not None:\n            return (\"side\", which, j, side)\n        opened += 1\n",
-     "        opened += 1\n        if far(a, b, box):\n            return CLEAR\n        side = side_inside(a, b, box)\n        if side is not None:\n            return (\"side\", which, j, side)\n"),
+    (BOX_RULES + "        opened += 1\n", "        opened += 1\n" + BOX_RULES),
     (FIRST_OF_TWO, OTHER_FIRST),
     ("    return answer, opened + more", "    return answer, more"),
     ("words[i // 64] |= 1 << (i % 64)", "words[i // 64] |= 1 << (63 - i % 64)"),
@@ -231,21 +245,23 @@ WALKS = LEFT + [
     ("over P.\"\"\"\n    number = open_number(p_words) or open_number(q_words)", "over P.\"\"\"\n    number = open_number(p_words)"),
 ]
 
-SQUARED = "(q[1] - p[1]) ** 2 + (q[2] - p[2]) ** 2"
+SQUARED = "(q[0] - p[0]) ** 2 + (q[1] - p[1]) ** 2"
 
 # the size: not squared; of one axis; along the axes; of the radius; of the two places turned; of q's place alone [Z1]
 SIZES = [
     (SQUARED, "int((%s) ** 0.5)" % SQUARED),
-    (SQUARED, "(q[1] - p[1]) ** 2"),
-    (SQUARED, "(abs(q[1] - p[1]) + abs(q[2] - p[2])) ** 2"),
+    (SQUARED, "(q[0] - p[0]) ** 2"),
+    (SQUARED, "(abs(q[0] - p[0]) + abs(q[1] - p[1])) ** 2"),
     (SQUARED, "(%s) // 4" % SQUARED),
-    (SQUARED, "(q[1] - p[2]) ** 2 + (q[2] - p[1]) ** 2"),
-    (SQUARED, "q[1] ** 2 + q[2] ** 2"),
+    (SQUARED, "(q[0] - p[1]) ** 2 + (q[1] - p[0]) ** 2"),
+    (SQUARED, "q[0] ** 2 + q[1] ** 2"),
 ]
 
 PAGE_SHORT = "    if too_short(words, p):\n        return 24, None, 0, words\n"
 OWN_SHORT = "    if too_short(words, sheet):\n        return 24, None, 0, words\n"
 PARTNERS_SHORT = "    if too_short(words, p):\n        return 24, 0, False, words\n"
+
+WALKED = "            answer, more = pair_walk(p, q, j, i, grid)\n            opened += more\n"
 
 PAGES = SIZES + ZEROS + [
     # 24: before 21, 10, 9 and 20; before the sheets' numbers; not for a self join, not for the question; a refused request clears the words
@@ -266,15 +282,14 @@ PAGES = SIZES + ZEROS + [
     # unused pairs that are not zeros [P6]
     ("UNUSED = (0, 0, 0)", "UNUSED = (0, 0, 1)"),
     # "Setting the end mark only when the page is not full" [V11]
-    ("following[:size], len(following) <= size, t)", "following[:size], len(following) < size, t)"),
+    ("following[:size], len(following) <= size, t, own, grid)", "following[:size], len(following) < size, t, own, grid)"),
     # "a page maker honest on the first page and then closing with an empty one" [V5]
     ("in list_of(pairs, t) if key_of(pair) > key]", "in list_of(pairs, t) if key_of(pair) > key and key == (0, 0)]"),
     ("in list_of(pairs, t) if key_of(pair) > key]", "in list_of(pairs, t) if key_of(pair) >= key]"),
     ("in list_of(pairs, t) if key_of(pair) > key]", "in list_of(pairs, t) if pair[0] > key[0] or pair in pairs and pair[1] > key[1]]"),
     ("        if q_id < key[0]:\n", "        if q_id <= key[0]:\n"),
-    ("            if key_of(pair) <= key:\n                continue\n            answer, more = pair_walk(p, q, j, i)\n            opened += more\n",
-     "            answer, more = pair_walk(p, q, j, i)\n            opened += more\n            if key_of(pair) <= key:\n                continue\n"),
-    ("                continue\n            answer, more = pair_walk(p, q, j, i)\n", "                continue\n            if len(found) == size:\n                return opened, found\n            answer, more = pair_walk(p, q, j, i)\n"),
+    ("            if key_of(pair) <= key:\n                continue\n" + WALKED, WALKED + "            if key_of(pair) <= key:\n                continue\n"),
+    ("                continue\n" + WALKED, "                continue\n            if len(found) == size:\n                return opened, found\n" + WALKED),
     ("                    return opened, found\n                found.append(pair)\n    return opened, found\n\n\n# \"With t", "                    return opened, found\n                found.append(pair)\n        if len(found) == size:\n            return opened, found\n    return opened, found\n\n\n# \"With t"),
     ("SIZE = 16", "SIZE = 15"),
     ("if size < 1 or size > SIZE:", "if size < 0 or size > SIZE:"),
@@ -282,7 +297,7 @@ PAGES = SIZES + ZEROS + [
     (SHEETS_OF_PAGE, SHEETS_OF_PAGE.replace("(p_words)", "(words)").replace("(q_words)", "(p_words)").replace("(words)", "(q_words)")),
     ("    if key[0] < 0 or key[0] > ID or key[1] < 0 or key[1] > ID:", "    if key[0] < 0 or key[0] > ID:"),
     ("ID = 2_000_000_000", "ID = 2_000_000_001"),
-    ("page = page_of(pairs, (p.edition, q.edition), key, size, t)", "page = page_of(pairs, (q.edition, p.edition), key, size, t)"),
+    ("page = page_of(pairs, (p.edition, q.edition), key, size, t, grid=grid)", "page = page_of(pairs, (q.edition, p.edition), key, size, t, grid=grid)"),
     # the list of t: strictly more than t partners; of each pump house and not of each chamber; the chambers with at most t; of the pairs after the key alone;
     # only the first t pairs of a chamber [T3]
     ("if partners[pair[0]] >= t]", "if partners[pair[0]] > t]"),
@@ -292,10 +307,13 @@ PAGES = SIZES + ZEROS + [
     ("if partners[pair[0]] >= t]", "if t == 0 or partners[pair[0]] >= t > sum(other[0] == pair[0] and other < pair for other in pairs)]"),
     # the count of t: of the kept partners after the key alone; up to the first pair beyond the size; of the ring pairs alone; of chambers that are listed alone
     # [T7]
-    (WALKED_WHOLE, "            if key_of(pair_of(p.points, q.points, j, i)) <= key:\n                partners += [pair_of(p.points, q.points, j, i)] * (pair_walk(p, q, j, i)[0] == CLEAR)\n                continue\n" + WALKED_WHOLE),
-    (AFTER_KEY + "                if len(found) == size:\n                    return opened, found\n", AFTER_KEY + "                if len(found) == size:\n                    return opened - sum(pair_walk(p, q, j, i)[1] for i in kept if p.points[i][0] > pair[1]), found\n"),
+    (WALKED_WHOLE, '''            if key_of(pair_of(p.points, q.points, j, i)) <= key:
+                partners += [pair_of(p.points, q.points, j, i, grid)] * (pair_walk(p, q, j, i, grid)[0] == CLEAR)
+                continue
+''' + WALKED_WHOLE),
+    (AFTER_KEY + "                if len(found) == size:\n                    return opened, found\n", AFTER_KEY + "                if len(found) == size:\n                    return opened - sum(pair_walk(p, q, j, i, grid)[1] for i in kept if p.points[i][0] > pair[1]), found\n"),
     (WALKED_WHOLE, WALKED_WHOLE.replace("            opened += more\n            if answer == CLEAR:\n", "            if answer == CLEAR:\n                opened += more\n")),
-    ("        for pair in partners:\n", "        if len(partners) < t:\n            opened -= sum(pair_walk(p, q, j, i)[1] for i in kept)\n        for pair in partners:\n"),
+    ("        for pair in partners:\n", "        if len(partners) < t:\n            opened -= sum(pair_walk(p, q, j, i, grid)[1] for i in kept)\n        for pair in partners:\n"),
     # the work goes on for t after the page is full; stops at its last pair
     ("                    return opened, found\n                found.append(pair)\n    return opened, found\n\n\n# 9:", "                    continue\n                found.append(pair)\n    return opened, found\n\n\n# 9:"),
     ("                found.append(pair)\n    return opened, found\n\n\n# 9:", "                found.append(pair)\n        if len(found) == size:\n            return opened, found\n    return opened, found\n\n\n# 9:"),
@@ -316,6 +334,9 @@ PAGES = SIZES + ZEROS + [
     ("of the single question. `pairs` as above.\"\"\"\n    number = open_number(p_words) or open_number(q_words)", "of the single question. `pairs` as above.\"\"\"\n    number = open_number(q_words) or open_number(p_words)"),
 ]
 
+NONE_BLOCKS = "not any(blocking(one[1:], other[1:], point[1:]) for point in others)"
+SELF_KEPT = "if grid else self_filter(sheet, j)\n        opened += more\n"
+ONE_WALK = "ring_walk(sheet, 0, sheet.place(j), sheet.place(%s), %s, grid)[1]"
 OWN_KEY = "    if not (0 <= key[0] <= ID and 0 <= key[1] <= ID):\n        return 9, None, 0, words\n"
 OWN_SIZE = "    if not 1 <= size <= SIZE:\n        return 10, None, 0, words\n"
 OWN_SHEET = "    number = open_number(s_words)\n    if number:\n        return number, None, 0, words\n"
@@ -324,21 +345,22 @@ OWN_SHEET = "    number = open_number(s_words)\n    if number:\n        return n
 # [J1, J3]
 PAGES += [
     ("            if one[0] < other[0] and not", "            if one[0] != other[0] and not"),
-    ("                pairs.append(pair_of(points, points, j, i))\n", "                pairs.append(pair_of(points, points, i, j))\n"),
+    ("                pairs.append(pair_of(points, points, j, i, grid))\n", "                pairs.append(pair_of(points, points, i, j, grid))\n"),
     ("            if one[0] < other[0] and not", "            if one[0] <= other[0] and not"),
-    ("not any(blocks(one[1:], other[1:], point[1:]) for point in others)", "not any(point[1:] in (one[1:], other[1:]) or blocks(one[1:], other[1:], point[1:]) for point in others)"),
-    ("not any(blocks(one[1:], other[1:], point[1:]) for point in others)", "not any(blocks(one[1:], other[1:], point[1:]) for point in others if point > one)"),
+    (NONE_BLOCKS, NONE_BLOCKS.replace("blocking", "point[1:] in (one[1:], other[1:]) or blocking")),
+    (NONE_BLOCKS, NONE_BLOCKS.replace("in others", "in others if point > one")),
     # its count: q is walked with itself; partners of lower id are walked too; two ring walks, as of two sheets; of the kept partners before the key too; no filter for q's
     # whose partners all have lower ids [J8, J9]
-    ("        kept, more = self_filter(sheet, j)\n        opened += more\n", "        kept, more = self_filter(sheet, j)\n        opened += more + ring_walk(sheet, 0, sheet.place(j), sheet.place(j), j)[1]\n"),
+    (SELF_KEPT, SELF_KEPT.replace("+= more", "+= more + " + ONE_WALK % ("j", "j"))),
     ("            if pair[1] > pair[0] and key_of(pair) > key:\n", "            if key_of(pair) > key:\n"),
     ("                opened += more\n                if answer == CLEAR and", "                opened += 2 * more if answer == CLEAR else more\n                if answer == CLEAR and"),
-    ("            if pair[1] > pair[0] and key_of(pair) > key:\n", "            opened += 0 if key_of(pair) > key or pair[1] < pair[0] else ring_walk(sheet, 0, sheet.place(j), sheet.place(i), i)[1]\n            if pair[1] > pair[0] and key_of(pair) > key:\n"),
-    ("        kept, more = self_filter(sheet, j)\n        opened += more\n", "        kept, more = self_filter(sheet, j)\n        opened += more if any(i > j for i in kept) else 0\n"),
+    ("            if pair[1] > pair[0] and key_of(pair) > key:\n", 
+     "            opened += 0 if key_of(pair) > key or pair[1] < pair[0] else " + ONE_WALK % ("i", "i") + "\n            if pair[1] > pair[0] and key_of(pair) > key:\n"),
+    (SELF_KEPT, SELF_KEPT.replace("+= more", "+= more if any(i > j for i in kept) else 0")),
     ("                if answer == CLEAR and len(found) == size:\n", "                if len(found) == size:\n"),
     # its page: another kind; a t; 9 after 10; the sheet after the key [J5]
-    ("    page.own = True\n", "    page.own = False\n"),
-    ("    page.own = True\n", "    page.own, page.t = True, 1\n"),
+    ("key, size, 0, True, grid)", "key, size, 0, False, grid)"),
+    ("key, size, 0, True, grid)", "key, size, 1, True, grid)"),
     (OWN_KEY, OWN_KEY.replace("return 9", "return 9 if 1 <= size <= SIZE else 10")),
     (OWN_SHEET, OWN_SHEET.replace("return number", "return number if 0 <= key[0] <= ID else 9")),
     ("    if not 1 <= size <= SIZE:", "    if not 1 <= size < SIZE:"),
@@ -510,9 +532,9 @@ BOOK = [
     ("DIAMETER = 8_000_000_000_000_000_000", "DIAMETER = 8_000_000_000_000"),
     # 0 is no size; no size is looked at; only the first; those past the count too [Z3]
     ("        if pair[2] < 0 or", "        if pair[2] <= 0 or"),
-    ("        if pair[2] < 0 or pair[2] > DIAMETER:", "        if False:"),
-    ("        if pair[2] < 0 or pair[2] > DIAMETER:", "        if page.pairs[0][2] > DIAMETER:"),
-    ("        if pair[2] < 0 or pair[2] > DIAMETER:", "        if any(other[2] > DIAMETER for other in page.pairs):"),
+    ("        if pair[2] < 0 or pair[2] > most:", "        if False:"),
+    ("        if pair[2] < 0 or pair[2] > most:", "        if page.pairs[0][2] > most:"),
+    ("        if pair[2] < 0 or pair[2] > most:", "        if any(other[2] > most for other in page.pairs):"),
     ("ID = 2_000_000_000", "ID = 2_000_000_001"),
     ("        if pair[0] < 1 or pair[0] > ID or pair[1] < 1", "        if pair[0] < 1 or pair[0] > ID or pair[1] < 0"),
     ("or key_of(pair) <= last:", "or key_of(pair) < last:"),
@@ -536,6 +558,133 @@ BOOK = [
     ("THRESHOLD = 60_000", "THRESHOLD = 59_999"),
     ("THRESHOLD = 60_000", "THRESHOLD = 60_001"),
     ("THRESHOLD = 60_000", "THRESHOLD = 1_000"),
+]
+
+AT_MOST = "    return from_middle(a, b, x) <= along_streets(a, b)\n"
+NO_END = "    if x in (a, b):\n        return False\n"
+FROM_MIDDLE = "    return along_streets((2 * x[0], 2 * x[1]), (a[0] + b[0], a[1] + b[1]))\n"
+MIDDLE = "    middle = (a[0] + b[0], a[1] + b[1])\n"
+NEAREST = "    nearest = tuple(min(max(low[k], middle[k]), high[k]) for k in (0, 1))\n"
+STREET_FAR = "    return along_streets(middle, nearest) > along_streets(a, b)\n"
+STREET_INSIDE = "    return from_middle(a, b, corner) < along_streets(a, b)\n"
+TOO_WIDE = "    return grid and any(sheet.form == 2 for sheet in sheets)\n"
+
+# of the street grid, what blocks: the border is open; an end's place blocks, that of one end alone; the middle in whole numbers; the place is not doubled but the
+# bound is; the circle's size for the bound; the circle's rule; the greater difference for the sum, one axis alone, or the difference of the sums. Halving both sums
+# would be right: they are both even or both odd [A1, A2]
+STREET_RULE = [
+    (AT_MOST, AT_MOST.replace("<=", "<")),
+    (NO_END, ""),
+    (NO_END, NO_END.replace("x in (a, b)", "x == a")),
+    (NO_END, NO_END.replace("x in (a, b)", "x == b")),
+    (FROM_MIDDLE, FROM_MIDDLE.replace("(a[0] + b[0], a[1] + b[1])", "((a[0] + b[0]) // 2 * 2, (a[1] + b[1]) // 2 * 2)")),
+    (AT_MOST, AT_MOST.replace("along_streets(a, b)", "2 * along_streets(a, b)")),
+    (AT_MOST, AT_MOST.replace("from_middle(a, b, x) <= along_streets(a, b)", "from_middle(a, b, x) ** 2 <= squared(a, b)")),
+    (AT_MOST, "    return product(a, b, x) <= 0\n"),
+    ("    return abs(one[0] - other[0]) + abs(one[1] - other[1])\n", "    return max(abs(one[0] - other[0]), abs(one[1] - other[1]))\n"),
+    ("    return abs(one[0] - other[0]) + abs(one[1] - other[1])\n", "    return abs(one[0] - other[0])\n"),
+    ("    return abs(one[0] - other[0]) + abs(one[1] - other[1])\n", "    return abs(one[0] - other[0] + one[1] - other[1])\n"),
+]
+
+# 29: not at all; for the circle too; for P alone, for Q alone, only where both are; by the points and not by the form [A13]
+WIDE = [
+    (TOO_WIDE, "    return False\n"),
+    (TOO_WIDE, TOO_WIDE.replace("grid and ", "")),
+    (TOO_WIDE, TOO_WIDE.replace("sheet in sheets", "sheet in sheets[:1]")),
+    (TOO_WIDE, TOO_WIDE.replace("sheet in sheets", "sheet in sheets[-1:]")),
+    (TOO_WIDE, TOO_WIDE.replace("any(", "all(")),
+    (TOO_WIDE, TOO_WIDE.replace("sheet.form == 2 for sheet in sheets", "abs(word) > COORDINATE for sheet in sheets for point in sheet.points for word in point[1:]")),
+]
+
+RING_29 = "    if too_wide(grid, p, q):\n        return 29, None, 0\n"
+RING_9 = "    if j >= q.n or i >= p.n:\n        return 9, None, 0\n"
+RING_SHEETS = "    if number:\n        return number, None, 0\n    p, q = Sheet(p_words), Sheet(q_words)\n    if too_wide"
+
+WALKS += STREET_RULE + WIDE + [
+    # 29 after 9; before the sheets' numbers [A13]
+    (RING_29 + RING_9, RING_9 + RING_29),
+    (RING_SHEETS, RING_SHEETS.replace("return number,", "return 29 if grid and 2 in p_words[-1:] + q_words[-1:] else number,")),
+    # rule (1): at the border; the middle in whole numbers; of the box's own coordinates; to its middle; to its nearest corner; the circle's [A3]
+    (STREET_FAR, STREET_FAR.replace(">", ">=")),
+    (MIDDLE, "    middle = ((a[0] + b[0]) // 2 * 2, (a[1] + b[1]) // 2 * 2)\n"),
+    ("    low, high = (2 * box[0], 2 * box[1]), (2 * box[2], 2 * box[3])\n", "    low, high = box[:2], box[2:]\n"),
+    (NEAREST, "    nearest = tuple((low[k] + high[k]) // 2 for k in (0, 1))\n"),
+    (NEAREST, "    nearest = tuple(min(low[k], high[k], key=lambda end: abs(end - middle[k])) for k in (0, 1))\n"),
+    ("(street_far, street_blocks) if grid", "(far, street_blocks) if grid"),
+    # rule (2): a side that touches; one whose one corner lies inside; the circle's [A4]
+    (STREET_INSIDE, STREET_INSIDE.replace("<", "<=")),
+    ("        if all(street_inside(a, b, corner) if grid", "        if (any if grid else all)(street_inside(a, b, corner) if grid"),
+    ("street_inside(a, b, corner) if grid else inside", "inside(a, b, corner) if grid else inside"),
+    # the walk of the street grid with the circle's rule for points; the profile is not looked at
+    ("(street_far, street_blocks) if grid", "(street_far, blocks) if grid"),
+    ("    answer, opened = pair_walk(p, q, j, i, grid)\n    return 0, answer, opened\n", "    answer, opened = pair_walk(p, q, j, i)\n    return 0, answer, opened\n"),
+]
+
+KEPT_ALL = "        return list(range(sheet.n)), 0\n    return filter_walk(sheet, q)\n"
+SELF_ALL = "        kept, more = ([i for i in range(sheet.n) if i != j], 0) if grid else self_filter(sheet, j)\n"
+STREET_SIZE = "    return along_streets(q, p) ** 2\n"
+PAGE_29 = "    if too_wide(grid, Sheet(p_words), Sheet(q_words)):\n        return 29, None, 0, words\n"
+OWN_29 = "    if too_wide(grid, Sheet(s_words)):\n        return 29, None, 0, words\n"
+
+# 29 of a page and of a self join: after 9, after 10, after 21, after 24; before the sheets' numbers; not at all for a self join [A13]
+PAGES += STREET_RULE + WIDE + [
+    (PAGE_29, PAGE_29.replace("return 29", "return 9 if key[0] > ID or key[1] > ID else 29")),
+    (PAGE_29, PAGE_29.replace("return 29", "return 10 if key[0] <= ID and key[1] <= ID and not 1 <= size <= SIZE else 29")),
+    (PAGE_29, PAGE_29.replace("return 29", "return 21 if key[0] <= ID and key[1] <= ID and 1 <= size <= SIZE and t > THRESHOLD else 29")),
+    (PAGE_29, PAGE_29.replace("return 29", "return 24 if too_short(words, Sheet(p_words)) else 29")),
+    (SHEETS_OF_PAGE, SHEETS_OF_PAGE + " if not (grid and 2 in p_words[-1:] + q_words[-1:]) else 29"),
+    (OWN_29, ""),
+    (OWN_29, OWN_29.replace("return 29", "return 9 if key[0] > ID or key[1] > ID else 29")),
+    (OWN_29, OWN_29.replace("return 29", "return 10 if key[0] <= ID and key[1] <= ID and not 1 <= size <= SIZE else 29")),
+    (OWN_29, OWN_29.replace("return 29", "return 24 if too_short(words, Sheet(s_words)) else 29")),
+    # the size: not squared; the squared diameter; the sum of the squares of doubled differences; of the greater difference [A9]
+    (STREET_SIZE, "    return along_streets(q, p)\n"),
+    (STREET_SIZE, "    return squared(q, p)\n"),
+    (STREET_SIZE, "    return 2 * squared(q, p)\n"),
+    (STREET_SIZE, "    return max(abs(q[0] - p[0]), abs(q[1] - p[1])) ** 2\n"),
+    # what is kept: by the half-plane filter; all, but its nodes are counted; all, and all nodes are counted, or one for each chamber; of a self join likewise
+    # [A6, A7]
+    (KEPT_ALL, "        pass\n    return filter_walk(sheet, q)\n"),
+    (KEPT_ALL, KEPT_ALL.replace(", 0\n", ", filter_walk(sheet, q)[1]\n")),
+    (KEPT_ALL, KEPT_ALL.replace(", 0\n", ", sheet.m\n")),
+    (KEPT_ALL, KEPT_ALL.replace(", 0\n", ", 1\n")),
+    (SELF_ALL, "        kept, more = self_filter(sheet, j)\n"),
+    (SELF_ALL, SELF_ALL.replace(", 0) if", ", self_filter(sheet, j)[1]) if")),
+    (SELF_ALL, SELF_ALL.replace(", 0) if", ", sheet.m) if")),
+    # the list of the circle; its walks; a self join's likewise
+    ("        pairs = ring_list(p.points, q.points, grid)\n", "        pairs = ring_list(p.points, q.points)\n"),
+    ("        pairs = self_list(sheet.points, grid)\n", "        pairs = self_list(sheet.points)\n"),
+    ("    opened, found = self_opened(sheet, key, size, grid)\n", "    opened, found = self_opened(sheet, key, size)\n"),
+    # a page that does not say its profile, of two sheets and of one [A8]
+    ("key, size, t, grid=grid)", "key, size, t)"),
+    ("key, size, 0, True, grid)", "key, size, 0, True)"),
+]
+
+NOT_30 = "    if page.grid != book.grid:\n        return 30\n"
+MOST = "    most = STREETS if page.grid else DIAMETER\n"
+
+BOOK += [
+    # the size limit of the street grid; the circle's for both; that of the street grid for both; each for the other [A12]
+    ("STREETS = 16_000_000_000_000", "STREETS = 15_999_999_999_999"),
+    ("STREETS = 16_000_000_000_000", "STREETS = 16_000_000_000_001"),
+    ("STREETS = 16_000_000_000_000", "STREETS = 8_000_000_000_000"),
+    (MOST, "    most = DIAMETER\n"),
+    (MOST, "    most = STREETS\n"),
+    (MOST, "    most = DIAMETER if page.grid else STREETS\n"),
+    # 30: before 22; before 12; after 13; after 31; after 14; not at all; for a book of one profile alone [A14]
+    ("    if page.own != book.own:\n        return 22\n", NOT_30 + "    if page.own != book.own:\n        return 22\n"),
+    ("    if book.closed:\n        return 12\n", NOT_30 + "    if book.closed:\n        return 12\n"),
+    (NOT_30, NOT_30.replace("return 30", "return 30 if page.editions == book.editions else 13")),
+    (NOT_30, NOT_30.replace("return 30", "return 30 if page.editions != book.editions or page.t == book.t else 31")),
+    (NOT_30, NOT_30.replace("return 30", "return 30 if page.editions != book.editions or page.t != book.t or page.key == next_key(book, slots)[1] else 14")),
+    (NOT_30, ""),
+    (NOT_30, NOT_30.replace("page.grid != book.grid", "book.grid and not page.grid")),
+    (NOT_30, NOT_30.replace("page.grid != book.grid", "page.grid and not book.grid")),
+    (NOT_30, NOT_30.replace("return 30", "return 22")),
+    # begin: the profile is forgotten; a self join of the street grid is refused; a t with it [A8]
+    ("    return 0, Book(editions, t, own, grid)\n", "    return 0, Book(editions, t, own, False)\n"),
+    ("    if own and t > 0:\n        return 21, None\n", "    if own and grid:\n        return 3, None\n    if own and t > 0:\n        return 21, None\n"),
+    ("    if own and t > 0:\n        return 21, None\n", "    if (own or grid) and t > 0:\n        return 21, None\n"),
 ]
 
 STEP = 100

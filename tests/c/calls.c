@@ -2,7 +2,7 @@
  * Every call of ring.h with random and damaged inputs: null with length 0, wrong lengths, extreme numbers, words changed at random, sheets of both forms.
  * Answers are held to a plain second reading of the rules: the numbers of open, pack, next key and take; the list, by trying every pair against every
  * record; the shortest pairs, the nearest pump houses and a leaf's run likewise; what walks keep, what stops them, and the nodes opened, of pages and runs
- * too, by plain walks; the marker, doubled.
+ * too, by plain walks; the marker, doubled. Pages, books and ring walks of the street grid are held to it by turned coordinates.
  * Lent memory is held to a copy made before the call, with marks on both sides: what an answer is to leave there is put into the copy, and nothing for a refusal.
  * Last two sheets of 60,000 points, held to the same reading.
  * Prints one line, and ends with 1 where an answer differs or a number of refusal never came up.
@@ -23,9 +23,9 @@
 /* how much is watched on both sides of what is lent */
 #define PAST 64
 
-/* the numbers of refusal: 0 to 22, 24, 25 and 31 */
+/* the numbers of refusal: 0 to 22, 24, 25 and 29 to 31 */
 #define LAST 31
-#define A_NUMBER(k) ((k) <= 22 || (k) == 24 || (k) == 25 || (k) == 31)
+#define A_NUMBER(k) ((k) <= 22 || (k) == 24 || (k) == 25 || ((k) >= 29 && (k) <= 31))
 
 /* counts have 64 bits: a field, or a whole struct, has so many bytes */
 #define FIELD(type, field, bytes) typedef char type##_##field[sizeof ((type *)0)->field == (bytes) ? 1 : -1]
@@ -51,6 +51,14 @@ FIELD(RingRun, opened, 8);
 FIELD(RingPoint, x, 4);
 FIELD(RingPoint, y, 4);
 FIELD(RingTerms, threshold, 4);
+FIELD(RingTerms, own, 1);
+FIELD(RingTerms, grid, 1);
+FIELD(RingRequest, grid, 1);
+STRUCT(RingTerms, 8);
+STRUCT(RingSource, 16);
+STRUCT(RingRequest, 24);
+STRUCT(RingPage, 296);
+STRUCT(RingBook, 32);
 STRUCT(RingPair, 16);
 STRUCT(RingHead, 40);
 STRUCT(RingFiltered, 24);
@@ -59,7 +67,7 @@ STRUCT(RingPaged, 312);
 STRUCT(RingRun, 24);
 
 static uint64_t seed = 88172645463325252ull;
-static unsigned long calls, wrong, first_wrong, seen[LAST + 1], named[4];
+static unsigned long calls, wrong, first_wrong, seen[LAST + 1], named[2][4];
 
 #define HOLD(test) ((test) ? (void)0 : (void)(wrong++ ? 0 : (first_wrong = __LINE__)))
 
@@ -290,10 +298,24 @@ static int64_t product(const int32_t *a, const int32_t *b, const int32_t *x) {
 
 static bool behind(const int32_t *a, const int32_t *b, const int32_t *x) { return product(a, b, x) <= 0; }
 
-/* whether both corners of a side of the box (xmin, ymin, xmax, ymax) lie strictly inside */
-static bool side_in(const int32_t *a, const int32_t *b, const int32_t *box, uint32_t side) {
+/* along the streets, |x| + |y| is the greater of |x + y| and |x - y| */
+static int64_t turned(int64_t x, int64_t y) {
+    int64_t sum = x + y < 0 ? -(x + y) : x + y, difference = x < y ? y - x : x - y;
+    return sum < difference ? difference : sum;
+}
+
+/* along the streets: how far a is from b, and how much farther twice x is from a + b */
+static int64_t apart(const int32_t *a, const int32_t *b) { return turned((int64_t)a[1] - b[1], (int64_t)a[2] - b[2]); }
+
+static int64_t outside(const int32_t *a, const int32_t *b, const int32_t *x) {
+    return turned(2 * (int64_t)x[1] - a[1] - b[1], 2 * (int64_t)x[2] - a[2] - b[2]) - apart(a, b);
+}
+
+/* whether both corners of a side of the box (xmin, ymin, xmax, ymax) lie strictly inside, of either profile */
+static bool side_in(bool grid, const int32_t *a, const int32_t *b, const int32_t *box, uint32_t side) {
     int32_t lower[3] = {0, box[side == RING_RIGHT ? 2 : 0], box[side == RING_TOP ? 3 : 1]};
     int32_t upper[3] = {0, box[side == RING_LEFT ? 0 : 2], box[side == RING_BOTTOM ? 1 : 3]};
+    if (grid) return outside(a, b, lower) < 0 && outside(a, b, upper) < 0;
     return product(a, b, lower) < 0 && product(a, b, upper) < 0;
 }
 
@@ -301,28 +323,41 @@ static bool one_spot(const int32_t *a, const int32_t *b) { return a[1] == b[1] &
 
 static bool blocks(const int32_t *a, const int32_t *b, const int32_t *x) { return behind(a, b, x) && !one_spot(x, a) && !one_spot(x, b); }
 
+static bool blocks_by(bool grid, const int32_t *a, const int32_t *b, const int32_t *x) {
+    return grid ? outside(a, b, x) <= 0 && !one_spot(x, a) && !one_spot(x, b) : blocks(a, b, x);
+}
+
 static size_t count_of(const Sheet *s) { return (size_t)s->words[s->len - 4]; }
 
 static size_t nodes_of(const Sheet *s) { return (size_t)s->words[s->len - 3]; }
 
-static bool is_pair(size_t j, size_t i) {
+/* the street grid takes sheets of form 1 alone */
+static bool too_wide(const Sheet *s) { return s->words[s->len - 1] == 2; }
+
+static bool is_pair_by(bool grid, size_t j, size_t i) {
     const int32_t *q = Q.words + 3 * j, *p = P.words + 3 * i;
     for (size_t k = 0; k < count_of(&Q); k++)
-        if (k != j && blocks(q, p, Q.words + 3 * k)) return false;
+        if (k != j && blocks_by(grid, q, p, Q.words + 3 * k)) return false;
     for (size_t k = 0; k < count_of(&P); k++)
-        if (k != i && blocks(q, p, P.words + 3 * k)) return false;
+        if (k != i && blocks_by(grid, q, p, P.words + 3 * k)) return false;
     return true;
 }
 
-/* the pair of two records, with the squared distance of the two */
-static RingPair size_of(const int32_t *q, const int32_t *p) {
+static bool is_pair(size_t j, size_t i) { return is_pair_by(false, j, i); }
+
+/* the pair of two records, with the squared distance of the two, or with that along the streets */
+static RingPair size_by(bool grid, const int32_t *q, const int32_t *p) {
     int64_t x = (int64_t)q[1] - p[1], y = (int64_t)q[2] - p[2];
-    RingPair v = {(uint32_t)q[0], (uint32_t)p[0], (uint64_t)(x * x + y * y)};
+    RingPair v = {(uint32_t)q[0], (uint32_t)p[0], (uint64_t)(grid ? apart(q, p) * apart(q, p) : x * x + y * y)};
     return v;
 }
 
+static RingPair size_of(const int32_t *q, const int32_t *p) { return size_by(false, q, p); }
+
 /* that of two positions */
 static RingPair pair_of(size_t j, size_t i) { return size_of(Q.words + 3 * j, P.words + 3 * i); }
+
+static uint64_t most_size(bool grid) { return grid ? 16000000000000 : 8000000000000000000; }
 
 static bool after(RingKey k, RingPair v) { return k.q < v.q || (k.q == v.q && k.p < v.p); }
 
@@ -338,7 +373,7 @@ static bool page_bad(const RingPage *g) {
     RingKey last = g->key;
     for (size_t k = 0; k < g->count; k++) {
         RingPair v = g->pairs[k];
-        if (!id_ok(v.q) || !id_ok(v.p) || v.size > 8000000000000000000 || !after(last, v)) return true;
+        if (!id_ok(v.q) || !id_ok(v.p) || v.size > most_size(g->source.terms.grid) || !after(last, v)) return true;
         last.q = v.q, last.p = v.p;
     }
     return g->count == 0 && !g->end;
@@ -348,6 +383,7 @@ static uint32_t take_no(const RingBook *b, const RingPair *slots, size_t len, co
     if (b->held > len) return 11;
     if (b->closed) return 12;
     if (g->source.terms.own != b->source.terms.own) return 22;
+    if (g->source.terms.grid != b->source.terms.grid) return 30;
     if (g->source.p_edition != b->source.p_edition || g->source.q_edition != b->source.q_edition) return 13;
     if (g->source.terms.threshold != b->source.terms.threshold) return 31;
     RingKey next = key_of(slots, b->held);
@@ -358,7 +394,7 @@ static uint32_t take_no(const RingBook *b, const RingPair *slots, size_t len, co
 
 static bool same_book(RingBook a, RingBook b) {
     return a.held == b.held && a.closed == b.closed && a.source.p_edition == b.source.p_edition && a.source.q_edition == b.source.q_edition
-        && a.source.terms.threshold == b.source.terms.threshold && a.source.terms.own == b.source.terms.own;
+        && a.source.terms.threshold == b.source.terms.threshold && a.source.terms.own == b.source.terms.own && a.source.terms.grid == b.source.terms.grid;
 }
 
 /* ---- the walks, read again */
@@ -430,25 +466,28 @@ static uint64_t filtered(const int32_t *q, size_t over, Kept *kept) {
     return nodes_of(&P) ? filter_from(q, over, nodes_of(&P) - 1, kept) : 0;
 }
 
-/* twice the centre is farther from the doubled box than the ends are from each other: each axis by itself, as the sum of the two may be over 2^64 */
-static bool far_off(const int32_t *a, const int32_t *b, const int32_t *box) {
-    uint64_t size = size_of(a, b).size, x = square(beside(2 * (int64_t)box[0], (int64_t)a[1] + b[1], 2 * (int64_t)box[2]));
-    uint64_t y = square(beside(2 * (int64_t)box[1], (int64_t)a[2] + b[2], 2 * (int64_t)box[3]));
-    return x > size || y > size - x;
+/* twice the centre is farther from the doubled box than the ends are from each other: of the circle each axis by itself, as the sum of the squares may be over
+   2^64 */
+static bool far_off(bool grid, const int32_t *a, const int32_t *b, const int32_t *box) {
+    int64_t x = beside(2 * (int64_t)box[0], (int64_t)a[1] + b[1], 2 * (int64_t)box[2]);
+    int64_t y = beside(2 * (int64_t)box[1], (int64_t)a[2] + b[2], 2 * (int64_t)box[3]);
+    uint64_t size = size_of(a, b).size;
+    if (grid) return turned(x, y) > apart(a, b);
+    return square(x) > size || square(y) > size - square(x);
 }
 
 /* the ring walk for a, b from node v of a sheet on, of which one position is an end: whether it is stopped, and in w by what, and the nodes opened */
-static bool stopped(const Sheet *s, const int32_t *a, const int32_t *b, size_t end, size_t v, RingWalked *w) {
+static bool stopped(bool grid, const Sheet *s, const int32_t *a, const int32_t *b, size_t end, size_t v, RingWalked *w) {
     const int32_t *node = node_of(s, v);
-    if (far_off(a, b, node + 3)) return false;
+    if (far_off(grid, a, b, node + 3)) return false;
     w->at = v, w->kind = RING_BY_SIDE;
     for (w->side = RING_LEFT; w->side <= RING_TOP; w->side++)
-        if (side_in(a, b, node + 3, w->side)) return true;
+        if (side_in(grid, a, b, node + 3, w->side)) return true;
     w->opened++, w->side = 0, w->kind = RING_CLEAR;
     for (int32_t c = node[1]; c < node[1] + node[2]; c++)
         if (node[0]) {
-            if (stopped(s, a, b, end, (size_t)c, w)) return true;
-        } else if (w->at = stands(s, c), w->at != end && blocks(a, b, s->words + 3 * w->at)) {
+            if (stopped(grid, s, a, b, end, (size_t)c, w)) return true;
+        } else if (w->at = stands(s, c), w->at != end && blocks_by(grid, a, b, s->words + 3 * w->at)) {
             w->kind = RING_BY_POINT;
             return true;
         }
@@ -457,19 +496,19 @@ static bool stopped(const Sheet *s, const int32_t *a, const int32_t *b, size_t e
 }
 
 /* the ring walks of q, at position j, and p, at position i of P: over Q, but not where P is joined with itself, then over P */
-static RingWalked walked(const int32_t *q, const int32_t *p, size_t j, size_t i, bool own) {
+static RingWalked walked(bool grid, const int32_t *q, const int32_t *p, size_t j, size_t i, bool own) {
     RingWalked w;
     memset(&w, 0, sizeof w);
     w.set = 1;
-    if (!own && stopped(&Q, q, p, j, nodes_of(&Q) - 1, &w)) return w;
+    if (!own && stopped(grid, &Q, q, p, j, nodes_of(&Q) - 1, &w)) return w;
     w.set = 0;
-    stopped(&P, q, p, i, nodes_of(&P) - 1, &w);
+    stopped(grid, &P, q, p, i, nodes_of(&P) - 1, &w);
     return w;
 }
 
 /* the nodes opened for a page: of each q from the key's on the filter's, and those of its kept partners after the key, up to the first pair beyond the size; of the
-   list of a t, those of all its kept partners */
-static uint64_t page_opened(RingKey key, size_t size, uint32_t t, bool own) {
+   list of a t, those of all its kept partners. Of the street grid nobody is filtered, and all of P is kept */
+static uint64_t page_opened(bool grid, RingKey key, size_t size, uint32_t t, bool own) {
     static Kept kept;
     const Sheet *s = own ? &P : &Q;
     uint64_t opened = 0;
@@ -478,12 +517,12 @@ static uint64_t page_opened(RingKey key, size_t size, uint32_t t, bool own) {
         const int32_t *q = s->words + 3 * j;
         size_t many = 0, later = 0;
         if ((uint32_t)q[0] < key.q) continue;
-        opened += filtered(q, own ? j : SIZE_MAX, &kept);
+        if (!grid) opened += filtered(q, own ? j : SIZE_MAX, &kept);
         for (size_t i = own ? j + 1 : 0; i < count_of(&P) && (t || found + later <= size); i++) {
             const int32_t *p = P.words + 3 * i;
             bool follows = after(key, size_of(q, p));
-            if (!kept.is[i] || !(t || follows)) continue;
-            RingWalked w = walked(q, p, j, i, own);
+            if (!(grid || kept.is[i]) || !(t || follows)) continue;
+            RingWalked w = walked(grid, q, p, j, i, own);
             opened += w.opened;
             if (w.kind == RING_CLEAR) many++, later += follows;
         }
@@ -602,17 +641,24 @@ static void try_point(void) {
     else HOLD(r.id == (uint32_t)P.words[3 * i] && r.x == P.words[3 * i + 1] && r.y == P.words[3 * i + 2]);
 }
 
-/* two sheets, sometimes damaged; the number that both give, and a position of each, which may be over */
-static uint32_t two_sheets(size_t most, size_t *j, size_t *i) {
-    make_sheet(&P, some_n(most)), make_sheet(&Q, some_n(most));
+/* of form 1 */
+static void make_narrow(Sheet *s, size_t n) { make_form(s, n > 1000 ? 1000 : n, 1); }
+
+/* two sheets, sometimes damaged; the number that both give, and a position of each, which may be over. For the street grid they are of form 1 most of the
+   time, and its number comes after theirs */
+static uint32_t two_sheets_of(bool grid, size_t most, size_t *j, size_t *i) {
+    void (*const make)(Sheet *, size_t) = grid && below(4) ? make_narrow : make_sheet;
+    make(&P, some_n(most)), make(&Q, some_n(most));
     if (below(4) == 0) damage(&P);
     if (below(4) == 0) damage(&Q);
     save();
     uint32_t p = open_no(P.words, P.len), q = open_no(Q.words, Q.len);
     *j = below(8) ? below(q ? 9 : count_of(&Q) + 1) : wild_size();
     *i = below(8) ? below(p ? 9 : count_of(&P) + 1) : wild_size();
-    return p ? p : q;
+    return p ? p : q ? q : grid && (too_wide(&P) || too_wide(&Q)) ? 29 : 0;
 }
+
+static uint32_t two_sheets(size_t most, size_t *j, size_t *i) { return two_sheets_of(false, most, j, i); }
 
 static void try_filter(void) {
     static Kept expected;
@@ -630,9 +676,10 @@ static void try_filter(void) {
 
 static void try_pair(void) {
     size_t j, i;
-    uint32_t number = two_sheets(80, &j, &i);
-    if (below(8) == 0) make_far(&P), make_far(&Q), save(), number = 0, j = below(count_of(&Q)), i = below(count_of(&P));
-    RingWalked r = ring_pair_walk(at(&P), P.len, at(&Q), Q.len, j, i);
+    bool grid = below(2);
+    uint32_t number = two_sheets_of(grid, 80, &j, &i);
+    if (below(8) == 0) make_far(&P), make_far(&Q), save(), number = grid ? 29 : 0, j = below(count_of(&Q)), i = below(count_of(&P));
+    RingWalked r = ring_pair_walk(at(&P), P.len, at(&Q), Q.len, j, i, grid);
     saw(r.number), hold_saved();
     HOLD(r.number == (number ? number : j < count_of(&Q) && i < count_of(&P) ? 0 : 9));
     if (r.number || r.kind == RING_CLEAR) HOLD(r.kind == 0 && r.set == 0 && r.side == 0 && r.at == 0);
@@ -641,36 +688,40 @@ static void try_pair(void) {
         return;
     }
     const Sheet *s = r.set ? &Q : &P;
-    RingWalked expected = walked(Q.words + 3 * j, P.words + 3 * i, j, i, false);
+    RingWalked expected = walked(grid, Q.words + 3 * j, P.words + 3 * i, j, i, false);
     HOLD(r.kind == expected.kind && r.set == expected.set && r.side == expected.side && r.at == expected.at && r.opened == expected.opened);
-    HOLD((r.kind == RING_CLEAR) == is_pair(j, i));
-    if (r.kind == RING_BY_POINT) HOLD(r.side == 0 && r.at < count_of(s) && r.at != (r.set ? j : i) && blocks(Q.words + 3 * j, P.words + 3 * i, s->words + 3 * r.at));
+    HOLD((r.kind == RING_CLEAR) == is_pair_by(grid, j, i));
+    if (r.kind == RING_BY_POINT)
+        HOLD(r.side == 0 && r.at < count_of(s) && r.at != (r.set ? j : i) && blocks_by(grid, Q.words + 3 * j, P.words + 3 * i, s->words + 3 * r.at));
     if (r.kind == RING_BY_SIDE) {
         HOLD(r.at < nodes_of(s) && r.side <= RING_TOP);
-        named[r.side % 4]++;
+        named[grid][r.side % 4]++;
         const int32_t *box = s->words + 5 * count_of(s) + 7 * r.at + 3;
-        for (uint32_t side = 0; side <= r.side; side++) HOLD(side_in(Q.words + 3 * j, P.words + 3 * i, box, side) == (side == r.side));
+        for (uint32_t side = 0; side <= r.side; side++) HOLD(side_in(grid, Q.words + 3 * j, P.words + 3 * i, box, side) == (side == r.side));
     }
 }
 
 /* how many ring pairs the chamber at a position has */
-static size_t partners_of(size_t j) {
+static size_t partners_by(bool grid, size_t j) {
     size_t many = 0;
-    for (size_t i = 0; i < count_of(&P); i++) many += is_pair(j, i);
+    for (size_t i = 0; i < count_of(&P); i++) many += is_pair_by(grid, j, i);
     return many;
 }
 
-/* the page that the list of t gives, by trying every pair */
-static RingPage page_of(RingKey key, size_t size, uint32_t t) {
+static size_t partners_of(size_t j) { return partners_by(false, j); }
+
+/* the page that the list of t of a profile gives, by trying every pair */
+static RingPage page_of(bool grid, RingKey key, size_t size, uint32_t t) {
     RingPage g;
     memset(&g, 0, sizeof g);
-    g.source.p_edition = (uint32_t)P.words[P.len - 2], g.source.q_edition = (uint32_t)Q.words[Q.len - 2], g.source.terms.threshold = t;
+    g.source.p_edition = (uint32_t)P.words[P.len - 2], g.source.q_edition = (uint32_t)Q.words[Q.len - 2];
+    g.source.terms.threshold = t, g.source.terms.grid = grid;
     g.key = key, g.end = true;
     for (size_t j = 0; j < count_of(&Q) && g.end; j++) {
         if ((uint32_t)Q.words[3 * j] < key.q) continue;
         for (size_t i = 0; i < count_of(&P) && g.end; i++) {
-            RingPair v = pair_of(j, i);
-            if (!after(key, v) || !is_pair(j, i) || (t && partners_of(j) < t)) continue;
+            RingPair v = size_by(grid, Q.words + 3 * j, P.words + 3 * i);
+            if (!after(key, v) || !is_pair_by(grid, j, i) || (t && partners_by(grid, j) < t)) continue;
             if (g.count < size) g.pairs[g.count++] = v;
             else g.end = false;
         }
@@ -680,7 +731,8 @@ static RingPage page_of(RingKey key, size_t size, uint32_t t) {
 
 static bool same_page(const RingPage *a, const RingPage *b) {
     return a->source.p_edition == b->source.p_edition && a->source.q_edition == b->source.q_edition && a->source.terms.threshold == b->source.terms.threshold
-        && a->source.terms.own == b->source.terms.own && a->key.q == b->key.q && a->key.p == b->key.p && a->count == b->count && a->end == b->end && memcmp(a->pairs, b->pairs, sizeof a->pairs) == 0;
+        && a->source.terms.own == b->source.terms.own && a->source.terms.grid == b->source.terms.grid && a->key.q == b->key.q && a->key.p == b->key.p
+        && a->count == b->count && a->end == b->end && memcmp(a->pairs, b->pairs, sizeof a->pairs) == 0;
 }
 
 /* a threshold: few, or anything */
@@ -689,36 +741,37 @@ static uint32_t some_threshold(void) { return below(3) == 0 ? 0 : below(6) ? (ui
 static void try_page(void) {
     uint32_t t = some_threshold();
     size_t j, i, size = below(6) ? 1 + below(16) : wild_size();
+    bool grid = below(2);
     RingKey key = {0, 0};
     RingPage expected;
-    uint32_t number = two_sheets(14, &j, &i);
+    uint32_t number = two_sheets_of(grid, 14, &j, &i);
     if (!number && j < count_of(&Q) && i < count_of(&P)) key.q = (uint32_t)Q.words[3 * j] + (uint32_t)below(2), key.p = (uint32_t)P.words[3 * i];
     if (below(6) == 0) key.q = wild();
     if (below(6) == 0) key.p = wild();
     if (!number) number = key.q > 2000000000 || key.p > 2000000000 ? 9 : size < 1 || size > 16 ? 10 : t > 60000 ? 21 : 0;
     number = lend(number, 1);
     if (!number) leave(1, NULL);
-    RingPaged r = ring_page(at(&P), P.len, at(&Q), Q.len, (RingRequest){key, size, t}, bits(), words_len);
+    RingPaged r = ring_page(at(&P), P.len, at(&Q), Q.len, (RingRequest){key, size, t, grid}, bits(), words_len);
     saw(r.number), hold_saved(), hold_lent();
-    HOLD(r.number == number && r.opened == (number ? 0 : page_opened(key, size, t, false)));
+    HOLD(r.number == number && r.opened == (number ? 0 : page_opened(grid, key, size, t, false)));
     if (r.number) memset(&expected, 0, sizeof expected);
-    else expected = page_of(key, size, t);
+    else expected = page_of(grid, key, size, t);
     HOLD(same_page(&r.page, &expected));
 }
 
-/* the page of P's self join, by trying every two records: no other stands in their circle */
-static RingPage own_of(RingKey key, size_t size) {
+/* the page of P's self join, by trying every two records: no other stands in their circle, or between them along the streets */
+static RingPage own_of(bool grid, RingKey key, size_t size) {
     RingPage g;
     memset(&g, 0, sizeof g);
-    g.source.p_edition = g.source.q_edition = (uint32_t)P.words[P.len - 2], g.source.terms.own = true;
+    g.source.p_edition = g.source.q_edition = (uint32_t)P.words[P.len - 2], g.source.terms.own = true, g.source.terms.grid = grid;
     g.key = key, g.end = true;
     for (size_t j = 0; j < count_of(&P) && g.end; j++) {
         if ((uint32_t)P.words[3 * j] < key.q) continue;
         for (size_t i = j + 1; i < count_of(&P) && g.end; i++) {
             const int32_t *a = P.words + 3 * j, *b = P.words + 3 * i;
-            RingPair v = size_of(a, b);
+            RingPair v = size_by(grid, a, b);
             bool free = after(key, v);
-            for (size_t k = 0; k < count_of(&P) && free; k++) free = k == j || k == i || !blocks(a, b, P.words + 3 * k);
+            for (size_t k = 0; k < count_of(&P) && free; k++) free = k == j || k == i || !blocks_by(grid, a, b, P.words + 3 * k);
             if (!free) continue;
             if (g.count < size) g.pairs[g.count++] = v;
             else g.end = false;
@@ -729,21 +782,23 @@ static RingPage own_of(RingKey key, size_t size) {
 
 static void try_own(void) {
     size_t j, i, size = below(6) ? 1 + below(16) : wild_size();
+    bool grid = below(2);
     RingKey key = {0, 0};
     RingPage expected;
-    two_sheets(40, &j, &i);
+    two_sheets_of(grid, 40, &j, &i);
     uint32_t number = open_no(P.words, P.len);
+    if (!number && grid && too_wide(&P)) number = 29;
     if (!number && i < count_of(&P) && below(2)) key.q = (uint32_t)P.words[3 * i], key.p = key.q + (uint32_t)below(3);
     if (below(6) == 0) key.q = wild();
     if (below(6) == 0) key.p = wild();
     if (!number) number = key.q > 2000000000 || key.p > 2000000000 ? 9 : size < 1 || size > 16 ? 10 : 0;
     number = lend(number, 1);
     if (!number) leave(1, NULL);
-    RingPaged r = ring_own_page(at(&P), P.len, key, size, bits(), words_len);
+    RingPaged r = ring_own_page(at(&P), P.len, key, size, grid, bits(), words_len);
     saw(r.number), hold_saved(), hold_lent();
-    HOLD(r.number == number && r.opened == (number ? 0 : page_opened(key, size, 0, true)));
+    HOLD(r.number == number && r.opened == (number ? 0 : page_opened(grid, key, size, 0, true)));
     if (r.number) memset(&expected, 0, sizeof expected);
-    else expected = own_of(key, size);
+    else expected = own_of(grid, key, size);
     HOLD(same_page(&r.page, &expected));
 }
 
@@ -800,7 +855,7 @@ static void try_partners(void) {
 static uint32_t some_edition(void) { return below(2) ? 1 + (uint32_t)below(1000000000) : wild(); }
 
 static void try_begin(void) {
-    RingSource s = {some_edition(), some_edition(), {some_threshold(), below(2)}}, none = {0, 0, {0, false}};
+    RingSource s = {some_edition(), some_edition(), {some_threshold(), below(2), below(2)}}, none = {0, 0, {0, false, false}};
     if (below(2)) s.q_edition = s.p_edition;
     bool ok = in(1, s.p_edition, 1000000000) && in(1, s.q_edition, 1000000000) && !(s.terms.own && s.p_edition != s.q_edition);
     uint32_t number = !ok ? 3 : s.terms.threshold > (s.terms.own ? 0 : 60000) ? 21 : 0;
@@ -822,7 +877,8 @@ static size_t make_slots(RingBook *b) {
         if (room[k].q == room[k - 1].q && room[k].p <= room[k - 1].p) room[k].p = room[k - 1].p + 1;
     b->held = below(8) ? below(len + 1) : below(2) ? len + 1 + below(3) : wild_size();
     b->closed = below(9) == 0;
-    b->source.p_edition = some_edition(), b->source.q_edition = some_edition(), b->source.terms.threshold = some_threshold(), b->source.terms.own = below(2);
+    b->source.p_edition = some_edition(), b->source.q_edition = some_edition(), b->source.terms.threshold = some_threshold();
+    b->source.terms.own = below(2), b->source.terms.grid = below(2);
     return len;
 }
 
@@ -846,7 +902,7 @@ static RingPage make_page(const RingBook *b, size_t len) {
         if (below(2)) v.p++;
         else v.q += 1 + (uint32_t)below(3), v.p = 1 + (uint32_t)below(9);
         if (v.q == 0) v.q = 1;
-        v.size = below(4) ? below(1000) : 8000000000000000000 - below(2);
+        v.size = below(4) ? below(1000) : most_size(g.source.terms.grid) - below(2);
         g.pairs[k] = v;
     }
     return g;
@@ -854,7 +910,7 @@ static RingPage make_page(const RingBook *b, size_t len) {
 
 /* one thing wrong with a page, or nothing */
 static void spoil_page(RingPage *g) {
-    switch (below(24)) {
+    switch (below(26)) {
     case 0: g->source.p_edition = wild(); break;
     case 1: g->source.q_edition++; break;
     case 2: g->key.q = wild(); break;
@@ -865,11 +921,13 @@ static void spoil_page(RingPage *g) {
     case 7: g->pairs[1] = g->pairs[0]; break;
     case 8: g->count = 0; break;
     case 9: g->key.p = wild(); break;
-    case 10: g->pairs[below(3)].size = 8000000000000000001; break;
+    case 10: g->pairs[below(3)].size = most_size(below(4) == 0) + 1; break;
     case 11: g->pairs[below(16)].size = wild_size(); break;
     case 12: g->source.terms.threshold++; break;
     case 13: g->source.terms.threshold = wild(); break;
     case 14: g->source.terms.own = !g->source.terms.own; break;
+    case 15: g->source.terms.grid = !g->source.terms.grid; break;
+    case 16: g->pairs[below(3)].size = most_size(!g->source.terms.grid); break;
     }
 }
 
@@ -944,7 +1002,7 @@ static size_t run_of(size_t v, RingPair *pairs) {
     if (nodes_of(&P)) walk_node(nodes_of(&P) - 1);
     for (size_t k = 0; k < leaf.chambers; k++)
         for (size_t i = 0; i < count_of(&P); i++) {
-            if (leaf.kept[k].is[i]) leaf.opened += walked(chamber(k), P.words + 3 * i, leaf.at[k], i, false).opened;
+            if (leaf.kept[k].is[i]) leaf.opened += walked(false, chamber(k), P.words + 3 * i, leaf.at[k], i, false).opened;
             if (is_pair(leaf.at[k], i)) pairs[count++] = pair_of(leaf.at[k], i);
         }
     return count;
@@ -1106,18 +1164,21 @@ static void province(uint64_t which, uint32_t edition) {
     HOLD(h.number == 0 && h.len == PROVINCE && h.n == LARGEST && h.m == NODES && h.edition == edition && h.form == 2);
 }
 
-/* a page of P and Q, or of P's self join, with so many words lent */
+/* a page of P and Q, or of P's self join, with so many words lent; along the streets it is refused */
 static void province_page(RingKey key, size_t size, bool own, size_t len) {
-    uint32_t number = len < words_for(count_of(&P)) ? 24 : 0;
-    RingPage expected;
-    memset(&expected, 0, sizeof expected);
-    lend_words(len);
-    if (!number) leave(1, NULL), expected = own ? own_of(key, size) : page_of(key, size, 0);
-    RingPaged r = own ? ring_own_page(P.words, P.len, key, size, bits(), len) : ring_page(P.words, P.len, Q.words, Q.len, (RingRequest){key, size, 0}, bits(), len);
-    saw(r.number), hold_saved(), hold_lent();
-    HOLD(r.number == number && r.opened == (number ? 0 : page_opened(key, size, 0, own)));
-    HOLD(same_page(&r.page, &expected));
-    HOLD(number || r.page.count);
+    for (int grid = 0; grid < 2; grid++) {
+        uint32_t number = grid ? 29 : len < words_for(count_of(&P)) ? 24 : 0;
+        RingPage expected;
+        memset(&expected, 0, sizeof expected);
+        lend_words(len);
+        if (!number) leave(1, NULL), expected = own ? own_of(false, key, size) : page_of(false, key, size, 0);
+        RingPaged r = own ? ring_own_page(P.words, P.len, key, size, grid, bits(), len)
+                          : ring_page(P.words, P.len, Q.words, Q.len, (RingRequest){key, size, 0, grid}, bits(), len);
+        saw(r.number), hold_saved(), hold_lent();
+        HOLD(r.number == number && r.opened == (number ? 0 : page_opened(false, key, size, 0, own)));
+        HOLD(same_page(&r.page, &expected));
+        HOLD(number || r.page.count);
+    }
 }
 
 /* the run of a leaf, with too few words, too few slots, and enough of both */
@@ -1224,6 +1285,24 @@ static void try_provinces(void) {
     province_run(nearest_leaf());
 }
 
+/* one chamber and two pump houses, each of which blocks the other's pair along the streets: a list of no pair, and a book of it that closes at once */
+static void try_barren(void) {
+    static const int32_t houses[6] = {1, 4, 4, 2, 5, 3}, place[2] = {0, 1}, chamber_at[3] = {5, 0, 0};
+    const RingKey start = {0, 0};
+    P.len = length_for(2), Q.len = length_for(1);
+    HOLD(ring_pack(1, 2, houses, 6, place, 2, 7, P.words, P.len) == 0 && ring_pack(1, 1, chamber_at, 3, place, 1, 9, Q.words, Q.len) == 0);
+    save();
+    for (int grid = 0; grid < 2; grid++) {
+        lend_words(3), leave(1, NULL);
+        RingPaged r = ring_page(P.words, P.len, Q.words, Q.len, (RingRequest){start, 16, 0, grid}, bits(), 3);
+        RingBegun b = ring_book_begin((RingSource){7, 9, {0, false, grid}});
+        RingTaken other = ring_book_take((RingBook){0, false, {7, 9, {0, false, !grid}}}, room, 1, r.page), t = ring_book_take(b.book, room, 1, r.page);
+        saw(r.number), saw(b.number), saw(other.number), saw(t.number), hold_saved(), hold_lent();
+        HOLD(r.number == 0 && r.page.end && r.page.count == (grid ? 0 : 1) && r.page.source.terms.grid == grid);
+        HOLD(b.number == 0 && other.number == 30 && t.number == 0 && t.book.closed && t.book.held == r.page.count && t.book.source.terms.grid == grid);
+    }
+}
+
 int main(void) {
     static void (*const tries[])(void) = {try_open, try_pack, try_point, try_filter, try_pair, try_page, try_own, try_partners, try_shortest, try_begin, try_next, try_take, try_marker, try_leaf, try_nearest, try_near_filter};
     size_t exports = sizeof tries / sizeof tries[0];
@@ -1232,10 +1311,11 @@ int main(void) {
         for (size_t i = 0; i < MOST + 2 * PAST; i++) rooms[k][i] = (int32_t)chance();
     for (size_t k = 0; k < exports; k++)
         for (int i = 0; i < TIMES; i++) tries[k]();
+    try_barren();
     try_provinces();
     unsigned long unseen = 0, unnamed = 0;
     for (int k = 0; k <= LAST; k++) unseen += A_NUMBER(k) && seen[k] == 0;
-    for (int k = 0; k < 4; k++) unnamed += named[k] == 0;
+    for (int k = 0; k < 8; k++) unnamed += named[k / 4][k % 4] == 0;
     printf("c calls: %zu exports, %lu calls with %lu served, %lu of the numbers never seen, %lu sides never named, %lu answers wrong", exports, calls, seen[0], unseen, unnamed, wrong);
     if (wrong) printf(" (the first at line %lu)", first_wrong);
     printf("\n");

@@ -59,17 +59,18 @@ module _ (s : Source) (a b : Bool) (ea : a ≡ editionOk (s .«p_edition»)) (eb
 
 -- ---- the loop over a page's pairs
 
-abbrev rises : Key → List Pair → Bool
-rises k l = pairsOk l && ascends k l
+-- by the profile: the street grid's where o is true
+abbrev rises : Bool → Key → List Pair → Bool
+rises o k l = pairsOk o l && ascends k l
 
 swapped : (x i f a : Bool) → ((x && i) && (f && a)) ≡ ((x && f) && (i && a))
 swapped false i f a = refl
 swapped true false f a = sym (and-false f)
 swapped true true f a = refl
 
-rises-cons : (k : Key) (v : Pair) (l : List Pair) → rises k (v ∷ l) ≡ ((pairOk v && follows k (keyOf v)) && rises (keyOf v) l)
+rises-cons : (o : Bool) (k : Key) (v : Pair) (l : List Pair) → rises o k (v ∷ l) ≡ ((pairOk o v && follows k (keyOf v)) && rises o (keyOf v) l)
 unfolding pairsOk ascends
-rises-cons k v l = swapped (pairOk v) (pairsOk l) (follows k (keyOf v)) (ascends (keyOf v) l)
+rises-cons o k v l = swapped (pairOk o v) (pairsOk o l) (follows k (keyOf v)) (ascends (keyOf v) l)
 
 left-cons : (l : List Pair) (n k : ℕ) → k < n → n ≤ length l → take (n - k) (drop k l) ≡ getD l k none ∷ take (n - (k + 1)) (drop (k + 1) l)
 left-cons l n k h g =
@@ -78,34 +79,34 @@ left-cons l n k h g =
     ∙ ap (λ (a : ℕ). getD l k none ∷ take (n - (k + 1)) (drop a l)) (sym (add-one k))
 
 -- what is left to test, of the first n pairs
-pub record Testing (key : Key) (l : List Pair) (n : ℕ) (last : Key) (k : ℕ) : Type 0 where
+pub record Testing (o : Bool) (key : Key) (l : List Pair) (n : ℕ) (last : Key) (k : ℕ) : Type 0 where
   pub most : k ≤ n
-  pub left : rises last (take (n - k) (drop k l)) ≡ rises key (take n l)
+  pub left : rises o last (take (n - k) (drop k l)) ≡ rises o key (take n l)
 
-pub testing-start : (key : Key) (l : List Pair) (n : ℕ) → Testing key l n key 0
-testing-start key l n = let z : n - 0 ≡ n = omega arith in record { most = omega arith; left = ap (λ (a : ℕ). rises key (take a l)) z }
+pub testing-start : (o : Bool) (key : Key) (l : List Pair) (n : ℕ) → Testing o key l n key 0
+testing-start o key l n = let z : n - 0 ≡ n = omega arith in record { most = omega arith; left = ap (λ (a : ℕ). rises o key (take a l)) z }
 
-module _ (key : Key) (l : List Pair) (n : ℕ) (last : Key) (k : ℕ) (h : k < n) (few : n ≤ 16) (long : length l ≡ 16) (t : Testing key l n last k) (v : Key)
-    (ev : v ≡ keyOf (getD l k none)) (a f : Bool) (ea : a ≡ pairOk (getD l k none)) (ef : f ≡ follows last v) where
-  one-more : ((a && f) && rises v (take (n - (k + 1)) (drop (k + 1) l))) ≡ rises key (take n l)
+module _ (o : Bool) (key : Key) (l : List Pair) (n : ℕ) (last : Key) (k : ℕ) (h : k < n) (few : n ≤ 16) (long : length l ≡ 16) (t : Testing o key l n last k) (v : Key)
+    (ev : v ≡ keyOf (getD l k none)) (a f : Bool) (ea : a ≡ pairOk o (getD l k none)) (ef : f ≡ follows last v) where
+  one-more : ((a && f) && rises o v (take (n - (k + 1)) (drop (k + 1) l))) ≡ rises o key (take n l)
   one-more =
       (rw (ea, ef, ev))
-      ∙ sym (ap (rises last) (left-cons l n k h (omega arith)) ∙ rises-cons last (getD l k none) (take (n - (k + 1)) (drop (k + 1) l)))
+      ∙ sym (ap (rises o last) (left-cons l n k h (omega arith)) ∙ rises-cons o last (getD l k none) (take (n - (k + 1)) (drop (k + 1) l)))
       ∙ t .left
 
-  pub testing-stop : not (a && f) ≡ true → false ≡ rises key (take n l)
-  testing-stop e = sym (ap (λ (x : Bool). x && rises v (take (n - (k + 1)) (drop (k + 1) l))) (not-true (a && f) e)) ∙ one-more
+  pub testing-stop : not (a && f) ≡ true → false ≡ rises o key (take n l)
+  testing-stop e = sym (ap (λ (x : Bool). x && rises o v (take (n - (k + 1)) (drop (k + 1) l))) (not-true (a && f) e)) ∙ one-more
 
-  pub testing-on : not (a && f) ≡ false → Testing key l n v (k + 1)
+  pub testing-on : not (a && f) ≡ false → Testing o key l n v (k + 1)
   testing-on e =
       record {
         most = omega arith;
-        left = sym (ap (λ (x : Bool). x && rises v (take (n - (k + 1)) (drop (k + 1) l))) (not-false (a && f) e)) ∙ one-more;
+        left = sym (ap (λ (x : Bool). x && rises o v (take (n - (k + 1)) (drop (k + 1) l))) (not-false (a && f) e)) ∙ one-more;
       }
 
-pub testing-end : (key : Key) (l : List Pair) (n : ℕ) (last : Key) (k : ℕ) → n ≤ k → Testing key l n last k → true ≡ rises key (take n l)
+pub testing-end : (o : Bool) (key : Key) (l : List Pair) (n : ℕ) (last : Key) (k : ℕ) → n ≤ k → Testing o key l n last k → true ≡ rises o key (take n l)
 unfolding pairsOk ascends
-testing-end key l n last k h t = let z : n - k ≡ 0 = omega arith in sym (ap (λ (a : ℕ). rises last (take a (drop k l))) z) ∙ t .left
+testing-end o key l n last k h t = let z : n - k ≡ 0 = omega arith in sym (ap (λ (a : ℕ). rises o last (take a (drop k l))) z) ∙ t .left
 
 -- ---- the last held slot
 
@@ -156,11 +157,11 @@ either false a x = refl
 either true false x = refl
 either true true x = refl
 
-pub bad-is : (g : Page) (r : Bool) → g .count ≤ pageMost → r ≡ rises (g .key) (take (g .count) (g .pairs)) → (not r || (eqb (g .count) 0 && not (g .end))) ≡ pageBad g
+pub bad-is : (g : Page) (r : Bool) → g .count ≤ pageMost → r ≡ rises (g .source .terms .grid) (g .key) (take (g .count) (g .pairs)) → (not r || (eqb (g .count) 0 && not (g .end))) ≡ pageBad g
 unfolding pageBad pagePairs
 bad-is g r h e =
     let x4 = eqb (g .count) 0 && not (g .end) in
-    let i = pairsOk (take (g .count) (g .pairs)) in
+    let i = pairsOk (g .source .terms .grid) (take (g .count) (g .pairs)) in
     let a = ascends (g .key) (take (g .count) (g .pairs)) in
     ap (λ (y : Bool). not y || x4) e ∙ either i a x4 ∙ sym (ap (λ (y : Bool). y || not i || not a || x4) (le-ltb pageMost (g .count) h))
 

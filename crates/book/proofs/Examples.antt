@@ -10,7 +10,8 @@ use Rattle.list.specs.declared.Source.{Source}
 use Rattle.list.specs.declared.Page.{Page}
 use Rattle.list.specs.Pairs.{start, none, keyOf, follows, ascends}
 use Rattle.list.specs.Pages.{thresholdNo, sourceNo, pagePairs}
-use Rattle.words.specs.Range.{idOk, editionOk, sizeOk}
+use Rattle.words.specs.Range.{idOk, editionOk}
+use Rattle.plane.specs.Profile.{sizeOk}
 use Rattle.words.specs.First.{given, first, answer}
 use Rattle.book.specs.declared.Book.{Book}
 use Rattle.book.specs.declared.Begun.the-variants as begun
@@ -19,18 +20,28 @@ use Rattle.book.specs.Rules.{beginNo, begunBook, begunFor, lastKey, next
 
 -- editions 7 and 9, whose list is (5, 1), (5, 2), (6, 2)
 abbrev ours : Source
-ours = record { «p_edition» = 7; «q_edition» = 9; terms = record { threshold = 0; own = false } }
+ours = record { «p_edition» = 7; «q_edition» = 9; terms = record { threshold = 0; own = false; grid = false } }
 
 abbrev others : Source
-others = record { «p_edition» = 8; «q_edition» = 9; terms = record { threshold = 2; own = false } }
+others = record { «p_edition» = 8; «q_edition» = 9; terms = record { threshold = 2; own = false; grid = false } }
 
 -- the same editions, of another t
 abbrev less : Source
-less = record { «p_edition» = 7; «q_edition» = 9; terms = record { threshold = 2; own = false } }
+less = record { «p_edition» = 7; «q_edition» = 9; terms = record { threshold = 2; own = false; grid = false } }
 
 -- a self join
 abbrev alone : Source
-alone = record { «p_edition» = 7; «q_edition» = 7; terms = record { threshold = 0; own = true } }
+alone = record { «p_edition» = 7; «q_edition» = 7; terms = record { threshold = 0; own = true; grid = false } }
+
+-- the same editions, of the street grid; other editions of it; a self join of it
+abbrev streets : Source
+streets = record { «p_edition» = 7; «q_edition» = 9; terms = record { threshold = 0; own = false; grid = true } }
+
+abbrev other-streets : Source
+other-streets = record { «p_edition» = 8; «q_edition» = 9; terms = record { threshold = 2; own = false; grid = true } }
+
+abbrev alone-streets : Source
+alone-streets = record { «p_edition» = 7; «q_edition» = 7; terms = record { threshold = 0; own = true; grid = true } }
 
 abbrev at : ℕ → ℕ → Pair
 at q p = record { q = q; p = p; size = 16 }
@@ -40,6 +51,9 @@ wide n = record { q = 6; p = 1; size = n }
 
 abbrev book : ℕ → Bool → Book
 book n shut = record { held = n; closed = shut; source = ours }
+
+abbrev street-book : ℕ → Bool → Book
+street-book n shut = record { held = n; closed = shut; source = streets }
 
 -- a page of these pairs
 abbrev page : Source → Pair → Bool → List Pair → Page
@@ -55,24 +69,33 @@ begins : begunFor ours ≡ begun.Open (book 0 false)
 unfolding begunFor beginNo first given answer begunBook editionOk thresholdNo
 begins = refl
 
-no-edition : begunFor (record { «p_edition» = 7; «q_edition» = 0; terms = record { threshold = 60001; own = false } }) ≡ begun.Refused 3
+no-edition : begunFor (record { «p_edition» = 7; «q_edition» = 0; terms = record { threshold = 60001; own = false; grid = false } }) ≡ begun.Refused 3
 unfolding begunFor beginNo first given answer editionOk
 no-edition = refl
 
-no-threshold : begunFor (record { «p_edition» = 7; «q_edition» = 9; terms = record { threshold = 60001; own = false } }) ≡ begun.Refused 21
+no-threshold : begunFor (record { «p_edition» = 7; «q_edition» = 9; terms = record { threshold = 60001; own = false; grid = false } }) ≡ begun.Refused 21
 unfolding begunFor beginNo first given answer editionOk thresholdNo
 no-threshold = refl
+
+-- of the street grid, of two sheets and of one: the profile has no number of its own
+begins-streets : begunFor streets ≡ begun.Open (street-book 0 false)
+unfolding begunFor beginNo first given answer begunBook editionOk thresholdNo
+begins-streets = refl
+
+begins-alone-streets : begunFor alone-streets ≡ begun.Open (record { held = 0; closed = false; source = alone-streets })
+unfolding begunFor beginNo first given answer begunBook editionOk thresholdNo
+begins-alone-streets = refl
 
 -- a self join: of one edition; of two; with a t
 begins-own : begunFor alone ≡ begun.Open (record { held = 0; closed = false; source = alone })
 unfolding begunFor beginNo first given answer begunBook editionOk thresholdNo
 begins-own = refl
 
-no-two : begunFor (record { «p_edition» = 7; «q_edition» = 9; terms = record { threshold = 2; own = true } }) ≡ begun.Refused 3
+no-two : begunFor (record { «p_edition» = 7; «q_edition» = 9; terms = record { threshold = 2; own = true; grid = false } }) ≡ begun.Refused 3
 unfolding begunFor beginNo first given answer editionOk
 no-two = refl
 
-no-t : begunFor (record { «p_edition» = 7; «q_edition» = 7; terms = record { threshold = 2; own = true } }) ≡ begun.Refused 21
+no-t : begunFor (record { «p_edition» = 7; «q_edition» = 7; terms = record { threshold = 2; own = true; grid = false } }) ≡ begun.Refused 21
 unfolding begunFor beginNo first given answer editionOk
 no-t = refl
 
@@ -119,6 +142,19 @@ twenty-two : number (book 2 false) (page alone (at 5 1) true []) 22
 unfolding takeNo takeNoAt sourceNo first given
 twenty-two = refl
 
+-- another kind, and the other profile; the other profile, and other editions, t and key; either way
+twenty-two-first : number (book 2 false) (page alone-streets (at 5 1) true []) 22
+unfolding takeNo takeNoAt sourceNo first given
+twenty-two-first = refl
+
+thirty : number (book 2 false) (page other-streets (at 5 1) true []) 30
+unfolding takeNo takeNoAt sourceNo first given
+thirty = refl
+
+thirty-back : number (street-book 2 false) (page others (at 5 1) true []) 30
+unfolding takeNo takeNoAt sourceNo first given
+thirty-back = refl
+
 -- other editions, and another t and key
 thirteen : number (book 2 false) (page others (at 5 1) true []) 13
 unfolding takeNo takeNoAt sourceNo first given
@@ -147,6 +183,19 @@ far = refl
 too-far : number (book 2 false) (page ours (at 5 2) true (wide 8000000000000000001 ∷ [])) 15
 unfolding takeNo takeNoAt sourceNo first given sameKey lastKey pageBad pairsOk pairOk idOk sizeOk ascends follows pagePairs
 too-far = refl
+
+-- "For this profile the size limit is 16,000,000,000,000": of the street grid; the page of a circle's book may have more
+street-far : number (street-book 2 false) (page streets (at 5 2) true (wide 16000000000000 ∷ [])) 0
+unfolding takeNo takeNoAt sourceNo first given sameKey lastKey pageBad pairsOk pairOk idOk sizeOk ascends follows pagePairs
+street-far = refl
+
+street-too-far : number (street-book 2 false) (page streets (at 5 2) true (wide 16000000000001 ∷ [])) 15
+unfolding takeNo takeNoAt sourceNo first given sameKey lastKey pageBad pairsOk pairOk idOk sizeOk ascends follows pagePairs
+street-too-far = refl
+
+circle-farther : number (book 2 false) (page ours (at 5 2) true (wide 16000000000001 ∷ [])) 0
+unfolding takeNo takeNoAt sourceNo first given sameKey lastKey pageBad pairsOk pairOk idOk sizeOk ascends follows pagePairs
+circle-farther = refl
 
 -- more pairs than slots left
 sixteen : number (book 2 false) (page ours (at 5 2) true (at 6 1 ∷ at 6 2 ∷ at 6 3 ∷ [])) 16

@@ -12,8 +12,9 @@ use lib.Seq.{paste, take-paste, take-add, take-length, length-paste}
 use lib.Dec.{eqb, ltb}
 use borrow.Author.Tests.{leb-true, ltb-true, ltb-false, le-ltb, ne-eqb, eqb-true, not-true, not-false}
 use Rattle.integers.proofs.Bools.{decide, and-left, and-right, and-both, or-both-false}
+use Rattle.plane.specs.Profile.{profileOf, sizeOk}
 use Rattle.plane.specs.Point.{Point}
-use Rattle.words.specs.Range.{editionOk, idOk, sizeOk}
+use Rattle.words.specs.Range.{editionOk, idOk}
 use Rattle.words.specs.First.{answer}
 use Rattle.words.proofs.FirstLaws.{none-applies, given-failed, given-held}
 use Rattle.list.specs.declared.Key.{Key}
@@ -23,47 +24,50 @@ use Rattle.list.specs.declared.Page.{Page}
 use Rattle.list.specs.Pairs.{start, keyOf, follows, ascends, after, lastOr}
 use Rattle.list.specs.Pages.{lastThreshold, thresholdNo, sourceNo, shown, pageOf, pagePairs}
 use Rattle.list.specs.RingList.{Sound}
+use Rattle.list.specs.RingList as ringList
 use Rattle.list.specs.Terms.{listFor}
 use Rattle.list.proofs.Order.{asc-left, after-asc, after-last}
 use Rattle.list.proofs.PageLaws.{page-shows, shown-count, length-padded, end-mark}
+use Rattle.list.proofs.RowLaws.{sound-reached}
 use Rattle.list.proofs.SourceLaws.{source-same}
 use Rattle.list.proofs.TermsLaws.{for-ascends, for-ids, for-sizes}
 use Rattle.book.specs.declared.Book.{Book}
 use Rattle.book.specs.declared.Begun.the-variants as begun
 use Rattle.book.specs.Rules.{oneSheet, beginNo, begunBook, begunFor, lastKey, pairOk, pairsOk, pageMost, pageBad, takeNo, advanced, taken, takenSlots}
-use Rattle.book.specs.World.{World, pumpsOf, chambersOf, listOf, Honest, Reached, began, took, lent, ownPage, served}
+use Rattle.book.specs.World.{World, pumpsOf, chambersOf, listOf, InReach, Honest, Reached, began, took, lent, ownPage, served}
 use Rattle.book.proofs.TakeLaws.{Passed, book-passed, taken-book, taken-slots, refused-book, refused-slots, or-zero, no-refusal, same-length, closed-no, same-book-source}
 use Rattle.book.proofs.SliceLaws.{last-held}
 
--- ---- the ids and sizes of a list
+-- ---- the ids and sizes of a list, by its profile: the street grid's where o is true
 
-pair-ok : (v : Pair) → idOk (v .q) ≡ true → idOk (v .p) ≡ true → sizeOk (v .size) ≡ true → pairOk v ≡ true
-unfolding pairOk
-pair-ok v a b c = and-both (idOk (v .q) && idOk (v .p)) (sizeOk (v .size)) (and-both (idOk (v .q)) (idOk (v .p)) a b) c
+module _ (o : Bool) where
+  pair-ok : (v : Pair) → idOk (v .q) ≡ true → idOk (v .p) ≡ true → sizeOk o (v .size) ≡ true → pairOk o v ≡ true
+  unfolding pairOk
+  pair-ok v a b c = and-both (idOk (v .q) && idOk (v .p)) (sizeOk o (v .size)) (and-both (idOk (v .q)) (idOk (v .p)) a b) c
 
-ok-of : (l : List Pair) → ((v : Pair) → List·Memᴰ v l → pairOk v ≡ true) → pairsOk l ≡ true
-unfolding pairsOk
-ok-of [] f = refl
-ok-of (v ∷ l) f = and-both (pairOk v) (pairsOk l) (f v (List·Memᴰ·head refl)) (ok-of l (λ u m. f u (List·Memᴰ·tail m)))
+  ok-of : (l : List Pair) → ((v : Pair) → List·Memᴰ v l → pairOk o v ≡ true) → pairsOk o l ≡ true
+  unfolding pairsOk
+  ok-of [] f = refl
+  ok-of (v ∷ l) f = and-both (pairOk o v) (pairsOk o l) (f v (List·Memᴰ·head refl)) (ok-of l (λ u m. f u (List·Memᴰ·tail m)))
 
-ok-after : (k : Key) (l : List Pair) → pairsOk l ≡ true → pairsOk (after k l) ≡ true
-unfolding pairsOk after
-ok-after k [] e = refl
-ok-after k (v ∷ l) e =
-    let x = pairOk v in
-    let r = ok-after k l (and-right x (pairsOk l) e) in
-    ⊎-elim
-    (λ (f : follows k (keyOf v) ≡ true). rw f (and-both x (pairsOk (after k l)) (and-left x (pairsOk l) e) r))
-    (λ (f : follows k (keyOf v) ≡ false). rw f r)
-    (decide (follows k (keyOf v)))
+  ok-after : (k : Key) (l : List Pair) → pairsOk o l ≡ true → pairsOk o (after k l) ≡ true
+  unfolding pairsOk after
+  ok-after k [] e = refl
+  ok-after k (v ∷ l) e =
+      let x = pairOk o v in
+      let r = ok-after k l (and-right x (pairsOk o l) e) in
+      ⊎-elim
+      (λ (f : follows k (keyOf v) ≡ true). rw f (and-both x (pairsOk o (after k l)) (and-left x (pairsOk o l) e) r))
+      (λ (f : follows k (keyOf v) ≡ false). rw f r)
+      (decide (follows k (keyOf v)))
 
-ok-take : (n : ℕ) (l : List Pair) → pairsOk l ≡ true → pairsOk (take n l) ≡ true
-unfolding pairsOk
-ok-take zero l e = refl
-ok-take (suc n) [] e = refl
-ok-take (suc n) (v ∷ l) e =
-    let x = pairOk v in
-    and-both x (pairsOk (take n l)) (and-left x (pairsOk l) e) (ok-take n l (and-right x (pairsOk l) e))
+  ok-take : (n : ℕ) (l : List Pair) → pairsOk o l ≡ true → pairsOk o (take n l) ≡ true
+  unfolding pairsOk
+  ok-take zero l e = refl
+  ok-take (suc n) [] e = refl
+  ok-take (suc n) (v ∷ l) e =
+      let x = pairOk o v in
+      and-both x (pairsOk o (take n l)) (and-left x (pairsOk o l) e) (ok-take n l (and-right x (pairsOk o l) e))
 
 -- ---- a book that holds the first pairs of a list
 
@@ -145,7 +149,7 @@ module _ (l : List Pair) (asc : ascends start l ≡ true) where
       (or-zero (takeNo b s g))
 
   -- a page that answers the book's own next request
-  module _ (ok : pairsOk l ≡ true) (b : Book) (s : List Pair) (k : Keeps l b s) (still : b .closed ≡ false) (room : length l ≤ length s) (size : ℕ) (some : 0 < size) (most : size ≤ 16) where
+  module _ (b : Book) (ok : pairsOk (b .source .terms .grid) l ≡ true) (s : List Pair) (k : Keeps l b s) (still : b .closed ≡ false) (room : length l ≤ length s) (size : ℕ) (some : 0 < size) (most : size ≤ 16) where
     abbrev due : Key
     due = lastKey (b .held) s
 
@@ -171,9 +175,15 @@ module _ (l : List Pair) (asc : ascends start l ≡ true) where
     unfolding own pageOf
     own-key = refl
 
-    own-ok : pairsOk (pagePairs own) ≡ true
+    own-is : own .source ≡ b .source
+    unfolding own pageOf
+    own-is = refl
+
+    own-ok : pairsOk (own .source .terms .grid) (pagePairs own) ≡ true
     unfolding shown
-    own-ok = ap pairsOk own-pairs ∙ ok-take size (after due l) (ok-after due l ok)
+    own-ok =
+        let o = b .source .terms .grid in
+        ap₂ (λ (x : Source) (l : List Pair). pairsOk (x .terms .grid) l) own-is own-pairs ∙ ok-take o size (after due l) (ok-after o due l ok)
 
     own-rises : ascends (own .key) (pagePairs own) ≡ true
     unfolding shown
@@ -193,7 +203,7 @@ module _ (l : List Pair) (asc : ascends start l ≡ true) where
     unfolding pageBad
     own-good =
         let x1 = ltb pageMost (own .count) in
-        let x2 = not (pairsOk (pagePairs own)) in
+        let x2 = not (pairsOk (own .source .terms .grid) (pagePairs own)) in
         let x3 = not (ascends (own .key) (pagePairs own)) in
         let x4 = eqb (own .count) 0 && not (own .end) in
         or-both-false (x1 || x2 || x3) x4
@@ -269,13 +279,22 @@ module _ (w : World) where
   list-asc : (s : Source) → ascends start (listOf w s) ≡ true
   list-asc s = for-ascends (s .terms) (pumpsOf w s) (chambersOf w s) (pumps-fine s .rising) (chambers-fine s .rising)
 
-  list-ok : (s : Source) → pairsOk (listOf w s) ≡ true
-  list-ok s =
+  -- of the circle every world is in reach
+  pub circle-in-reach : (s : Source) → s .terms .grid ≡ false → InReach w s
+  circle-in-reach s e =
+      record {
+        pumps-in = subst (λ (o : Bool). ringList.Reached (profileOf o) (pumpsOf w s)) (sym e) (sound-reached (pumpsOf w s) (pumps-fine s));
+        chambers-in = subst (λ (o : Bool). ringList.Reached (profileOf o) (chambersOf w s)) (sym e) (sound-reached (chambersOf w s) (chambers-fine s));
+      }
+
+  list-ok : (s : Source) → InReach w s → pairsOk (s .terms .grid) (listOf w s) ≡ true
+  list-ok s near =
       let P = pumpsOf w s in
       let Q = chambersOf w s in
-      let sp = pumps-fine s in
-      let sq = chambers-fine s in
-      ok-of (listOf w s) (λ v m. let z = for-ids (s .terms) P Q (sp .rising) (sq .rising) v m in pair-ok v (z .0) (z .1) (for-sizes (s .terms) P Q sp sq v m))
+      let rp = pumps-fine s .rising in
+      let rq = chambers-fine s .rising in
+      let o = s .terms .grid in
+      ok-of o (listOf w s) (λ v m. let z = for-ids (s .terms) P Q rp rq v m in pair-ok o v (z .0) (z .1) (for-sizes (s .terms) P Q rp rq (near .pumps-in) (near .chambers-in) v m))
 
   -- what a page request answers on sheets with these points is honest, where the points are those of their editions
   pub honest-from : (s : Source) (k : Key) (size : ℕ) (P Q : List Point) (g : Page) → 0 < size → size ≤ 16 → pumpsOf w s ≡ P → chambersOf w s ≡ Q → g ≡ pageOf s (listFor (s .terms) P Q) k size → Honest w g
@@ -323,14 +342,14 @@ module _ (w : World) where
       (k .shut e, k .same ∙ ap (λ (n : ℕ). take n (bookList b)) (k .shut e) ∙ take-length (bookList b))
 
   -- "While it is open and has room for the whole list, each page that answers its own next request adds a pair or closes it."
-  pub book-progress : {b : Book} {s : List Pair} → Reached w b s → b .closed ≡ false → length (bookList b) ≤ length s → (size : ℕ) → 0 < size → size ≤ 16
+  pub book-progress : {b : Book} {s : List Pair} → Reached w b s → InReach w (b .source) → b .closed ≡ false → length (bookList b) ≤ length s → (size : ℕ) → 0 < size → size ≤ 16
       → (takeNo b s (ownPage w b s size) ≡ 0) × ((b .held < taken b s (ownPage w b s size) .book .held) ⊎ (taken b s (ownPage w b s size) .book .closed ≡ true))
   unfolding own
-  book-progress {b} {s} r still room size some most =
+  book-progress {b} {s} r near still room size some most =
       let k = story r in
       let asc = list-asc (b .source) in
-      let ok = list-ok (b .source) in
-      (own-taken (bookList b) asc ok b s k still room size some most, own-moves (bookList b) asc ok b s k still room size some most)
+      let ok = list-ok (b .source) near in
+      (own-taken (bookList b) asc b ok s k still room size some most, own-moves (bookList b) asc b ok s k still room size some most)
 
   -- what its own request brings is honest
   own-honest : (b : Book) (s : List Pair) (size : ℕ) → 0 < size → size ≤ 16 → Honest w (ownPage w b s size)
@@ -350,10 +369,10 @@ module _ (w : World) where
       stays-closed k (λ i. sizes (suc i)) (taken b s g .book) (takenSlots b s g) (ap (λ (x : Book). x .closed) (refused-book b s g (closed-no b s g e)) ∙ e)
 
   -- so a book with room for its list that goes on asking is closed after at most one request more than pairs are missing
-  pub book-closes : (k : ℕ) (sizes : ℕ → ℕ) {b : Book} {s : List Pair} → ((i : ℕ) → (0 < sizes i) × (sizes i ≤ 16)) → Reached w b s → length (bookList b) ≤ length s → length (bookList b) < b .held + k → served w k sizes b s .closed ≡ true
+  pub book-closes : (k : ℕ) (sizes : ℕ → ℕ) {b : Book} {s : List Pair} → ((i : ℕ) → (0 < sizes i) × (sizes i ≤ 16)) → Reached w b s → InReach w (b .source) → length (bookList b) ≤ length s → length (bookList b) < b .held + k → served w k sizes b s .closed ≡ true
   unfolding served
-  book-closes zero sizes n r room h = absurd (omega (arith, story r .few))
-  book-closes (suc k) sizes {b} {s} n r room h =
+  book-closes zero sizes n r near room h = absurd (omega (arith, story r .few))
+  book-closes (suc k) sizes {b} {s} n r near room h =
       let g = ownPage w b s (sizes 0) in
       let b′ = taken b s g .book in
       let s′ = takenSlots b s g in
@@ -363,7 +382,7 @@ module _ (w : World) where
       ⊎-elim
       (λ (x : b .held < b′ .held).
       let l : bookList b′ ≡ bookList b = ap (listOf w) (same-book-source b s g) in
-      book-closes k (λ i. sizes (suc i)) (λ i. n (suc i)) (took g r (own-honest b s (sizes 0) (n 0 .0) (n 0 .1))) (omega (arith, ap length l, same-length b s g (own-long b s (sizes 0) (n 0 .1)))) (omega (arith, ap length l)))
+      book-closes k (λ i. sizes (suc i)) (λ i. n (suc i)) (took g r (own-honest b s (sizes 0) (n 0 .0) (n 0 .1))) (subst (InReach w) (sym (same-book-source b s g)) near) (omega (arith, ap length l, same-length b s g (own-long b s (sizes 0) (n 0 .1)))) (omega (arith, ap length l)))
       (λ (x : b′ .closed ≡ true). stays-closed k (λ i. sizes (suc i)) b′ s′ x)
-      (book-progress r e room (sizes 0) (n 0 .0) (n 0 .1) .1))
+      (book-progress r near e room (sizes 0) (n 0 .0) (n 0 .1) .1))
       (decide (b .closed))

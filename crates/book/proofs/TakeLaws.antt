@@ -17,7 +17,7 @@ use Rattle.list.specs.declared.Key.{Key}
 use Rattle.list.specs.declared.Pair.{Pair}
 use Rattle.list.specs.declared.Page.{Page}
 use Rattle.list.specs.Pairs.{ascends}
-use Rattle.list.specs.Pages.{sameKind, sourceNo, pagePairs}
+use Rattle.list.specs.Pages.{sameKind, sameProfile, sourceNo, pagePairs}
 use Rattle.list.proofs.SourceLaws.{same-source}
 use Rattle.book.specs.declared.Book.{Book}
 use Rattle.book.specs.declared.Decided.{Decided}
@@ -45,7 +45,7 @@ pub record Passed (b : Book) (len : ℕ) (k : Key) (g : Page) : Type 0 where
   pub asked-next : g .key ≡ k
   pub few : g .count ≤ pageMost
   pub rising : ascends (g .key) (pagePairs g) ≡ true
-  pub in-range : pairsOk (pagePairs g) ≡ true
+  pub in-range : pairsOk (g .source .terms .grid) (pagePairs g) ≡ true
   pub fits : b .held + g .count ≤ len
 
 pub passed-at : (b : Book) (len : ℕ) (k : Key) (g : Page) → takeNoAt b len k g ≡ 0 → Passed b len k g
@@ -53,7 +53,7 @@ unfolding takeNoAt pageBad
 passed-at b len k g e =
     let z = none-applies _ .0 e in
     let x1 = ltb pageMost (g .count) in
-    let x2 = not (pairsOk (pagePairs g)) in
+    let x2 = not (pairsOk (g .source .terms .grid) (pagePairs g)) in
     let x3 = not (ascends (g .key) (pagePairs g)) in
     let x4 = eqb (g .count) 0 && not (g .end) in
     let good = given-failed _ (z 4) in
@@ -65,7 +65,7 @@ passed-at b len k g e =
       asked-next = same-key (g .key) k (given-held _ (z 3));
       few = ltb-false pageMost (g .count) (or-false-left x1 x2 (or-false-left (x1 || x2) x3 (or-false-left (x1 || x2 || x3) x4 good)));
       rising = not-false (ascends (g .key) (pagePairs g)) (or-false-right (x1 || x2) x3 (or-false-left (x1 || x2 || x3) x4 good));
-      in-range = not-false (pairsOk (pagePairs g)) (or-false-right x1 x2 (or-false-left (x1 || x2) x3 (or-false-left (x1 || x2 || x3) x4 good)));
+      in-range = not-false (pairsOk (g .source .terms .grid) (pagePairs g)) (or-false-right x1 x2 (or-false-left (x1 || x2) x3 (or-false-left (x1 || x2 || x3) x4 good)));
       fits = omega (arith, ltb-false (len - b .held) (g .count) (given-failed _ (z 5)), h);
     }
 
@@ -128,6 +128,11 @@ module _ (b : Book) (s : List Pair) (g : Page) where
   pub kind-no : b .held ≤ length s → b .closed ≡ false → sameKind (b .source) (g .source) ≡ false → takeNo b s g ≡ 22
   unfolding takeNo takeNoAt sourceNo first given
   kind-no room still other = rw (le-ltb (length s) (b .held) room, still, other)
+
+  -- and one of its kind and the other profile by 30
+  pub profile-no : b .held ≤ length s → b .closed ≡ false → sameKind (b .source) (g .source) ≡ true → sameProfile (b .source) (g .source) ≡ false → takeNo b s g ≡ 30
+  unfolding takeNo takeNoAt sourceNo first given
+  profile-no room still kind other = rw (le-ltb (length s) (b .held) room, still, kind, other)
 
   module _ (long : length (g .pairs) ≡ 16) where
     -- slots past those held after the call are never touched

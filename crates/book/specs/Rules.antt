@@ -5,8 +5,9 @@ use Prim.Native.Nat.{ℕ, zero, suc, _+_, _-_}
 use lib.Dec.{eqb, ltb}
 use lib.Seq.{paste}
 use lib.ListN.{length, take, drop, getD}
-use Rattle.words.specs.Range.{idOk, editionOk, sizeOk}
+use Rattle.words.specs.Range.{idOk, editionOk}
 use Rattle.words.specs.First.{given, first, answer}
+use Rattle.plane.specs.Profile.{sizeOk}
 use Rattle.list.specs.declared.Key.{Key}
 use Rattle.list.specs.declared.Pair.{Pair}
 use Rattle.list.specs.declared.Source.{Source}
@@ -87,14 +88,14 @@ asked b slots = askedAt b (length slots) (lastKey (b .held) slots)
 
 -- ---- take
 
--- the ids are 1 to 2,000,000,000, and the size 0 to 8,000,000,000,000 [N30, Z3]
-unfoldable pub pairOk : Pair → Bool
-pairOk v = idOk (v .q) && idOk (v .p) && sizeOk (v .size)
+-- the ids are 1 to 2,000,000,000, and the size 0 to the limit of its profile, the street grid's where g is true [N30, Z3, A12]
+unfoldable pub pairOk : Bool → Pair → Bool
+pairOk g v = idOk (v .q) && idOk (v .p) && sizeOk g (v .size)
 
 -- [N30]
-unfoldable pub pairsOk : List Pair → Bool
-pairsOk [] = true
-pairsOk (v ∷ l) = pairOk v && pairsOk l
+unfoldable pub pairsOk : Bool → List Pair → Bool
+pairsOk g [] = true
+pairsOk g (v ∷ l) = pairOk g v && pairsOk g l
 
 -- [N29]
 unfoldable pub sameKey : Key → Key → Bool
@@ -105,14 +106,15 @@ abbrev pub pageMost : ℕ
 pageMost = 16
 
 -- 15: "over 16 pairs; an id outside 1 to 2,000,000,000; pairs not ascending strictly after the key; no pair and no end mark"; "15 is also given when a size lies outside
--- 0 to 8,000,000,000,000". Only the pairs that the page counts are looked at. [N30, Z3]
+-- 0 to" the limit of the page's own profile, which is the book's once 30 is passed: 8,000,000,000,000,000,000, and for the street grid 16,000,000,000,000. Only the pairs that the
+-- page counts are looked at. [N30, Z3, A12]
 unfoldable pub pageBad : Page → Bool
 pageBad g =
-    ltb pageMost (g .count) || not (pairsOk (pagePairs g)) || not (ascends (g .key) (pagePairs g)) || (eqb (g .count) 0 && not (g .end))
+    ltb pageMost (g .count) || not (pairsOk (g .source .terms .grid) (pagePairs g)) || not (ascends (g .key) (pagePairs g)) || (eqb (g .count) 0 && not (g .end))
 
 -- the number of refusal in the document's order, 0 where the page is taken: for a slice of `len` slots of which the last held one has the key k.
--- 11 held exceeds the slice's length; 12 book closed; 22 wrong kind, 13 page of other editions, 31 of another t; 14 page key is not the book's next key; 15; 16 more pairs than
--- slots left [N26, N27, N28, N29, N31, N32, N33]
+-- 11 held exceeds the slice's length; 12 book closed; 22 wrong kind, 30 page of the other profile, 13 of other editions, 31 of another t; 14 page key is not the book's next key; 15;
+-- 16 more pairs than slots left [N26, N27, N28, N29, N31, N32, N33]
 unfoldable pub takeNoAt : Book → ℕ → Key → Page → ℕ
 takeNoAt b len k g =
     first
@@ -139,7 +141,7 @@ refused b m = record { n = 0; taken = record { number = m; book = b } }
 unfoldable pub decidedAt : Book → ℕ → Key → Page → Decided
 decidedAt b len k g = answer (takeNoAt b len k g) (accepted b g) (refused b)
 
--- the number of refusal of a page, of any state and slice [N32, T11, J11]
+-- the number of refusal of a page, of any state and slice [N32, T11, J11, A14]
 unfoldable pub takeNo : Book → List Pair → Page → ℕ
 takeNo b slots g = takeNoAt b (length slots) (lastKey (b .held) slots) g
 

@@ -11,7 +11,8 @@ use Rattle.list.specs.declared.Source.{Source}
 use Rattle.list.specs.declared.Page.{Page}
 use Rattle.list.specs.Pages.{pageOf}
 use Rattle.list.specs.RingList.{Sound}
-use Rattle.list.specs.Terms.{listFor}
+use Rattle.list.specs.RingList as ringList
+use Rattle.list.specs.Terms.{profileFor, listFor}
 use Rattle.book.specs.declared.Book.{Book}
 use Rattle.book.specs.declared.Begun.the-variants as begun
 use Rattle.book.specs.Rules.{begunFor, lastKey, taken, takenSlots}
@@ -35,9 +36,15 @@ module _ (w : World) where
   abbrev pub chambersOf : Source → List Point
   chambersOf s = cond (s .terms .own) (w .assets (s .«q_edition»)) (w .chambers (s .«q_edition»))
 
-  -- its list: that of its terms, of these points [Z2, T6, J6]
+  -- its list: that of its terms, of these points [Z2, T6, J6, A10]
   abbrev pub listOf : Source → List Pair
   listOf s = listFor (s .terms) (pumpsOf s) (chambersOf s)
+
+  -- the points in both places stand in reach of its profile, so that no size of its list exceeds the profile's limit. Of the circle every world has it (`circle-in-reach` of
+  -- proofs/Story); of the street grid a world has it where the sheets are of form 1, "form 1 sheets only", which 29 sees to
+  pub record InReach (s : Source) : Type 0 where
+    pub pumps-in : ringList.Reached (profileFor (s .terms)) (pumpsOf s)
+    pub chambers-in : ringList.Reached (profileFor (s .terms)) (chambersOf s)
 
   -- a page that answers some request on two sheets of this world, or on one of a self join [D4]
   pub record Honest (g : Page) : Type 0 where

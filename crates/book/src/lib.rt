@@ -56,24 +56,24 @@ fn is_same(a: Key, b: Key) -> bool
     (a.q == b.q) & (a.p == b.p)
 }
 
-// Whether the ids and the size of a pair are in range.
-fn is_pair(v: Pair) -> bool
-    ensures { λ r. ⌜ r ≡ pairOk v ⌝ }
+// Whether the ids and the size of a pair are in range, of the circle or of the street grid.
+fn is_pair(grid: bool, v: Pair) -> bool
+    ensures { λ r. ⌜ r ≡ pairOk grid v ⌝ }
 {
-    words::is_id(v.q) & words::is_id(v.p) & words::is_size(v.size)
+    words::is_id(v.q) & words::is_id(v.p) & plane::profile::is_size(grid, v.size)
 }
 
-// Whether the first n pairs of a page have ids and sizes in range and ascend strictly after a key.
+// Whether the first n pairs of a page have ids and sizes in range, by the page's own profile, and ascend strictly after a key.
 fn pairs_rise(key: Key, g: Page, n: usize) -> bool
     requires { ⌜ n ≤ 16 ⌝ }
-    ensures { λ r. ⌜ r ≡ (pairsOk (taking n (g .pairs)) && ascends key (taking n (g .pairs))) ⌝ }
+    ensures { λ r. ⌜ r ≡ (pairsOk (g .source .terms .grid) (taking n (g .pairs)) && ascends key (taking n (g .pairs))) ⌝ }
 {
     let mut last = key;
     let mut k: usize = 0;
     while k < n {
         let v = g.pairs[k];
         let at = list::key_of(v);
-        if !(is_pair(v) & list::is_after(last, at)) {
+        if !(is_pair(g.source.terms.grid, v) & list::is_after(last, at)) {
             return false;
         }
         last = at;

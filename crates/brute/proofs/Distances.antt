@@ -1,22 +1,22 @@
 -- Laws of clipped words and of distances. Assumes nothing.
-use mathlib.Core.Path.{_≡_, refl, sym, ap, subst, _∙_}
+use mathlib.Core.Path.{_≡_, refl, sym, ap, _∙_}
 use mathlib.Core.Bool.{Bool, true, false, cond}
 use Prim.Native.Nat.{ℕ, _+_, _*_, _-_, _≤_, _<_, _^_}
 use native.Mathlib.Nat.{mul-le-mul}
 use native.Mathlib.Omega.{arith}
-use lib.Dec.{T, leb}
+use lib.Dec.{leb}
 use lib.IntN.{ℤ, pos, negsuc, natAbs, _-ℤ_}
-use lib.Signed.{leZ, ltZ, nonNeg, mag, _≤ℤ_, yes-nonNeg}
+use lib.Signed.{leZ, ltZ, mag}
 use mir.Syntax.{w32, w64}
-use mir.Val.{Fits, toZ, ofZ}
+use mir.Val.{toZ, ofZ}
 use mir.Facts.{toZ-ofZ}
-use borrow.Author.Tests.{le-leb, lt-leb, leb-true}
+use borrow.Author.Tests.{le-leb, lt-leb, leb-true, lt-ltb, le-ltb}
 use Rattle.integers.proofs.Bools.{test-iff}
 use Rattle.integers.specs.Bounds.{Within}
-use Rattle.integers.proofs.Order.{in-lit, sfits-in, abs-of, zl, diff, leZ-not, le-true, pp, nn}
+use Rattle.integers.proofs.Order.{in-lit, sfits-in, abs-of, leZ-not, le-true}
 use Rattle.integers.proofs.Cast.{result-is}
 use Rattle.brute.specs.declared.Place.{Place}
-use Rattle.brute.specs.Brute.{clip, across, apart, covers}
+use Rattle.brute.specs.Brute.{clip, across, apart, covers, larger, most}
 
 -- ---- clipped words
 
@@ -41,27 +41,6 @@ clip-in z = go (leZ (negsuc 999999999) z) (leZ z (pos 1000000000)) refl refl
     go true false e f = in-lit tt
     go false t e f = in-lit tt
 
--- ---- differences
-
-pub abs-swap : (a b : ℤ) → natAbs (b -ℤ a) ≡ natAbs (a -ℤ b)
-abs-swap a b = flip (a -ℤ b) (b -ℤ a) (omega (arith, diff a b, diff b a))
-  where
-    flip : (x y : ℤ) → pp x + pp y ≡ nn x + nn y → natAbs y ≡ natAbs x
-    flip (pos m) (pos n) h = omega arith
-    flip (pos m) (negsuc n) h = omega arith
-    flip (negsuc m) (pos n) h = omega arith
-    flip (negsuc m) (negsuc n) h = absurd (omega arith)
-
-pub less-from : (a b : ℤ) → ltZ a b ≡ true → pos 0 ≤ℤ (b -ℤ a)
-less-from a b e = omega (zl, diff b a)
-
-pub not-less-from : (a b : ℤ) → ltZ a b ≡ false → pos 0 ≤ℤ (a -ℤ b)
-not-less-from a b e = omega (zl, diff a b)
-
--- a difference that is not negative may be cast to a u64
-pub cast-diff : {x y : ℤ} → x ≡ y → Within 4000000000 y → pos 0 ≤ℤ y → T (nonNeg x) × Fits w64 (natAbs x)
-cast-diff {x} {y} e w h = subst (λ (z : ℤ). T (nonNeg z) × Fits w64 (natAbs z)) (sym e) (yes-nonNeg h, record { fits = omega (arith, w .abs) })
-
 -- ---- squares
 
 pub square-le : {d m : ℕ} → d ≤ m → d * d ≤ m * m
@@ -70,6 +49,10 @@ square-le h = mul-le-mul h h
 -- a coordinate, read back from its bits
 pub brute-back : {z : ℤ} → Within 1000000000 z → toZ w64 (ofZ w64 z) ≡ z
 brute-back w = toZ-ofZ (sfits-in {w = w64} w tt)
+
+-- and one of the turned map
+pub turned-back : {z : ℤ} → Within 2000000000 z → toZ w64 (ofZ w64 z) ≡ z
+turned-back w = toZ-ofZ (sfits-in {w = w64} w tt)
 
 -- a word of a slice, clipped by a call
 pub clipped-is : (z : ℤ) {r : ℤ} → mag z < 2 ^ 31 → mag r < 2 ^ 63 → r ≡ clip (toZ w32 (ofZ w32 z)) → toZ w64 (ofZ w64 r) ≡ clip z
@@ -88,3 +71,13 @@ module _ (a b z : Place) {e f x y : ℕ} (ex : e ≡ across (a .x) (b .x)) (ey :
   covers-by h =
       test-iff _ _ (λ t. le-leb (x + y) (e + f) (omega (arith, leb-true y (e + f - x) t))) (λ t. le-leb y (e + f - x) (omega (arith, leb-true (x + y) (e + f) t)))
       ∙ sums
+
+-- ---- the greater of two distances
+module _ (a b : Place) {u v : ℕ} (eu : u ≡ natAbs (a .x -ℤ b .x)) (ev : v ≡ natAbs (a .y -ℤ b .y)) where
+  pub most-second : u < v → v ≡ most a b
+  unfolding most larger
+  most-second h = rw (sym eu, sym ev, lt-ltb u v h)
+
+  pub most-first : v ≤ u → u ≡ most a b
+  unfolding most larger
+  most-first h = rw (sym eu, sym ev, le-ltb u v h)

@@ -1,3 +1,3 @@
 -- The second join, read from the points alone.
---     Brute    the ring rule as distances, and the next pair from a place on
+--     Brute    the ring rule as distances, the street grid's on a turned map, and the next pair from a place on
 pub mod Brute

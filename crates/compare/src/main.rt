@@ -1,5 +1,5 @@
-// Random pairs of sets, packed in random orders and listed page by page through the page request, key after key: every page is held to what the second join
-// (`brute`) finds on the points alone, pair by pair, with its order, its number and its end mark.
+// Random pairs of sets, packed in random orders and listed page by page through the page request of either profile, key after key: every page is held to what the second
+// join (`brute`) finds on the points alone, pair by pair, with its order, its number and its end mark.
 use brute::Found;
 use list::Key;
 use list::Pair;
@@ -222,8 +222,9 @@ fn packed(form: u32, points: &[i32], n: usize, edition: u32, seed: u64, out: &mu
 
 // ---- a page held to the second join
 
-// The next pair of the second join, how many a page showed, the key of the last of them, and whether all agreed.
+// The profile, the next pair of the second join, how many a page showed, the key of the last of them, and whether all agreed.
 struct Turn {
+    grid: bool,
     at: Found,
     count: usize,
     last: Key,
@@ -245,8 +246,8 @@ fn paired(p: &[i32], q: &[i32], size: usize, t: Turn, shown: Pair) -> Turn {
     if (t.count < size) & (at.q < q.len() / 3) {
         let same = (shown.q == id_at(q, at.q))
             & (shown.p == id_at(p, at.p))
-            & (shown.size == brute::size_of(p, q, at));
-        u.at = brute::next(p, q, at.q, std::num::wrapping_add_usize(at.p, 1));
+            & (shown.size == brute::size_of(t.grid, p, q, at));
+        u.at = brute::next(t.grid, p, q, at.q, std::num::wrapping_add_usize(at.p, 1));
         u.count = std::num::wrapping_add_usize(t.count, 1);
         u.last = list::key_of(shown);
         u.good = t.good & same;
@@ -266,8 +267,12 @@ fn turned(p: &[i32], q: &[i32], size: usize, t: Turn, pairs: [Pair; 16]) -> Turn
     u
 }
 
-fn is_source(s: Source) -> bool {
-    (s.p_edition == 7) & (s.q_edition == 9) & (s.terms.threshold == 0)
+fn is_source(s: Source, grid: bool) -> bool {
+    (s.p_edition == 7)
+        & (s.q_edition == 9)
+        & (s.terms.threshold == 0)
+        & !s.terms.own
+        & !(s.terms.grid ^ grid)
 }
 
 fn is_key(a: Key, b: Key) -> bool {
@@ -276,8 +281,9 @@ fn is_key(a: Key, b: Key) -> bool {
 
 // ---- a list
 
-// Where a list stands: the second join's next pair, the key of the next request, and what was seen so far.
+// Where a list stands: its profile, the second join's next pair, the key of the next request, and what was seen so far.
 struct Listing {
+    grid: bool,
     at: Found,
     key: Key,
     seed: u64,
@@ -297,6 +303,7 @@ fn next_page(p: &[i32], q: &[i32], ps: &[i32], qs: &[i32], l: Listing) -> Listin
         key: key,
         size: size,
         threshold: 0,
+        grid: l.grid,
     };
     let mut bits = [0u64; 16];
     let r = ring::page::page(ps, qs, request, &mut bits);
@@ -304,6 +311,7 @@ fn next_page(p: &[i32], q: &[i32], ps: &[i32], qs: &[i32], l: Listing) -> Listin
     let shown = page.key;
     let source = page.source;
     let none = Turn {
+        grid: l.grid,
         at: at,
         count: 0,
         last: key,
@@ -314,8 +322,9 @@ fn next_page(p: &[i32], q: &[i32], ps: &[i32], qs: &[i32], l: Listing) -> Listin
     let next = t.at;
     let last = t.last;
     let end = q.len() / 3 <= next.q;
-    let told = is_source(source) & is_key(shown, key) & (page.count == t.count);
+    let told = is_source(source, l.grid) & is_key(shown, key) & (page.count == t.count);
     Listing {
+        grid: l.grid,
         at: next,
         key: last,
         seed: mixed(l.seed),
@@ -328,9 +337,10 @@ fn next_page(p: &[i32], q: &[i32], ps: &[i32], qs: &[i32], l: Listing) -> Listin
 }
 
 // The whole list, page by page, up to its end mark or the first page that is not as it should be.
-fn listed(p: &[i32], q: &[i32], ps: &[i32], qs: &[i32], seed: u64) -> Listing {
+fn listed(grid: bool, p: &[i32], q: &[i32], ps: &[i32], qs: &[i32], seed: u64) -> Listing {
     let mut l = Listing {
-        at: brute::next(p, q, 0, 0),
+        grid: grid,
+        at: brute::next(grid, p, q, 0, 0),
         key: Key { q: 0, p: 0 },
         seed: seed,
         ended: false,
@@ -370,6 +380,7 @@ fn counted(t: Tally, l: Listing) -> Tally {
 // ---- a pair of sets
 
 fn compared(
+    grid: bool,
     p: &[i32],
     np: usize,
     p_form: u32,
@@ -392,10 +403,10 @@ fn compared(
         u.wrong = std::num::wrapping_add_u64(t.wrong, 1);
         return u;
     }
-    counted(u, listed(p, q, &ps[..lp], &qs[..lq], seed))
+    counted(u, listed(grid, p, q, &ps[..lp], &qs[..lq], seed))
 }
 
-fn made(np: usize, p_kind: Kind, nq: usize, q_kind: Kind, seed: u64, t: Tally) -> Tally
+fn made(grid: bool, np: usize, p_kind: Kind, nq: usize, q_kind: Kind, seed: u64, t: Tally) -> Tally
     requires { ⌜ (np ≤ 1000) × (nq ≤ 1000) ⌝ }
 {
     let lp = 3 * np;
@@ -406,11 +417,11 @@ fn made(np: usize, p_kind: Kind, nq: usize, q_kind: Kind, seed: u64, t: Tally) -
     let mut q = [0i32; 3000];
     make_points(&mut p, np, p_kind, seed);
     make_points(&mut q, nq, q_kind, mixed(seed ^ 77));
-    compared(&p[..lp], np, p_form, &q[..lq], nq, q_form, seed, t)
+    compared(grid, &p[..lp], np, p_form, &q[..lq], nq, q_form, seed, t)
 }
 
 // Sets of 0 to 60 points of any kind: one in three has the coordinates of both drawn alike.
-fn small(seed: u64, t: Tally) -> Tally {
+fn small(grid: bool, seed: u64, t: Tally) -> Tally {
     let a = mixed(seed);
     let b = mixed(a);
     let c = mixed(b);
@@ -429,11 +440,11 @@ fn small(seed: u64, t: Tally) -> Tally {
         id: drawn(c >> 27, 4),
         form: 1,
     };
-    made(drawn(a, 61), p_kind, drawn(b, 61), q_kind, c, t)
+    made(grid, drawn(a, 61), p_kind, drawn(b, 61), q_kind, c, t)
 }
 
 // Sets of 1,000 points: all over the map, on grids, and on a line.
-fn large(number: u64, seed: u64, t: Tally) -> Tally {
+fn large(grid: bool, number: u64, seed: u64, t: Tally) -> Tally {
     let way = (number % 7) as usize;
     let x = if way < 3 { way * 2 } else { 0 };
     let y = if way == 6 { 5 } else { x };
@@ -449,7 +460,7 @@ fn large(number: u64, seed: u64, t: Tally) -> Tally {
         id: way / 2,
         form: 1,
     };
-    made(1000, p_kind, 1000, q_kind, mixed(seed), t)
+    made(grid, 1000, p_kind, 1000, q_kind, mixed(seed), t)
 }
 
 // A set of form 2 that has coordinates to the ends of its range, or a set of form 1.
@@ -474,6 +485,7 @@ fn two_forms(number: u64, seed: u64, t: Tally) -> Tally {
     let p_form = if number % 4 == 1 { 1 } else { 2 };
     let q_form = if number % 4 == 2 { 1 } else { 2 };
     made(
+        false,
         drawn(a, 61),
         kind_of(p_form, b),
         drawn(b, 61),
@@ -483,25 +495,25 @@ fn two_forms(number: u64, seed: u64, t: Tally) -> Tally {
     )
 }
 
-fn all_small(seed: u64, t: Tally) -> Tally {
+fn all_small(grid: bool, seed: u64, t: Tally) -> Tally {
     let mut u = t;
     let mut x = seed;
     let mut k = 0;
     while k < SMALL {
         x = mixed(x);
-        u = small(x, u);
+        u = small(grid, x, u);
         k += 1;
     }
     u
 }
 
-fn all_large(seed: u64, t: Tally) -> Tally {
+fn all_large(grid: bool, seed: u64, t: Tally) -> Tally {
     let mut u = t;
     let mut x = seed;
     let mut k = 0;
     while k < LARGE {
         x = mixed(x);
-        u = large(k, x, u);
+        u = large(grid, k, x, u);
         k += 1;
     }
     u
@@ -549,12 +561,16 @@ fn main() {
         wrong: 0,
     };
     line(b"pairs of sets of 0 to 60 points", SMALL);
-    print_tally(all_small(88172645463325252, none));
+    print_tally(all_small(false, 88172645463325252, none));
     line(b"pairs of sets of 1,000 points", LARGE);
-    print_tally(all_large(2463534242, none));
+    print_tally(all_large(false, 2463534242, none));
     line(
         b"pairs of sets of 0 to 60 points, of form 2 and mixed",
         WIDE,
     );
     print_tally(all_wide(362436069, none));
+    line(b"street grid: pairs of sets of 0 to 60 points", SMALL);
+    print_tally(all_small(true, 521288629, none));
+    line(b"street grid: pairs of sets of 1,000 points", LARGE);
+    print_tally(all_large(true, 88675123, none));
 }

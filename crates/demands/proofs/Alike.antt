@@ -2,6 +2,7 @@
 -- "a view handed in included, its counts read anew from its words". So each theorem of Demand1, Demand2, Demand3, Lent, Shortest and Nearest on an answer of
 -- these holds of theirs. And so for a book, and for a run, whose slots are kept in an array.
 -- Assumes nothing. [S28]
+use mathlib.Core.Bool.{Bool}
 use mathlib.Core.Path.{_≡_, ap}
 use mathlib.Core.List.{List, [], _++_}
 use Prim.Native.Nat.{ℕ}
@@ -40,15 +41,15 @@ place w = record { address = w .ptr; name = w .name }
 pub view-point : (d : Sheet) (i : ℕ) (r : Pointed) → ViewPoints d i r → PointAnswers (now (d .words)) i r
 view-point d i r a = record { κs = ([], tt); w-at = place (d .words); promised = a }
 
-pub view-ring : (p q : Sheet) (j i : ℕ) (r : Walked) → ViewRings p q j i r → RingAnswers (now (p .words)) (now (q .words)) j i r
-view-ring p q j i r a = record { κs = ([], ([], tt)); p-at = place (p .words); q-at = place (q .words); promised = a }
+pub view-ring : (p q : Sheet) (j i : ℕ) (g : Bool) (r : Walked) → ViewRings p q j i g r → RingAnswers (now (p .words)) (now (q .words)) j i g r
+view-ring p q j i g r a = record { κs = ([], ([], tt)); p-at = place (p .words); q-at = place (q .words); promised = a }
 
 -- what is lent stands at any place
 pub view-filter : (l : Place) (p q : Sheet) (j : ℕ) (w : List ℕ) (r : Filtered) (w′ : List ℕ) → ViewFilters p q j w r w′ → FilterAnswers (now (p .words)) (now (q .words)) j w r w′
 view-filter l p q j w r w′ a = record { κs = ([], ([], ([], tt))); p-at = place (p .words); q-at = place (q .words); b-at = l; promised = a }
 
-pub view-own-page : (l : Place) (d : Sheet) (key : Key) (size : ℕ) (w : List ℕ) (r : Paged) (w′ : List ℕ) → ViewOwnPages d key size w r w′ → OwnAnswers (now (d .words)) key size w r w′
-view-own-page l d key size w r w′ a = record { κs = ([], ([], tt)); w-at = place (d .words); b-at = l; promised = a }
+pub view-own-page : (l : Place) (d : Sheet) (key : Key) (size : ℕ) (g : Bool) (w : List ℕ) (r : Paged) (w′ : List ℕ) → ViewOwnPages d key size g w r w′ → OwnAnswers (now (d .words)) key size g w r w′
+view-own-page l d key size g w r w′ a = record { κs = ([], ([], tt)); w-at = place (d .words); b-at = l; promised = a }
 
 pub view-partners : (l : Place) (p q : Sheet) (id t : ℕ) (w : List ℕ) (r : Partnered) (w′ : List ℕ) → ViewPartners p q id t w r w′ → PartnersAnswers (now (p .words)) (now (q .words)) id t w r w′
 view-partners l p q id t w r w′ a = record { κs = ([], ([], ([], tt))); p-at = place (p .words); q-at = place (q .words); b-at = l; promised = a }

@@ -160,15 +160,15 @@ filter-no P Q j w r w′ a = (
 
 -- ---- the ring walk, 1 to 8 for P, then for Q, then 9
 
--- [F10]
-pub ring-no : (P Q : List ℤ) (j i : ℕ) (r : Walked) → RingAnswers P Q j i r
-    → (walkedNo r ≡ ringNo P Q j i) × (Refuses (ringNo P Q j i) → r ≡ walking.Refused (ringNo P Q j i))
-ring-no P Q j i r a = (ap walkedNo (a .promised) ∙ of-ring.ring-walk-no P Q j i, λ ne. a .promised ∙ sym (ring-refused P Q j i (ringNo P Q j i) refl ne))
+-- [A13, F10]
+pub ring-no : (P Q : List ℤ) (j i : ℕ) (g : Bool) (r : Walked) → RingAnswers P Q j i g r
+    → (walkedNo r ≡ ringNo P Q j i g) × (Refuses (ringNo P Q j i g) → r ≡ walking.Refused (ringNo P Q j i g))
+ring-no P Q j i g r a = (ap walkedNo (a .promised) ∙ of-ring.ring-walk-no P Q j i g, λ ne. a .promised ∙ sym (ring-refused P Q j i g (ringNo P Q j i g) refl ne))
 
 -- ---- the page request, 1 to 8 for P, then for Q, then 9, then 10, then 21, then 24: refused, the page is all zero, and so is its count, and the lent words
 -- are as they were
 
--- [N4, T9, T10, Y13, Y15]
+-- [N4, T9, T10, Y13, Y15, A13]
 pub page-no : (P Q : List ℤ) (ask : Request) (w : List ℕ) (r : Paged) (w′ : List ℕ) → PageAnswers P Q ask w r w′
     → (r .number ≡ pageNo P Q ask (length w)) × (Refuses (pageNo P Q ask (length w)) → (r ≡ pageRefused (pageNo P Q ask (length w))) × (w′ ≡ w))
 unfolding pageBits
@@ -180,13 +180,13 @@ page-no P Q ask w r w′ a = (
 -- ---- the page request of a self join, 1 to 8 for its sheet, then 9, then 10, then 24: refused, the page is all zero, and so is its count, and the lent words
 -- are as they were
 
--- [J6, Y15]
-pub own-no : (S : List ℤ) (key : Key) (size : ℕ) (w : List ℕ) (r : Paged) (w′ : List ℕ) → OwnAnswers S key size w r w′
-    → (r .number ≡ ownNo S key size (length w)) × (Refuses (ownNo S key size (length w)) → (r ≡ pageRefused (ownNo S key size (length w))) × (w′ ≡ w))
+-- [J6, Y15, A13]
+pub own-no : (S : List ℤ) (key : Key) (size : ℕ) (g : Bool) (w : List ℕ) (r : Paged) (w′ : List ℕ) → OwnAnswers S key size g w r w′
+    → (r .number ≡ ownNo S key size g (length w)) × (Refuses (ownNo S key size g (length w)) → (r ≡ pageRefused (ownNo S key size g (length w))) × (w′ ≡ w))
 unfolding ownBits
-own-no S key size w r w′ a = (
-  ap (λ (x : Paged). x .number) (a .promised .0) ∙ of-own.ring-own-no S key size (length w),
-  λ ne. (a .promised .0 ∙ of-own.own-refused S key size (length w) _ refl ne, a .promised .1 ∙ sym (wiped-refused w (need S) _ _ refl ne)),
+own-no S key size g w r w′ a = (
+  ap (λ (x : Paged). x .number) (a .promised .0) ∙ of-own.ring-own-no S key size g (length w),
+  λ ne. (a .promised .0 ∙ of-own.own-refused S key size g (length w) _ refl ne, a .promised .1 ∙ sym (wiped-refused w (need S) _ _ refl ne)),
 )
 
 -- ---- the shortest circles, 1 to 8 for P, then for Q, then 10, then 24: refused, the number of pairs is 0, each pair is three zeros, and the lent words are
@@ -262,7 +262,7 @@ next-no b slots r a =
 
 -- ---- take, 11, 12, 22, 13, 31, 14, 15, 16: refused, the book comes back as it went in, and every slot is as it stood
 
--- [N3, N26, N27, N28, N29, N30, N31, N32, T11, J11]
+-- [N3, N26, N27, N28, N29, N30, N31, N32, T11, J11, A14]
 pub take-no : (b : Book) (slots : List Pair) (g : Page) (r : Taken) (slots′ : List Pair) → TakeAnswers b slots g r slots′
     → (r .number ≡ takeNo b slots g) × (Refuses (takeNo b slots g) → (r .book ≡ b) × (slots′ ≡ slots))
 take-no b slots g r slots′ a =

@@ -24,13 +24,15 @@
 --     own-exact          the self join of one sheet: two different records, lower id first, exactly if no other record blocks.  own-low: never the higher id first
 --     return-trip        pack, then open, gives the same points back, in the form that was asked for
 -- Assumes nothing. [O6]
+use Rattle.plane.proofs.ProfileLaws.{circle-lawful, profile-lawful}
+use Rattle.plane.specs.Profile.{circle, profileOf}
 use mathlib.Core.Path.{_≡_, refl, sym, ap, ap₂, subst, _∙_}
 use mathlib.Core.Bool.{Bool, true, false, cond, _&&_}
 use mathlib.Core.Logic.{_↔_, ⊎-elim}
 use mathlib.Core.List.{List, [], _++_, List·Memᴰ}
 use Prim.Native.Nat.{ℕ, _+_, _*_, _≤_, _<_}
 use native.Mathlib.Omega.{arith}
-use lib.Dec.{eqb, leb}
+use lib.Dec.{eqb, leb, ltb}
 use lib.IntN.{ℤ, pos}
 use lib.ListN.{length, getD, take, drop, length-take}
 use borrow.Author.Tests.{eq-eqb, eqb-true, le-leb, leb-true}
@@ -54,8 +56,8 @@ use Rattle.list.specs.declared.Terms.{Terms}
 use Rattle.list.specs.Pairs.{start, none, keyOf, ascends, after, chamberPairs}
 use Rattle.list.specs.Pages.{sizeNo, pageOf, pagePairs, shown, followed, lastThreshold}
 use Rattle.list.specs.Rows.{listBy, Rising}
-use Rattle.list.specs.RingList.{ringPair, sizeOf, pairAt, ringList}
-use Rattle.list.specs.Terms.{full, withT, alone, requestOf, listedFor, listFor}
+use Rattle.list.specs.RingList.{ringPair, sizeOf, pairAt, ringList, ringPairBy, pairBy, ringListBy}
+use Rattle.list.specs.Terms.{full, requestOf, listedFor, listFor, withBy, aloneBy, profileFor}
 use Rattle.list.proofs.PageLaws.{size-fits, page-shows, shown-member}
 use Rattle.list.specs.Nearest.{Nearest}
 use Rattle.list.proofs.Order.{after-all}
@@ -67,8 +69,8 @@ use Rattle.walk.specs.declared.Blocker.{Blocker}
 use Rattle.walk.specs.declared.Edge.{Edge}
 use Rattle.walk.specs.declared.Hit.the-variants.{Point as PointHit, Side}
 use Rattle.walk.specs.declared.Answer.{Answer}
-use Rattle.walk.specs.FilterWalk.{Kept, soFar, filterKeeps}
-use Rattle.walk.specs.RingWalk.{pairWalk}
+use Rattle.walk.specs.FilterWalk.{Kept, soFar, filterKeeps, keepsBy, keepsOpened}
+use Rattle.walk.specs.RingWalk.{pairWalkBy}
 use Rattle.walk.specs.Claims.{BlocksPair, BlocksPairBySide, overP, overQ}
 use Rattle.walk.proofs.Meaning as of-walk
 use Rattle.join.specs.Work.{pageOpened}
@@ -76,7 +78,7 @@ use Rattle.join.specs.Sheets.{walksBy}
 use Rattle.join.specs.Threshold.{walksFor, smaller}
 use Rattle.join.proofs.Meaning as of-join
 use Rattle.ring.specs.Lent.{need}
-use Rattle.ring.specs.Numbers.{sheetsNo, positionNo, pointNo, filterNo, ringNo}
+use Rattle.ring.specs.Numbers.{sheetsNo, positionNo, pointNo, filterNo, ringNo, gridNo}
 use Rattle.ring.specs.Answers.{assetOf, keptFor, filteredTo, walkedClear}
 use Rattle.ring.specs.Page.{pageNo, sourceOf, pageGiven}
 use Rattle.ring.specs.Own.{ownNo}
@@ -155,7 +157,7 @@ module _ (P Q : List ℤ) (p-opens : WellFormed P) (q-opens : WellFormed Q) wher
 
       -- "For every position, a ring partner of q is kept." [W8]
       pub kept-partner : (i : ℕ) → i < points P → ringPair (pointsOf P) (pointsOf Q) j i ≡ true → kept w′ i ≡ true
-      kept-partner i i-in e = bits-are i i-in ∙ of-walk.walk-kept-partner (need P) P Q (facts P p-opens) (words-enough (points P)) j i j-in i-in e
+      kept-partner i i-in e = bits-are i i-in ∙ of-walk.walk-kept-partner circle circle-lawful refl (need P) P Q (facts P p-opens) (words-enough (points P)) j i j-in i-in e
 
       -- "with the number of bits set": the number of positions of P that are kept; "unused bits are 0", of the words that are needed. [W6]
       pub kept-count : r .count ≡ cardIn w′ (points P) 0
@@ -178,42 +180,48 @@ module _ (P Q : List ℤ) (p-opens : WellFormed P) (q-opens : WellFormed Q) wher
 
     -- ---- the ring walk for q and p
 
-    module _ (i : ℕ) (i-in : i < points P) where
-      ring-is : (r : Walked) → RingAnswers P Q j i r → r ≡ Done (pairWalk P Q j i)
+    -- of either profile: of the street grid for sheets of form 1
+    module _ (i : ℕ) (i-in : i < points P) (g : Bool) (forms : gridNo g P Q ≡ 0) where
+      ring-is : (r : Walked) → RingAnswers P Q j i g r → r ≡ Done (pairWalkBy (profileOf g) P Q j i)
       unfolding ringNo
       ring-is r a =
           a .promised
-          ∙ sym (ring-given P Q j i (pairWalk P Q j i) (sheets-open P Q _ sheets ∙ first-passes (positionNo Q j) _ (ring-position-in Q j j-in) ∙ first-last _ ∙ ring-position-in P i i-in) refl)
+          ∙ sym (ring-given P Q j i g (pairWalkBy (profileOf g) P Q j i) (sheets-open P Q _ sheets ∙ first-passes (gridNo g P Q) _ forms ∙ first-passes (positionNo Q j) _ (ring-position-in Q j j-in) ∙ first-last _ ∙ ring-position-in P i i-in) refl)
 
-      answer : (s : Answer) → RingAnswers P Q j i (Done s) → s ≡ pairWalk P Q j i
+      answer : (s : Answer) → RingAnswers P Q j i g (Done s) → s ≡ pairWalkBy (profileOf g) P Q j i
       answer s a = let z = ring-is (Done s) a in cc
 
       -- "(q, p) is a ring pair when no other record of P or Q blocks it": the ring walk is clear exactly then. [W16]
-      pub clear-iff : (r : Walked) → RingAnswers P Q j i r → walkedClear r ≡ ringPair (pointsOf P) (pointsOf Q) j i
-      clear-iff r a = ap walkedClear (ring-is r a) ∙ of-walk.pair-clear P Q (facts P p-opens) (facts Q q-opens) j i j-in i-in
+      pub clear-iff : (r : Walked) → RingAnswers P Q j i g r → walkedClear r ≡ ringPairBy (profileOf g) (pointsOf P) (pointsOf Q) j i
+      clear-iff r a = ap walkedClear (ring-is r a) ∙ of-walk.pair-clear (profileOf g) (profile-lawful g) P Q (facts P p-opens) (facts Q q-opens) j i j-in i-in
 
       -- "blocked by a point (its set and position)": the record that it names blocks, and so stands at the place of neither end. [W16, E2]
-      pub point-blocks : (s : Answer) (x : Blocker) → RingAnswers P Q j i (Done s) → s .hit ≡ PointHit x → BlocksPair P Q j i (x .set) (x .position)
-      point-blocks s x a e = of-walk.pair-point P Q (facts P p-opens) (facts Q q-opens) j i x (ap (λ (z : Answer). z .hit) (sym (answer s a)) ∙ e)
+      pub point-blocks : (s : Answer) (x : Blocker) → RingAnswers P Q j i g (Done s) → s .hit ≡ PointHit x → BlocksPair (profileOf g) P Q j i (x .set) (x .position)
+      point-blocks s x a e = of-walk.pair-point (profileOf g) (profile-lawful g) P Q (facts P p-opens) (facts Q q-opens) j i x (ap (λ (z : Answer). z .hit) (sym (answer s a)) ∙ e)
 
       -- "or by a box side (its set and node number)"; "Where a box side blocks, the answer shall also name the side, the first that qualifies of left, bottom, right,
       -- top": of the node's box that it names, both corners of the side that it names lie strictly inside, those of no side before it do, and on it stands such a record.
-      -- [W14, E1]
-      pub side-blocks : (s : Answer) (x : Edge) → RingAnswers P Q j i (Done s) → s .hit ≡ Side x → BlocksPairBySide P Q j i (x .set) (x .node) (x .side)
-      side-blocks s x a e = of-walk.pair-side P Q (facts P p-opens) (facts Q q-opens) j i x (ap (λ (z : Answer). z .hit) (sym (answer s a)) ∙ e)
-
-      -- A ring pair is a kept position whose ring walk is clear, and no other is.
-      pub pair-exact : (w : List ℕ) → need P ≤ length w → (f : Filtered) (w′ : List ℕ) (r : Walked) → FilterAnswers P Q j w f w′ → RingAnswers P Q j i r
-          → ringPair (pointsOf P) (pointsOf Q) j i ≡ (kept w′ i && walkedClear r)
-      pair-exact w enough f w′ r a b =
-          of-walk.walk-pair-exact P Q (facts P p-opens) (facts Q q-opens) j i j-in i-in (need P) (words-enough (points P))
-          ∙ ap₂ _&&_ (sym (bits-are w enough f w′ a i i-in)) (sym (ap walkedClear (ring-is r b)))
+      -- [W14, E1, A5]
+      pub side-blocks : (s : Answer) (x : Edge) → RingAnswers P Q j i g (Done s) → s .hit ≡ Side x → BlocksPairBySide (profileOf g) P Q j i (x .set) (x .node) (x .side)
+      side-blocks s x a e = of-walk.pair-side (profileOf g) (profile-lawful g) P Q (facts P p-opens) (facts Q q-opens) j i x (ap (λ (z : Answer). z .hit) (sym (answer s a)) ∙ e)
 
       -- "Q is walked first, then P if Q is clear; the counts add up": each of the two opens at most the nodes of its sheet, and the answer's count is at most the nodes of both.
       -- [W22]
-      pub ring-opened-at-most-m : (s : Answer) → RingAnswers P Q j i (Done s) → (overQ P Q j i .opened ≤ nodes Q) × (overP P Q j i .opened ≤ nodes P) × (s .opened ≤ nodes P + nodes Q)
+      pub ring-opened-at-most-m : (s : Answer) → RingAnswers P Q j i g (Done s) → (overQ (profileOf g) P Q j i .opened ≤ nodes Q) × (overP (profileOf g) P Q j i .opened ≤ nodes P) × (s .opened ≤ nodes P + nodes Q)
       ring-opened-at-most-m s a =
-          (of-walk.walk-ring-opened-at-most-m 1 Q (facts Q q-opens) (spotOf Q j) (spotOf P i), of-walk.walk-ring-opened-at-most-m 0 P (facts P p-opens) (spotOf Q j) (spotOf P i), subst (λ (x : Answer). x .opened ≤ nodes P + nodes Q) (sym (answer s a)) (of-walk.pair-opened P Q (facts P p-opens) (facts Q q-opens) j i))
+          (of-walk.walk-ring-opened-at-most-m (profileOf g) (profile-lawful g) 1 Q (facts Q q-opens) (spotOf Q j) (spotOf P i), of-walk.walk-ring-opened-at-most-m (profileOf g) (profile-lawful g) 0 P (facts P p-opens) (spotOf Q j) (spotOf P i), subst (λ (x : Answer). x .opened ≤ nodes P + nodes Q) (sym (answer s a)) (of-walk.pair-opened (profileOf g) (profile-lawful g) P Q (facts P p-opens) (facts Q q-opens) j i))
+
+    -- what the circle keeps is what the filter walk keeps
+    keeps-are : (i : ℕ) → i < points P → (w : List ℕ) → need P ≤ length w → (f : Filtered) (w′ : List ℕ) → FilterAnswers P Q j w f w′ → keepsBy circle (need P) P (spotOf Q j) i ≡ kept w′ i
+    unfolding keepsBy
+    keeps-are i i-in w enough f w′ a = sym (bits-are w enough f w′ a i i-in)
+
+    -- A ring pair of the circle is a kept position whose ring walk is clear, and no other is.
+    pub pair-exact : (i : ℕ) → i < points P → (w : List ℕ) → need P ≤ length w → (f : Filtered) (w′ : List ℕ) (r : Walked) → FilterAnswers P Q j w f w′ → RingAnswers P Q j i false r
+        → ringPair (pointsOf P) (pointsOf Q) j i ≡ (kept w′ i && walkedClear r)
+    pair-exact i i-in w enough f w′ r a b =
+        of-walk.walk-pair-exact circle circle-lawful P Q (facts P p-opens) (facts Q q-opens) j i j-in i-in (need P) (words-enough (points P))
+        ∙ ap₂ _&&_ (keeps-are i i-in w enough f w′ a) (sym (ap walkedClear (ring-is i i-in false (of-page.circle-any-form P Q) r b)))
 
   -- ---- pages
 
@@ -226,14 +234,14 @@ module _ (P Q : List ℤ) (p-opens : WellFormed P) (q-opens : WellFormed Q) wher
   -- So the pairs made with kept sets and ring walks, chamber by chamber, are the list: an equation of lists, of whatever kept sets and walks are exact. [W8]
   pub made-list : (keeps clears : ℕ → ℕ → Bool) → ((j i : ℕ) → j < points Q → i < points P → ringPair (pointsOf P) (pointsOf Q) j i ≡ (keeps j i && clears j i))
       → listBy (λ j i. keeps j i && clears j i) (pairAt (pointsOf P) (pointsOf Q)) (points P) (points Q) ≡ ringList (pointsOf P) (pointsOf Q)
-  unfolding ringList
+  unfolding ringListBy
   made-list keeps clears exact =
       list-same (λ j i. keeps j i && clears j i) (ringPair (pointsOf P) (pointsOf Q)) (pairAt (pointsOf P) (pointsOf Q)) (points P) (points Q) (λ j i h g. sym (exact j i h g))
       ∙ ap₂ (λ (n m : ℕ). listBy (ringPair (pointsOf P) (pointsOf Q)) (pairAt (pointsOf P) (pointsOf Q)) n m) (sym (length-points P)) (sym (length-points Q))
 
   -- of the filter walk, for each chamber j lent the words `w j`, which are `w′ j` after it [W8]
   pub filter-list : (w : ℕ → List ℕ) → ((j : ℕ) → need P ≤ length (w j)) → (f : ℕ → Filtered) (w′ : ℕ → List ℕ) (r : ℕ → ℕ → Walked)
-      → ((j : ℕ) → j < points Q → FilterAnswers P Q j (w j) (f j) (w′ j)) → ((j i : ℕ) → j < points Q → i < points P → RingAnswers P Q j i (r j i))
+      → ((j : ℕ) → j < points Q → FilterAnswers P Q j (w j) (f j) (w′ j)) → ((j i : ℕ) → j < points Q → i < points P → RingAnswers P Q j i false (r j i))
       → listBy (λ j i. kept (w′ j) i && walkedClear (r j i)) (pairAt (pointsOf P) (pointsOf Q)) (points P) (points Q) ≡ ringList (pointsOf P) (pointsOf Q)
   filter-list w enough f w′ r a b =
       made-list (λ j i. kept (w′ j) i) (λ j i. walkedClear (r j i)) (λ j i h g. pair-exact j h i g (w j) (enough j) (f j) (w′ j) (r j i) (a j h) (b j i h g))
@@ -255,21 +263,21 @@ module _ (P Q : List ℤ) (p-opens : WellFormed P) (q-opens : WellFormed Q) wher
           go false e x =
               let ask = requestOf a key size in
               let no : pageNo P Q ask (length w) ≡ 0 = sym (of-page.ring-page-no P Q ask (length w)) ∙ sym (ap (λ (y : Paged). y .number) (x .promised .0)) ∙ fine in
-              let s = size-fits size (none-applies _ .0 no 3) in
+              let s = size-fits size (none-applies _ .0 no 4) in
               (s .0, s .1, x .promised .0 ∙ of-page.page-answered P Q ask (length w) no ∙ ap (λ (y : Terms). pageGiven y P Q key size) (kind-of a false e))
           go true e x =
-              let no : ownNo P key size (length w) ≡ 0 = sym (of-own.ring-own-no P key size (length w)) ∙ sym (ap (λ (y : Paged). y .number) (x .2 .promised .0)) ∙ fine in
-              let s = size-fits size (none-applies _ .0 no 2) in
-              (s .0, s .1, x .2 .promised .0 ∙ of-own.own-answered P key size (length w) no ∙ ap (λ (y : List ℤ). pageGiven alone P y key size) (x .0) ∙ ap (λ (y : Terms). pageGiven y P Q key size) (λ i. record { threshold = sym (x .1) i; own = sym e i }))
+              let no : ownNo P key size (a .grid) (length w) ≡ 0 = sym (of-own.ring-own-no P key size (a .grid) (length w)) ∙ sym (ap (λ (y : Paged). y .number) (x .2 .promised .0)) ∙ fine in
+              let s = size-fits size (none-applies _ .0 no 3) in
+              (s .0, s .1, x .2 .promised .0 ∙ of-own.own-answered P key size (a .grid) (length w) no ∙ ap (λ (y : List ℤ). pageGiven (aloneBy (a .grid)) P y key size) (x .0) ∙ ap (λ (y : Terms). pageGiven y P Q key size) (λ i. record { threshold = sym (x .1) i; own = sym e i; grid = a .grid }))
 
-      module _ (h : InRange key size (a .threshold)) (enough : need P ≤ length w) where
-        -- a key, a size and a t in range are served, with words enough
+      module _ (h : InRange key size (a .threshold)) (forms : gridNo (a .grid) P Q ≡ 0) (enough : need P ≤ length w) where
+        -- a key, a size and a t in range are served, of sheets of form 1 for the street grid, with words enough
         pub page-served : r .number ≡ 0
         page-served = go (a .own) answers
           where
             go : (k : Bool) → OfKind k a P Q key size w r w′ → r .number ≡ 0
-            go false x = unfold pageGiven in ap (λ (y : Paged). y .number) (x .promised .0 ∙ of-page.ring-page-served P Q (requestOf a key size) (length w) sheets (h .q-in) (h .p-in) (h .some) (h .most) (h .fair) enough)
-            go true x = unfold pageGiven in ap (λ (y : Paged). y .number) (x .2 .promised .0 ∙ of-own.own-served P key size (length w) p-opens (h .q-in) (h .p-in) (h .some) (h .most) enough)
+            go false x = unfold pageGiven in ap (λ (y : Paged). y .number) (x .promised .0 ∙ of-page.ring-page-served P Q (requestOf a key size) (length w) sheets forms (h .q-in) (h .p-in) (h .some) (h .most) (h .fair) enough)
+            go true x = unfold pageGiven in ap (λ (y : Paged). y .number) (x .2 .promised .0 ∙ of-own.own-served P key size (a .grid) (length w) p-opens (subst (λ (R : List ℤ). gridNo (a .grid) P R ≡ 0) (sym (x .0)) forms) (h .q-in) (h .p-in) (h .some) (h .most) enough)
 
         page-is : r ≡ pageGiven a P Q key size
         page-is = answered page-served .2
@@ -281,13 +289,14 @@ module _ (P Q : List ℤ) (p-opens : WellFormed P) (q-opens : WellFormed Q) wher
         unfolding pageGiven
         page-pairs = (ap (λ (x : Paged). x .number) page-is, ap (λ (x : Paged). x .page) page-is)
 
-        -- "Each pair in pages [..] now has its squared diameter beside the ids": that of the places of the two records with these ids. [Z1]
+        -- "Each pair in pages [..] now has its squared diameter beside the ids", of the street grid "the squared sum of absolute differences": that of the places of the two records
+        -- with these ids. [Z1]
         pub pair-size : (v : Pair) → List·Memᴰ v (pagePairs (r .page))
-            → (j i : ℕ) → j < points Q → i < points P → idAt (pointsOf Q) j ≡ v .q → idAt (pointsOf P) i ≡ v .p → v .size ≡ sizeOf (spotOf Q j) (spotOf P i)
+            → (j i : ℕ) → j < points Q → i < points P → idAt (pointsOf Q) j ≡ v .q → idAt (pointsOf P) i ≡ v .p → v .size ≡ profileFor a .size (spotOf Q j) (spotOf P i)
         pair-size v m j i j-in i-in e f =
             let s : pagePairs (r .page) ≡ shown List-of key size = ap pagePairs (page-pairs .1) ∙ page-shows key (sourceOf P Q a) List-of size in
             for-size a (pointsOf P) (pointsOf Q) rise-p rise-q v (shown-member List-of key size v (subst (List·Memᴰ v) s m)) j i (omega (arith, length-points Q)) (omega (arith, length-points P)) e f
-            ∙ ap₂ sizeOf (spot-of Q j j-in) (spot-of P i i-in)
+            ∙ ap₂ (profileFor a .size) (spot-of Q j j-in) (spot-of P i i-in)
 
         -- "Beside the page stands its count of nodes opened": that of the walks as they are defined, the filter walks' kept sets on the words that are needed.
         -- "With t above 0 a page's count takes in all kept partners of each chamber reached, the last one too": `walksFor` of join/specs/Threshold.
@@ -296,15 +305,21 @@ module _ (P Q : List ℤ) (p-opens : WellFormed P) (q-opens : WellFormed Q) wher
         unfolding pageGiven
         page-opened = ap (λ (x : Paged). x .opened) page-is
 
+    -- Of a profile that the half-plane filter is not used for, the street grid: "all of P is kept and no filter nodes are counted". So a page's count is that of ring walks alone.
+    -- [A6, A7]
+    pub unfiltered-count : profileFor a .half ≡ false → a .own ≡ false → (words j i : ℕ) → (walksBy a words P Q .kept j i ≡ ltb i (points P)) × (walksBy a words P Q .keptOpened j ≡ 0)
+    unfolding keepsBy keepsOpened
+    unfiltered-count h two words j i = rw (two, h) (refl, refl)
+
     -- Following the pages from (0, 0), each next key the last pair shown, whatever the sizes from 1 to 16, gives the whole list, each pair once. `ask` is the page
-    -- request: for every key and size it gives an answer that the promise admits, for some words that are lent then, enough of them. [P4, T4, J4, D2]
-    pub pages-list : a .threshold ≤ lastThreshold → (w : Key → ℕ → List ℕ) → ((key : Key) (size : ℕ) → need P ≤ length (w key size)) → (ask : Key → ℕ → Paged) (w′ : Key → ℕ → List ℕ)
+    -- request: for every key and size it gives an answer that the promise admits, for some words that are lent then, enough of them. [P4, T4, J4, A10, D2]
+    pub pages-list : gridNo (a .grid) P Q ≡ 0 → a .threshold ≤ lastThreshold → (w : Key → ℕ → List ℕ) → ((key : Key) (size : ℕ) → need P ≤ length (w key size)) → (ask : Key → ℕ → Paged) (w′ : Key → ℕ → List ℕ)
         → ((key : Key) (size : ℕ) → TermsAnswers a P Q key size (w key size) (ask key size) (w′ key size))
         → (sizes : ℕ → ℕ) → ((k : ℕ) → sizeNo (sizes k) ≡ 0)
         → followed (length List-of) sizes (λ key size. ask key size .page) start ≡ List-of
-    pages-list most w enough ask w′ x sizes s =
+    pages-list forms most w enough ask w′ x sizes s =
         of-page.followed-list a P Q (facts P p-opens) (facts Q q-opens) ask
-        (λ k n qi pi some few. page-is k n (w k n) (ask k n) (w′ k n) (x k n) (record { q-in = qi; p-in = pi; some = some; most = few; fair = most }) (enough k n)) sizes s
+        (λ k n qi pi some few. page-is k n (w k n) (ask k n) (w′ k n) (x k n) (record { q-in = qi; p-in = pi; some = some; most = few; fair = most }) forms (enough k n)) sizes s
 
     -- "The list runs by q id, then p id": each pair stands strictly after the one before it, [R4, J2, D2]
     pub list-ascends : ascends start List-of ≡ true
@@ -314,13 +329,13 @@ module _ (P Q : List ℤ) (p-opens : WellFormed P) (q-opens : WellFormed Q) wher
     pub list-once : (k h : ℕ) → k < h → h < length List-of → keyOf (getD List-of k none) ≡ keyOf (getD List-of h none) → ⊥
     list-once = for-once a (pointsOf P) (pointsOf Q) rise-p rise-q
 
-    -- It holds no pair but those that the rule of the terms makes of two records, each with the squared diameter of their places. [R3, D2]
-    pub list-only : (v : Pair) → List·Memᴰ v List-of → Placed (listedFor a (pointsOf P) (pointsOf Q)) (pairAt (pointsOf P) (pointsOf Q)) (length (pointsOf P)) (length (pointsOf Q)) v
+    -- It holds no pair but those that the rule of the terms makes of two records, each with the size of their places. [R3, D2]
+    pub list-only : (v : Pair) → List·Memᴰ v List-of → Placed (listedFor a (pointsOf P) (pointsOf Q)) (pairBy (profileFor a) (pointsOf P) (pointsOf Q)) (length (pointsOf P)) (length (pointsOf Q)) v
     list-only = for-only a (pointsOf P) (pointsOf Q) rise-p rise-q
 
   -- "0 for the full list" [T5]
-  pub full-list : listFor full (pointsOf P) (pointsOf Q) ≡ ringList (pointsOf P) (pointsOf Q)
-  full-list = of-terms.full-ring-list (pointsOf P) (pointsOf Q)
+  pub full-list : (g : Bool) → listFor (withBy g 0) (pointsOf P) (pointsOf Q) ≡ ringListBy (profileOf g) (pointsOf P) (pointsOf Q)
+  full-list g = of-terms.full-ring-list g (pointsOf P) (pointsOf Q)
 
   -- ---- which chambers have at least t partners
 
@@ -332,17 +347,19 @@ module _ (P Q : List ℤ) (p-opens : WellFormed P) (q-opens : WellFormed Q) wher
   listed-size : (v : Pair) → List·Memᴰ v (ringList (pointsOf P) (pointsOf Q))
       → (j i : ℕ) → j < points Q → i < points P → idAt (pointsOf Q) j ≡ v .q → idAt (pointsOf P) i ≡ v .p → v .size ≡ sizeOf (spotOf Q j) (spotOf P i)
   listed-size v m j i j-in i-in e f =
-      ring-size (pointsOf P) (pointsOf Q) rise-p rise-q v m j i (omega (arith, length-points Q)) (omega (arith, length-points P)) e f
+      ring-size circle (pointsOf P) (pointsOf Q) rise-p rise-q v m j i (omega (arith, length-points Q)) (omega (arith, length-points P)) e f
       ∙ ap₂ sizeOf (spot-of Q j j-in) (spot-of P i i-in)
 
-  -- A pair stands in the list of t exactly if it stands in the full list and its chamber has at least t pairs there. [T3]
-  pub threshold-exact : (t : ℕ) (v : Pair) → List·Memᴰ v (listFor (withT t) (pointsOf P) (pointsOf Q)) ↔ (List·Memᴰ v (ringList (pointsOf P) (pointsOf Q)) × (t ≤ length (pairsWith (v .q))))
-  threshold-exact t v = threshold-iff (pointsOf P) (pointsOf Q) rise-p rise-q t v
+  -- A pair stands in the list of t exactly if it stands in the full list of its profile and its chamber has at least t pairs there. [T3]
+  pub threshold-exact : (g : Bool) (t : ℕ) (v : Pair) → List·Memᴰ v (listFor (withBy g t) (pointsOf P) (pointsOf Q))
+      ↔ (List·Memᴰ v (ringListBy (profileOf g) (pointsOf P) (pointsOf Q)) × (t ≤ length (chamberPairs (v .q) (ringListBy (profileOf g) (pointsOf P) (pointsOf Q)))))
+  threshold-exact g t v = threshold-iff (pointsOf P) (pointsOf Q) rise-p rise-q g t v
 
   -- "list all such chambers by id with all their pairs": of a chamber that has at least t pairs the list of t has them all, of another none. [T3]
-  pub threshold-whole : (t j : ℕ) → j < points Q
-      → chamberPairs (idAt (pointsOf Q) j) (listFor (withT t) (pointsOf P) (pointsOf Q)) ≡ cond (leb t (length (pairsWith (idAt (pointsOf Q) j)))) (pairsWith (idAt (pointsOf Q) j)) []
-  threshold-whole t j j-in = threshold-pairs (pointsOf P) (pointsOf Q) rise-p rise-q t j (omega (arith, length-points Q))
+  pub threshold-whole : (g : Bool) (t j : ℕ) → j < points Q
+      → chamberPairs (idAt (pointsOf Q) j) (listFor (withBy g t) (pointsOf P) (pointsOf Q))
+      ≡ cond (leb t (length (chamberPairs (idAt (pointsOf Q) j) (ringListBy (profileOf g) (pointsOf P) (pointsOf Q))))) (chamberPairs (idAt (pointsOf Q) j) (ringListBy (profileOf g) (pointsOf P) (pointsOf Q))) []
+  threshold-whole g t j j-in = threshold-pairs (pointsOf P) (pointsOf Q) rise-p rise-q g t j (omega (arith, length-points Q))
 
   -- "For one q id and a t, give the smaller of t and the number of its pairs in the list, and a yes exactly when that is t."
   module _ (id t : ℕ) (w : List ℕ) (r : Partnered) (w′ : List ℕ) (a : PartnersAnswers P Q id t w r w′) (j : ℕ) (j-in : j < points Q) (named : idAt (pointsOf Q) j ≡ id) (some : 1 ≤ t) (most : t ≤ lastThreshold) (enough : need P ≤ length w) where
@@ -377,20 +394,20 @@ module _ (P Q : List ℤ) (p-opens : WellFormed P) (q-opens : WellFormed Q) wher
 
   -- ---- the list
 
-  -- "The list holds a pump house and a chamber exactly if the ring rule makes them a pair": [R3, Y3, D2]
-  pub list-exact : (j i : ℕ) → j < points Q → i < points P
-      → List·Memᴰ (pairAt (pointsOf P) (pointsOf Q) j i) (ringList (pointsOf P) (pointsOf Q)) ↔ (ringPair (pointsOf P) (pointsOf Q) j i ≡ true)
-  list-exact j i j-in i-in =
-      ring-iff (pointsOf P) (pointsOf Q) rise-p rise-q j i (omega (arith, length-points Q)) (omega (arith, length-points P))
+  -- "The list holds a pump house and a chamber exactly if the ring rule makes them a pair", of either profile: [R3, Y3, A10, D2]
+  pub list-exact : (g : Bool) (j i : ℕ) → j < points Q → i < points P
+      → List·Memᴰ (pairBy (profileOf g) (pointsOf P) (pointsOf Q) j i) (ringListBy (profileOf g) (pointsOf P) (pointsOf Q)) ↔ (ringPairBy (profileOf g) (pointsOf P) (pointsOf Q) j i ≡ true)
+  list-exact g j i j-in i-in =
+      ring-iff (profileOf g) (pointsOf P) (pointsOf Q) rise-p rise-q j i (omega (arith, length-points Q)) (omega (arith, length-points P))
 
-  -- ---- nobody is left with an empty sheet
+  -- ---- nobody is left with an empty sheet: of the circle. Of the street grid it is not so: `always-visit-wrong` of refuted has two pump houses and a chamber with no visit.
 
   -- "every pump house and chamber at the least distance of all such couples is a ring pair", and so it is listed; [R6]
   pub nearest-listed : (j i : ℕ) → Nearest (pointsOf P) (pointsOf Q) j i
       → (ringPair (pointsOf P) (pointsOf Q) j i ≡ true) × List·Memᴰ (pairAt (pointsOf P) (pointsOf Q) j i) (ringList (pointsOf P) (pointsOf Q))
   nearest-listed j i n =
       let e = of-nearest.nearest-pair (pointsOf P) (pointsOf Q) j i n in
-      (e, list-exact j i (omega (arith, n .q-in, length-points Q)) (omega (arith, n .p-in, length-points P)) .1 e)
+      (e, list-exact false j i (omega (arith, n .q-in, length-points Q)) (omega (arith, n .p-in, length-points P)) .1 e)
 
   -- "so the list is not empty", of two sheets that are not,
   module _ (some-p : 0 < points P) (some-q : 0 < points Q) where
@@ -403,8 +420,8 @@ module _ (P Q : List ℤ) (p-opens : WellFormed P) (q-opens : WellFormed Q) wher
     unfolding pageOf shown
     first-visit size w enough r w′ h a =
         let l = ringList (pointsOf P) (pointsOf Q) in
-        let all : after start l ≡ l = after-all start l (ring-ascends (pointsOf P) (pointsOf Q) (of-join.points-rise (facts P p-opens)) (of-join.points-rise (facts Q q-opens))) in
-        let e : r .page .count ≡ length (take size l) = ap (λ (g : Page). g .count) (page-pairs full start size w r w′ a h enough .1 ∙ ap (λ (x : List Pair). pageOf (sourceOf P Q full) x start size) full-list) ∙ ap (λ (x : List Pair). length (take size x)) all in
+        let all : after start l ≡ l = after-all start l (ring-ascends circle (pointsOf P) (pointsOf Q) (of-join.points-rise (facts P p-opens)) (of-join.points-rise (facts Q q-opens))) in
+        let e : r .page .count ≡ length (take size l) = ap (λ (g : Page). g .count) (page-pairs full start size w r w′ a h (of-page.circle-any-form P Q) enough .1 ∙ ap (λ (x : List Pair). pageOf (sourceOf P Q full) x start size) (full-list false)) ∙ ap (λ (x : List Pair). length (take size x)) all in
         omega (arith, e, length-take size l, never-empty, h .some)
 
   -- ---- one run per leaf
@@ -476,7 +493,7 @@ module _ (P Q : List ℤ) (p-opens : WellFormed P) (q-opens : WellFormed Q) wher
           → List·Memᴰ (pairAt (pointsOf P) (pointsOf Q) (chamberAt Q v k) i) (take (r .count) slots′) ↔ (ringPair (pointsOf P) (pointsOf Q) (chamberAt Q v k) i ≡ true)
       run-exact k i k-in i-in = (
         λ m.
-            list-exact (chamberAt Q v k) i (chamber-in Q (facts Q q-opens) v (o .here) (o .level) k k-in) i-in .0
+            list-exact false (chamberAt Q v k) i (chamber-in Q (facts Q q-opens) v (o .here) (o .level) k k-in) i-in .0
             (of-leaf.run-listed P Q (facts P p-opens) (facts Q q-opens) v (o .here) (o .level) _ (subst (List·Memᴰ (pairAt (pointsOf P) (pointsOf Q) (chamberAt Q v k) i)) stored m)),
         λ e.
             subst (List·Memᴰ (pairAt (pointsOf P) (pointsOf Q) (chamberAt Q v k) i)) (sym stored)
@@ -553,29 +570,29 @@ module _ (P P′ Q Q′ : List ℤ) (p-opens : WellFormed P) (p-opens′ : WellF
   same-list = of-join.join-same-list P P′ Q Q′ same-p same-q a
 
   -- [P12, J6, Y3, D3]
-  pub list-by-points : (key : Key) (size : ℕ) (w v : List ℕ) → need P ≤ length w → need P′ ≤ length v → (r r′ : Paged) (w′ v′ : List ℕ) → InRange key size (a .threshold)
+  pub list-by-points : (key : Key) (size : ℕ) (w v : List ℕ) → need P ≤ length w → need P′ ≤ length v → (r r′ : Paged) (w′ v′ : List ℕ) → InRange key size (a .threshold) → gridNo (a .grid) P Q ≡ 0 → gridNo (a .grid) P′ Q′ ≡ 0
       → TermsAnswers a P Q key size w r w′ → TermsAnswers a P′ Q′ key size v r′ v′
       → (r .page .pairs ≡ r′ .page .pairs) × (r .page .count ≡ r′ .page .count) × (r .page .end ≡ r′ .page .end)
-  list-by-points key size w v enough enough′ r r′ w′ v′ h x y =
-      of-page.given-by-points a P P′ Q Q′ key size same-p same-q r r′ (page-is P Q p-opens q-opens a key size w r w′ x h enough) (page-is P′ Q′ p-opens′ q-opens′ a key size v r′ v′ y h enough′)
+  list-by-points key size w v enough enough′ r r′ w′ v′ h forms forms′ x y =
+      of-page.given-by-points a P P′ Q Q′ key size same-p same-q r r′ (page-is P Q p-opens q-opens a key size w r w′ x h forms enough) (page-is P′ Q′ p-opens′ q-opens′ a key size v r′ v′ y h forms′ enough′)
 
 -- ---- the self join of one sheet
 
 -- "pairs of two different records of one sheet, lower id first, in order of lower then higher id, blocked by the other records of that sheet under request 3's rule". Its
 -- pages, their counts, and following them: `page-pairs`, `page-opened`, `pages-list` of the terms `alone`, of the sheet in both places.
-module _ (S : List ℤ) (opens : WellFormed S) where
+module _ (S : List ℤ) (opens : WellFormed S) (g : Bool) where
   -- Two records, of which the first has the lower id, are listed exactly if no other record of the sheet blocks their pair. [J1, J3, J6]
   pub own-exact : (j i : ℕ) → j < length (pointsOf S) → i < length (pointsOf S) → idAt (pointsOf S) j < idAt (pointsOf S) i
-      → List·Memᴰ (pairAt (pointsOf S) (pointsOf S) j i) (listFor alone (pointsOf S) (pointsOf S))
-      ↔ ((k : ℕ) → k < length (pointsOf S) → (k ≡ j → ⊥) → (k ≡ i → ⊥) → blocks (spotAt (pointsOf S) j) (spotAt (pointsOf S) i) (spotAt (pointsOf S) k) ≡ false)
-  own-exact = of-terms.self-exact (pointsOf S) (of-join.points-rise (facts S opens))
+      → List·Memᴰ (pairBy (profileOf g) (pointsOf S) (pointsOf S) j i) (listFor (aloneBy g) (pointsOf S) (pointsOf S))
+      ↔ ((k : ℕ) → k < length (pointsOf S) → (k ≡ j → ⊥) → (k ≡ i → ⊥) → profileOf g .blocks (spotAt (pointsOf S) j) (spotAt (pointsOf S) i) (spotAt (pointsOf S) k) ≡ false)
+  own-exact = of-terms.self-exact g (pointsOf S) (of-join.points-rise (facts S opens))
 
   -- A listed pair has the lower id first: a record is never listed with itself, nor two records both ways. [J1, J6]
-  pub own-low : (v : Pair) → List·Memᴰ v (listFor alone (pointsOf S) (pointsOf S)) → v .q < v .p
-  own-low = of-terms.self-low (pointsOf S) (of-join.points-rise (facts S opens))
+  pub own-low : (v : Pair) → List·Memᴰ v (listFor (aloneBy g) (pointsOf S) (pointsOf S)) → v .q < v .p
+  own-low = of-terms.self-low g (pointsOf S) (of-join.points-rise (facts S opens))
 
   -- The self join's page request answers as that of its terms. [J4, J6]
-  pub own-answers : (key : Key) (size : ℕ) (w : List ℕ) (r : Paged) (w′ : List ℕ) → OwnAnswers S key size w r w′ → TermsAnswers alone S S key size w r w′
+  pub own-answers : (key : Key) (size : ℕ) (w : List ℕ) (r : Paged) (w′ : List ℕ) → OwnAnswers S key size g w r w′ → TermsAnswers (aloneBy g) S S key size w r w′
   own-answers key size w r w′ x = (refl, refl, x)
 
 -- ---- the return trip

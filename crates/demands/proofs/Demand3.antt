@@ -7,14 +7,17 @@
 -- each t's list", and of a self join "the three demands hold for it".
 --
 --     held-prefix     it holds the first so many pairs of its list
---     held-size       each with the squared diameter of the places of its two records
+--     held-size       each with the size of the places of its two records, by its profile
 --     own-kind        no page of a self join enters a two-sheet book, nor one of two sheets a self join's: 22
+--     own-profile     nor one of the other profile: 30
 --     closed-all      it is closed only when it holds all
 --     progress        its own page is given, is taken, and adds a pair or closes it
 --     closes          so a book that goes on asking is closed after at most one request more than pairs are missing
 --     next-is-last    its next key is its last pair
 --     can-ask, can-close    where there is a sheet of each of its editions, a book can ask, and so be closed
 -- Assumes nothing. [O6]
+use Rattle.ring.proofs.PageLaws.{forms-reach}
+use Rattle.ring.specs.Numbers.{gridNo}
 use mathlib.Core.Path.{_≡_, refl, sym, ap, ap₂, subst, _∙_}
 use mathlib.Core.Bool.{Bool, true, false, cond}
 use mathlib.Core.Logic.{_⊎_, ⊎-elim}
@@ -35,11 +38,11 @@ use Rattle.list.specs.declared.Pair.{Pair}
 use Rattle.list.specs.declared.Source.{Source}
 use Rattle.list.specs.declared.Page.{Page}
 use Rattle.list.specs.Pairs.{start, lastOr}
-use Rattle.list.specs.Pages.{sameKind, shown, pageOf}
+use Rattle.list.specs.Pages.{sameKind, shown, pageOf, sameProfile}
 use Rattle.list.specs.declared.Terms.{Terms}
-use Rattle.list.specs.RingList.{sizeOf}
+use Rattle.list.specs.RingList.{Reached as InReachOf}
 use Rattle.list.specs.Rows.{Rising}
-use Rattle.list.specs.Terms.{requestOf, listFor}
+use Rattle.list.specs.Terms.{requestOf, listFor, profileFor}
 use Rattle.list.proofs.Order.{last-holds}
 use Rattle.list.proofs.PageLaws.{shown-count, length-padded}
 use Rattle.list.proofs.TermsLaws.{for-size, for-keys}
@@ -54,7 +57,7 @@ use Rattle.book.specs.declared.Asked.{Asked}
 use Rattle.book.specs.declared.Taken.{Taken}
 use Rattle.book.specs.Rules.{lastKey, asked, takeNo, taken, takenSlots}
 use Rattle.book.specs.World as of-world
-use Rattle.book.specs.World.{World, Honest, Reached, listOf, ownPage}
+use Rattle.book.specs.World.{World, Honest, Reached, listOf, ownPage, InReach}
 use Rattle.book.proofs.Story as of-story
 use Rattle.book.proofs.SliceLaws as of-slice
 use Rattle.book.proofs.TakeLaws as of-take
@@ -131,7 +134,7 @@ module _ (w : Editions) where
       (subst (λ (x : List Pair). Reached worldOf (taken b slots g .book) x) (sym (t .1)) (of-world.took g (reached h) (honest g a)))
   reached (lent other h e f) = of-world.lent other (reached h) e f
 
-  -- "Then a book begun empty always holds exactly the first so many pairs of its list" [K9, Z2, T6, J6, D4, D9]
+  -- "Then a book begun empty always holds exactly the first so many pairs of its list" [K9, Z2, T6, J6, A10, D4, D9]
   pub held-prefix : {b : Book} {s : List Pair} → History w b s
       → (b .held ≤ length s) × (b .held ≤ length (bookList w b)) × (take (b .held) s ≡ take (b .held) (bookList w b))
   held-prefix h = of-story.book-held-prefix worldOf (reached h)
@@ -157,15 +160,15 @@ module _ (w : Editions) where
       let l = bookList w b in
       subst (List·Memᴰ v) (take-append-drop (b .held) l) (Memᴰ·append-left (drop (b .held) l) (subst (List·Memᴰ v) (held-prefix h .2) m))
 
-  -- "What a book holds is still the first so many of the list, sizes included": of each pair that it holds, the size is the squared diameter of the places of its two records
+  -- "What a book holds is still the first so many of the list, sizes included": of each pair that it holds, the size is that of the places of its two records by its profile
   -- [Z1, Z2]
   pub held-size : {b : Book} {s : List Pair} → History w b s → (v : Pair) → List·Memᴰ v (take (b .held) s)
       → (j i : ℕ) → j < length (chambersOf w (b .source)) → i < length (pumpsOf w (b .source))
       → idAt (chambersOf w (b .source)) j ≡ v .q → idAt (pumpsOf w (b .source)) i ≡ v .p
-      → v .size ≡ sizeOf (spotAt (chambersOf w (b .source)) j) (spotAt (pumpsOf w (b .source)) i)
+      → v .size ≡ profileFor (b .source .terms) .size (spotAt (chambersOf w (b .source)) j) (spotAt (pumpsOf w (b .source)) i)
   held-size {b} h v m = for-size (b .source .terms) _ _ (pumps-rise (b .source)) (chambers-rise (b .source)) v (in-list h v m)
 
-  -- "calls itself closed only when it holds all" [K9, T6, J6, D5]
+  -- "calls itself closed only when it holds all" [K9, T6, J6, A10, D5]
   pub closed-all : {b : Book} {s : List Pair} → History w b s → b .closed ≡ true
       → (b .held ≡ length (bookList w b)) × (take (b .held) s ≡ bookList w b)
   closed-all h e = of-story.book-closed-all worldOf (reached h) e
@@ -204,7 +207,7 @@ module _ (w : Editions) where
     given : (o .r .number ≡ 0) × (o .r .page ≡ pageOf (b .source) (listOf worldOf (b .source)) (o .key) (o .size))
     given =
         let q = o .request in
-        let fine = demand2.page-served (q .P) (q .Q) (p-opens (b .source .terms) (q .P) (q .Q) (q .sheets)) (q-opens (b .source .terms) (q .P) (q .Q) (q .sheets)) (b .source .terms) (o .key) (o .size) (q .bits) (o .r) (q .bits′) (q .answers) in-range (q .enough) in
+        let fine = demand2.page-served (q .P) (q .Q) (p-opens (b .source .terms) (q .P) (q .Q) (q .sheets)) (q-opens (b .source .terms) (q .P) (q .Q) (q .sheets)) (b .source .terms) (o .key) (o .size) (q .bits) (o .r) (q .bits′) (q .answers) in-range (q .forms) (q .enough) in
         (fine, page-of (b .source .terms) (q .P) (q .Q) (q .sheets) (o .key) (o .size) (q .bits) (o .r) (q .bits′) (q .answers) fine .2 ∙ ap (λ (x : Source). pageOf x (listOf worldOf x) (o .key) (o .size)) (q .of-book))
 
     -- so it is a page that was answered
@@ -221,12 +224,25 @@ module _ (w : Editions) where
         ap (λ (x : Page). length (x .pairs)) own-is
         ∙ (unfold pageOf in length-padded (shown (bookList w b) (lastKey (b .held) s) (o .size)) (omega (arith, o .most, shown-count (bookList w b) (lastKey (b .held) s) (o .size))))
 
+    -- the points of its list stand in reach of its profile, since the sheets that were asked are of the forms that it takes
+    near : InReach worldOf (b .source)
+    unfolding sourceOf
+    near =
+        let q = o .request in
+        let a = b .source .terms in
+        let z = forms-reach (a .grid) (q .P) (q .Q) (p-opens a (q .P) (q .Q) (q .sheets)) (q-opens a (q .P) (q .Q) (q .sheets)) (q .forms) in
+        subst (InReach worldOf) (q .of-book)
+        (record {
+          pumps-in = subst (InReachOf (profileFor a)) (sym (p-points a (q .P) (q .Q) (q .sheets) (o .key) (o .size) (q .bits) (o .r) (q .bits′) (q .answers))) (z .0);
+          chambers-in = subst (InReachOf (profileFor a)) (sym (q-points a (q .P) (q .Q) (q .sheets))) (z .1);
+        })
+
     -- "and while it is open with room for all, each page that answers its own next request adds a pair or closes it": the page request serves it, and the book takes it.
-    -- [K9, T6, J6, D6]
+    -- [K9, T6, J6, A10, D6]
     pub progress : b .closed ≡ false → length (bookList w b) ≤ length s → (r : Taken) (s′ : List Pair) → TakeAnswers b s g r s′
         → (o .r .number ≡ 0) × (r .number ≡ 0) × ((b .held < r .book .held) ⊎ (r .book .closed ≡ true))
     progress still room r s′ t =
-        let z = of-story.book-progress worldOf (reached h) still room (o .size) (o .some) (o .most) in
+        let z = of-story.book-progress worldOf (reached h) near still room (o .size) (o .some) (o .most) in
         let e : r ≡ taken b s (ownPage worldOf b s (o .size)) = t .0 ∙ ap (taken b s) own-is in
         (given .0, ap (λ (x : Taken). x .number) e ∙ of-take.book-take-no b s (ownPage worldOf b s (o .size)) ∙ z .0, subst (λ (x : Taken). (b .held < x .book .held) ⊎ (x .book .closed ≡ true)) (sym e) (z .1))
 
@@ -288,10 +304,10 @@ module _ (w : Editions) where
   somewhere : Place
   somewhere = record { address = (0, 0); name = 0 }
 
-  serves : (of : Source) (size : ℕ) (P Q : List ℤ) → Sheets w (of .terms) P Q → (of .terms .own ≡ true → (P ≡ Q) × (of .terms .threshold ≡ 0)) → sourceOf P Q (of .terms) ≡ of → (key : Key) → (r : Paged) × Asks w of key size r
-  serves of size P Q sheets alike e key =
+  serves : (of : Source) (size : ℕ) (P Q : List ℤ) → Sheets w (of .terms) P Q → gridNo (of .terms .grid) P Q ≡ 0 → (of .terms .own ≡ true → (P ≡ Q) × (of .terms .threshold ≡ 0)) → sourceOf P Q (of .terms) ≡ of → (key : Key) → (r : Paged) × Asks w of key size r
+  serves of size P Q sheets forms alike e key =
       let x = go (of .terms .own) alike in
-      (x .0, record { P = P; Q = Q; sheets = sheets; of-book = e; bits = lent-words; enough = omega (arith, length-replicate {A = ℕ} (need P) 0); bits′ = x .1; answers = x .2 })
+      (x .0, record { P = P; Q = Q; sheets = sheets; of-book = e; forms = forms; bits = lent-words; enough = omega (arith, length-replicate {A = ℕ} (need P) 0); bits′ = x .1; answers = x .2 })
     where
       lent-words : List ℕ
       lent-words = replicate (need P) 0
@@ -300,18 +316,18 @@ module _ (w : Editions) where
       go false f =
           let ask = requestOf (of .terms) key size in
           (pageAnswer P Q ask (length lent-words), pageBits P Q ask lent-words, record { κs = ([], ([], ([], tt))); p-at = somewhere; q-at = somewhere; b-at = somewhere; promised = (refl, refl) })
-      go true f = (ownAnswer P key size (length lent-words), ownBits P key size lent-words, (f refl .0, f refl .1, record { κs = ([], ([], tt)); w-at = somewhere; b-at = somewhere; promised = (refl, refl) }))
+      go true f = (ownAnswer P key size (of .terms .grid) (length lent-words), ownBits P key size (of .terms .grid) lent-words, (f refl .0, f refl .1, record { κs = ([], ([], tt)); w-at = somewhere; b-at = somewhere; promised = (refl, refl) }))
 
-  pub can-ask : (k : ℕ) {b : Book} {s : List Pair} → History w b s → (P Q : List ℤ) → Sheets w (b .source .terms) P Q → (b .source .terms .own ≡ true → P ≡ Q) → sourceOf P Q (b .source .terms) ≡ b .source
+  pub can-ask : (k : ℕ) {b : Book} {s : List Pair} → History w b s → (P Q : List ℤ) → Sheets w (b .source .terms) P Q → gridNo (b .source .terms .grid) P Q ≡ 0 → (b .source .terms .own ≡ true → P ≡ Q) → sourceOf P Q (b .source .terms) ≡ b .source
       → (size : ℕ) → 1 ≤ size → size ≤ 16 → (b′ : Book) × (s′ : List Pair) × Asking w k b s b′ s′
-  can-ask k {b} h P Q sheets alike e size some most =
-      ask-on k h size some most (b .source) refl (serves (b .source) size P Q sheets (λ o. (alike o, of-story.begun-fair worldOf (reached h) .no-t o)) e)
+  can-ask k {b} h P Q sheets forms alike e size some most =
+      ask-on k h size some most (b .source) refl (serves (b .source) size P Q sheets forms (λ o. (alike o, of-story.begun-fair worldOf (reached h) .no-t o)) e)
 
   -- [J6, D6]
-  pub can-close : {b : Book} {s : List Pair} → History w b s → length (bookList w b) ≤ length s → (P Q : List ℤ) → Sheets w (b .source .terms) P Q → (b .source .terms .own ≡ true → P ≡ Q) → sourceOf P Q (b .source .terms) ≡ b .source
+  pub can-close : {b : Book} {s : List Pair} → History w b s → length (bookList w b) ≤ length s → (P Q : List ℤ) → Sheets w (b .source .terms) P Q → gridNo (b .source .terms .grid) P Q ≡ 0 → (b .source .terms .own ≡ true → P ≡ Q) → sourceOf P Q (b .source .terms) ≡ b .source
       → (b′ : Book) × (s′ : List Pair) × Asking w (suc (length (bookList w b))) b s b′ s′ × (b′ .closed ≡ true)
-  can-close {b} h room P Q sheets alike e =
-      let m = can-ask (suc (length (bookList w b))) h P Q sheets alike e 16 (omega arith) (omega arith) in
+  can-close {b} h room P Q sheets forms alike e =
+      let m = can-ask (suc (length (bookList w b))) h P Q sheets forms alike e 16 (omega arith) (omega arith) in
       (m .0, m .1, m .2, closes h room (omega arith) (m .2))
 
 -- "Pages and books now say their kind, so that no self join's page enters a two-sheet book": where the kinds differ, an open book that its slots can hold refuses a page by 22.
@@ -319,5 +335,12 @@ module _ (w : Editions) where
 pub own-kind : (b : Book) (s : List Pair) (g : Page) → b .held ≤ length s → b .closed ≡ false → sameKind (b .source) (g .source) ≡ false → (r : Taken) (s′ : List Pair) → TakeAnswers b s g r s′ → (r .number ≡ 22) × (r .book ≡ b) × (s′ ≡ s)
 own-kind b s g room still other r s′ t =
     let no : takeNo b s g ≡ 22 = of-take.kind-no b s g room still other in
+    let some : takeNo b s g ≡ 0 → ⊥ = λ z. omega arith in
+    (ap (λ (x : Taken). x .number) (t .0) ∙ of-take.book-take-no b s g ∙ no, ap (λ (x : Taken). x .book) (t .0) ∙ of-take.refused-book b s g some, t .1 ∙ of-take.refused-slots b s g some)
+
+-- "Pages and books carry the profile": an open book that its slots can hold refuses a page of its kind and of the other profile by 30. [A14]
+pub own-profile : (b : Book) (s : List Pair) (g : Page) → b .held ≤ length s → b .closed ≡ false → sameKind (b .source) (g .source) ≡ true → sameProfile (b .source) (g .source) ≡ false → (r : Taken) (s′ : List Pair) → TakeAnswers b s g r s′ → (r .number ≡ 30) × (r .book ≡ b) × (s′ ≡ s)
+own-profile b s g room still kind other r s′ t =
+    let no : takeNo b s g ≡ 30 = of-take.profile-no b s g room still kind other in
     let some : takeNo b s g ≡ 0 → ⊥ = λ z. omega arith in
     (ap (λ (x : Taken). x .number) (t .0) ∙ of-take.book-take-no b s g ∙ no, ap (λ (x : Taken). x .book) (t .0) ∙ of-take.refused-book b s g some, t .1 ∙ of-take.refused-slots b s g some)

@@ -9,8 +9,11 @@
 --     near-filter-pairs  a pump house is a ring partner of the chamber exactly if the lent words keep it and its ring walk is clear: these pairs are the list's
 --     near-opened        it opens at most the nodes of P
 -- Assumes nothing.
+use Rattle.ring.proofs.PageLaws.{circle-any-form}
+use Rattle.plane.proofs.ProfileLaws.{circle-lawful}
+use Rattle.plane.specs.Profile.{circle}
 use mathlib.Core.Path.{_≡_, refl, sym, ap, subst, _∙_}
-use mathlib.Core.Bool.{Bool, _&&_}
+use mathlib.Core.Bool.{Bool, _&&_, false}
 use mathlib.Core.List.{List}
 use Prim.Native.Nat.{ℕ, min, _+_, _-_, _≤_, _<_}
 use native.Mathlib.Omega.{arith}
@@ -121,10 +124,10 @@ module _ (P Q : List ℤ) (p-opens : WellFormed P) (q-opens : WellFormed Q) (id 
 -- "Pairs made with its kept set equal the list", as lists: of the filter that goes nearest first, asked for each chamber j with words `w j`, and the ring walk. [G5]
 pub near-filter-list : (P Q : List ℤ) (p-opens : WellFormed P) (q-opens : WellFormed Q) (ws : List ℕ) → points P + nodes P ≤ length ws → (w : ℕ → List ℕ) → ((j : ℕ) → need P ≤ length (w j))
     → (f : ℕ → Filtered) (t w′ : ℕ → List ℕ) (r : ℕ → ℕ → Walked)
-    → ((j : ℕ) → j < points Q → NearFilterAnswers P Q (idAt (pointsOf Q) j) ws (w j) (f j) (t j) (w′ j)) → ((j i : ℕ) → j < points Q → i < points P → RingAnswers P Q j i (r j i))
+    → ((j : ℕ) → j < points Q → NearFilterAnswers P Q (idAt (pointsOf Q) j) ws (w j) (f j) (t j) (w′ j)) → ((j i : ℕ) → j < points Q → i < points P → RingAnswers P Q j i false (r j i))
     → listBy (λ j i. kept (w′ j) i && walkedClear (r j i)) (pairAt (pointsOf P) (pointsOf Q)) (points P) (points Q) ≡ ringList (pointsOf P) (pointsOf Q)
 near-filter-list P Q p-opens q-opens ws enough w words f t w′ r a b =
     made-list P Q p-opens q-opens (λ j i. kept (w′ j) i) (λ j i. walkedClear (r j i))
     (λ j i h g.
     near-filter-pairs P Q p-opens q-opens (idAt (pointsOf Q) j) j h refl ws enough (w j) (words j) (f j) (t j) (w′ j) (a j h) i g
-    ∙ ap (λ (c : Bool). kept (w′ j) i && c) (of-walk.pair-clear P Q (sheet-facts P p-opens) (sheet-facts Q q-opens) j i h g ∙ sym (clear-iff P Q p-opens q-opens j h i g (r j i) (b j i h g))))
+    ∙ ap (λ (c : Bool). kept (w′ j) i && c) (of-walk.pair-clear circle circle-lawful P Q (sheet-facts P p-opens) (sheet-facts Q q-opens) j i h g ∙ sym (clear-iff P Q p-opens q-opens j h i g false (circle-any-form P Q) (r j i) (b j i h g))))

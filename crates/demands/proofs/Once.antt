@@ -3,6 +3,7 @@
 -- One exception, decision 32: of a view that `open` makes it says all that there is to see, the number, the words covered and where they stand, the counts; the name
 -- that the logic gives to the borrow itself is not settled.
 -- Assumes nothing. [D7, D8]
+use mathlib.Core.Bool.{Bool}
 use mathlib.Core.Path.{_≡_, refl, sym, _∙_}
 use mathlib.Core.List.{List}
 use Prim.Native.Nat.{ℕ}
@@ -57,8 +58,8 @@ head-once w r r′ a b = of-ring.ring-head-once w r r′ (a .promised) (b .promi
 pub point-once : (w : List ℤ) (i : ℕ) (r r′ : Pointed) → PointAnswers w i r → PointAnswers w i r′ → r ≡ r′
 point-once w i r r′ a b = of-ring.ring-point-once w i r r′ (a .promised) (b .promised)
 
-pub ring-once : (P Q : List ℤ) (j i : ℕ) (r r′ : Walked) → RingAnswers P Q j i r → RingAnswers P Q j i r′ → r ≡ r′
-ring-once P Q j i r r′ a b = of-ring.ring-walk-once P Q j i r r′ (a .promised) (b .promised)
+pub ring-once : (P Q : List ℤ) (j i : ℕ) (g : Bool) (r r′ : Walked) → RingAnswers P Q j i g r → RingAnswers P Q j i g r′ → r ≡ r′
+ring-once P Q j i g r r′ a b = of-ring.ring-walk-once P Q j i g r r′ (a .promised) (b .promised)
 
 -- those that are lent words: one answer, and one final state of the words
 
@@ -68,8 +69,8 @@ filter-once P Q j w r r′ t t′ a b = (of-ring.ring-filter-once P Q j (length 
 pub page-once : (P Q : List ℤ) (ask : Request) (w : List ℕ) (r r′ : Paged) (t t′ : List ℕ) → PageAnswers P Q ask w r t → PageAnswers P Q ask w r′ t′ → (r ≡ r′) × (t ≡ t′)
 page-once P Q ask w r r′ t t′ a b = (of-page.ring-page-once P Q ask (length w) r r′ (a .promised .0) (b .promised .0), a .promised .1 ∙ sym (b .promised .1))
 
-pub own-once : (S : List ℤ) (key : Key) (size : ℕ) (w : List ℕ) (r r′ : Paged) (t t′ : List ℕ) → OwnAnswers S key size w r t → OwnAnswers S key size w r′ t′ → (r ≡ r′) × (t ≡ t′)
-own-once S key size w r r′ t t′ a b = (of-own.ring-own-once S key size (length w) r r′ (a .promised .0) (b .promised .0), a .promised .1 ∙ sym (b .promised .1))
+pub own-once : (S : List ℤ) (key : Key) (size : ℕ) (g : Bool) (w : List ℕ) (r r′ : Paged) (t t′ : List ℕ) → OwnAnswers S key size g w r t → OwnAnswers S key size g w r′ t′ → (r ≡ r′) × (t ≡ t′)
+own-once S key size g w r r′ t t′ a b = (of-own.ring-own-once S key size g (length w) r r′ (a .promised .0) (b .promised .0), a .promised .1 ∙ sym (b .promised .1))
 
 pub partners-once : (P Q : List ℤ) (id t : ℕ) (w : List ℕ) (r r′ : Partnered) (u u′ : List ℕ) → PartnersAnswers P Q id t w r u → PartnersAnswers P Q id t w r′ u′ → (r ≡ r′) × (u ≡ u′)
 partners-once P Q id t w r r′ u u′ a b = (of-partners.ring-partners-once P Q id t (length w) r r′ (a .promised .0) (b .promised .0), a .promised .1 ∙ sym (b .promised .1))
@@ -135,14 +136,14 @@ view-point-once d i r r′ x y = of-view.point-through-once d d i r r′ refl x 
 pub view-filter-once : (p q : Sheet) (j : ℕ) (w : List ℕ) (r r′ : Filtered) (t t′ : List ℕ) → ViewFilters p q j w r t → ViewFilters p q j w r′ t′ → (r ≡ r′) × (t ≡ t′)
 view-filter-once p q j w r r′ t t′ x y = of-view.filter-through-once p p q q j w r r′ t t′ refl refl x y
 
-pub view-ring-once : (p q : Sheet) (j i : ℕ) (r r′ : Walked) → ViewRings p q j i r → ViewRings p q j i r′ → r ≡ r′
-view-ring-once p q j i r r′ x y = of-view.ring-through-once p p q q j i r r′ refl refl x y
+pub view-ring-once : (p q : Sheet) (j i : ℕ) (g : Bool) (r r′ : Walked) → ViewRings p q j i g r → ViewRings p q j i g r′ → r ≡ r′
+view-ring-once p q j i g r r′ x y = of-view.ring-through-once p p q q j i g r r′ refl refl x y
 
 pub view-page-once : (p q : Sheet) (ask : Request) (w : List ℕ) (r r′ : Paged) (t t′ : List ℕ) → ViewPages p q ask w r t → ViewPages p q ask w r′ t′ → (r ≡ r′) × (t ≡ t′)
 view-page-once p q ask w r r′ t t′ x y = of-view.page-through-once p p q q ask w r r′ t t′ refl refl x y
 
-pub view-own-once : (d : Sheet) (key : Key) (size : ℕ) (w : List ℕ) (r r′ : Paged) (t t′ : List ℕ) → ViewOwnPages d key size w r t → ViewOwnPages d key size w r′ t′ → (r ≡ r′) × (t ≡ t′)
-view-own-once d key size w r r′ t t′ x y = of-view.own-through-once d d key size w r r′ t t′ refl x y
+pub view-own-once : (d : Sheet) (key : Key) (size : ℕ) (g : Bool) (w : List ℕ) (r r′ : Paged) (t t′ : List ℕ) → ViewOwnPages d key size g w r t → ViewOwnPages d key size g w r′ t′ → (r ≡ r′) × (t ≡ t′)
+view-own-once d key size g w r r′ t t′ x y = of-view.own-through-once d d key size g w r r′ t t′ refl x y
 
 pub view-partners-once : (p q : Sheet) (id t : ℕ) (w : List ℕ) (r r′ : Partnered) (u u′ : List ℕ) → ViewPartners p q id t w r u → ViewPartners p q id t w r′ u′ → (r ≡ r′) × (u ≡ u′)
 view-partners-once p q id t w r r′ u u′ x y = of-view.partners-through-once p p q q id t w r r′ u u′ refl refl x y

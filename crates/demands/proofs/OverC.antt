@@ -1,6 +1,7 @@
 -- The calls over C. What crosses is the answer of the call that it stands for, as a struct of numbers, so every theorem of Demand1, Demand2 and Demand3 speaks of it too: `.._over` below says of
 -- which answer. Of each: every input is taken, the number is the defined one, and one input has one answer and one final state of what was lent.
 -- Assumes nothing. [C1, D1, D7, D8]
+use mathlib.Core.Bool.{Bool}
 use mathlib.Core.Path.{_≡_, refl, sym, ap, _∙_}
 use mathlib.Core.List.{List}
 use Prim.Native.Nat.{ℕ, zero, suc}
@@ -171,8 +172,8 @@ pack-over form n points order ed out r out′ a = record { κs = a .κs; p-at = 
 pub filter-over : (P Q : List ℤ) (j : ℕ) (w : List ℕ) (r : Filtered) (w′ : List ℕ) → FilterC P Q j w r w′ → FilterAnswers P Q j w r w′
 filter-over P Q j w r w′ a = record { κs = a .κs; p-at = a .p-at; q-at = a .q-at; b-at = a .b-at; promised = a .promised }
 
-pub own-over : (S : List ℤ) (key : Key) (size : ℕ) (w : List ℕ) (r : Paged) (w′ : List ℕ) → OwnC S key size w r w′ → OwnAnswers S key size w r w′
-own-over S key size w r w′ a = record { κs = a .κs; w-at = a .w-at; b-at = a .b-at; promised = a .promised }
+pub own-over : (S : List ℤ) (key : Key) (size : ℕ) (g : Bool) (w : List ℕ) (r : Paged) (w′ : List ℕ) → OwnC S key size g w r w′ → OwnAnswers S key size g w r w′
+own-over S key size g w r w′ a = record { κs = a .κs; w-at = a .w-at; b-at = a .b-at; promised = a .promised }
 
 pub partners-over : (P Q : List ℤ) (id t : ℕ) (w : List ℕ) (r : Partnered) (w′ : List ℕ) → PartnersC P Q id t w r w′ → PartnersAnswers P Q id t w r w′
 partners-over P Q id t w r w′ a = record { κs = a .κs; p-at = a .p-at; q-at = a .q-at; b-at = a .b-at; promised = a .promised }
@@ -192,8 +193,8 @@ near-filter-over P Q id ws w r t w′ a = record { κs = a .κs; p-at = a .p-at;
 pub point-over : (w : List ℤ) (i : ℕ) (c : PointAnswer) (r : Pointed) → PointC w i c → PointAnswers w i r → c ≡ pointOver r
 point-over w i c r a b = a .promised ∙ ap pointOver (sym (b .promised))
 
-pub walk-over : (P Q : List ℤ) (j i : ℕ) (c : WalkAnswer) (r : Walked) → WalkC P Q j i c → RingAnswers P Q j i r → c ≡ walkOver r
-walk-over P Q j i c r a b = a .promised ∙ ap walkOver (sym (b .promised))
+pub walk-over : (P Q : List ℤ) (j i : ℕ) (g : Bool) (c : WalkAnswer) (r : Walked) → WalkC P Q j i g c → RingAnswers P Q j i g r → c ≡ walkOver r
+walk-over P Q j i g c r a b = a .promised ∙ ap walkOver (sym (b .promised))
 
 pub begin-over : (s : Source) (c : BookAnswer) (r : Begun) → BeginC s c → BeginAnswers s r → c ≡ bookOver r
 begin-over s c r a b = a .promised ∙ ap bookOver (sym (b .promised))
@@ -249,8 +250,8 @@ pub point-c-no : (w : List ℤ) (i : ℕ) (c : PointAnswer) → PointC w i c →
 point-c-no w i c a = ap (λ (x : PointAnswer). x .number) (a .promised) ∙ point-number (pointed w i) ∙ of-ring.ring-point-no w i
 
 -- [C2]
-pub walk-c-no : (P Q : List ℤ) (j i : ℕ) (c : WalkAnswer) → WalkC P Q j i c → c .number ≡ ringNo P Q j i
-walk-c-no P Q j i c a = ap (λ (x : WalkAnswer). x .number) (a .promised) ∙ walk-number (walked P Q j i) ∙ of-ring.ring-walk-no P Q j i
+pub walk-c-no : (P Q : List ℤ) (j i : ℕ) (g : Bool) (c : WalkAnswer) → WalkC P Q j i g c → c .number ≡ ringNo P Q j i g
+walk-c-no P Q j i g c a = ap (λ (x : WalkAnswer). x .number) (a .promised) ∙ walk-number (walked P Q j i g) ∙ of-ring.ring-walk-no P Q j i g
 
 -- [C2]
 pub begin-c-no : (s : Source) (c : BookAnswer) → BeginC s c → c .number ≡ beginNo s
@@ -279,14 +280,14 @@ point-c-once w i r r′ a b = a .promised ∙ sym (b .promised)
 pub filter-c-once : (P Q : List ℤ) (j : ℕ) (w : List ℕ) (r r′ : Filtered) (t t′ : List ℕ) → FilterC P Q j w r t → FilterC P Q j w r′ t′ → (r ≡ r′) × (t ≡ t′)
 filter-c-once P Q j w r r′ t t′ a b = once.filter-once P Q j w r r′ t t′ (filter-over P Q j w r t a) (filter-over P Q j w r′ t′ b)
 
-pub walk-c-once : (P Q : List ℤ) (j i : ℕ) (r r′ : WalkAnswer) → WalkC P Q j i r → WalkC P Q j i r′ → r ≡ r′
-walk-c-once P Q j i r r′ a b = a .promised ∙ sym (b .promised)
+pub walk-c-once : (P Q : List ℤ) (j i : ℕ) (g : Bool) (r r′ : WalkAnswer) → WalkC P Q j i g r → WalkC P Q j i g r′ → r ≡ r′
+walk-c-once P Q j i g r r′ a b = a .promised ∙ sym (b .promised)
 
 pub page-c-once : (P Q : List ℤ) (ask : Request) (w : List ℕ) (r r′ : Paged) (t t′ : List ℕ) → PageC P Q ask w r t → PageC P Q ask w r′ t′ → (r ≡ r′) × (t ≡ t′)
 page-c-once P Q ask w r r′ t t′ a b = once.page-once P Q ask w r r′ t t′ (page-over P Q ask w r t a) (page-over P Q ask w r′ t′ b)
 
-pub own-c-once : (S : List ℤ) (key : Key) (size : ℕ) (w : List ℕ) (r r′ : Paged) (t t′ : List ℕ) → OwnC S key size w r t → OwnC S key size w r′ t′ → (r ≡ r′) × (t ≡ t′)
-own-c-once S key size w r r′ t t′ a b = once.own-once S key size w r r′ t t′ (own-over S key size w r t a) (own-over S key size w r′ t′ b)
+pub own-c-once : (S : List ℤ) (key : Key) (size : ℕ) (g : Bool) (w : List ℕ) (r r′ : Paged) (t t′ : List ℕ) → OwnC S key size g w r t → OwnC S key size g w r′ t′ → (r ≡ r′) × (t ≡ t′)
+own-c-once S key size g w r r′ t t′ a b = once.own-once S key size g w r r′ t t′ (own-over S key size g w r t a) (own-over S key size g w r′ t′ b)
 
 pub partners-c-once : (P Q : List ℤ) (id t : ℕ) (w : List ℕ) (r r′ : Partnered) (u u′ : List ℕ) → PartnersC P Q id t w r u → PartnersC P Q id t w r′ u′ → (r ≡ r′) × (u ≡ u′)
 partners-c-once P Q id t w r r′ u u′ a b = once.partners-once P Q id t w r r′ u u′ (partners-over P Q id t w r u a) (partners-over P Q id t w r′ u′ b)

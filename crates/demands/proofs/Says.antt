@@ -1,6 +1,7 @@
 -- The promises of the calls over slices of records and over views, as specs/Promises states them, are the `ensures` of these calls, word for word: whoever changes
 -- one of these breaks its line here. A promise is a fact: `fact 𝓤 X` says X and nothing of memory.
 -- Assumes nothing.
+use mathlib.Core.Bool.{Bool}
 use mathlib.Core.Path.{_≡_, refl}
 use mathlib.Core.List.{List}
 use Prim.Native.Nat.{ℕ}
@@ -75,20 +76,20 @@ module _ {M : Type 1} (𝓤 : URA M) (H : Heap 𝓤) (A : Atoms 𝓤) (mem : Mem
       ≡ fact 𝓤 (ViewFilters p q j w r w′)
   view-filter-says κs l p q j w r w′ = refl
 
-  pub view-ring-says : (κs : Lfts 2) (p q : Sheet) (j i : ℕ) (r : Walked)
-      → view-ring.ensures-1 𝓤 H κs A mem run p q j i (record { entry = p; exit = p }) (record { entry = q; exit = q }) (record { entry = j; exit = j }) (record { entry = i; exit = i }) r
-      ≡ fact 𝓤 (ViewRings p q j i r)
-  view-ring-says κs p q j i r = refl
+  pub view-ring-says : (κs : Lfts 2) (p q : Sheet) (j i : ℕ) (g : Bool) (r : Walked)
+      → view-ring.ensures-1 𝓤 H κs A mem run p q j i g (record { entry = p; exit = p }) (record { entry = q; exit = q }) (record { entry = j; exit = j }) (record { entry = i; exit = i }) (record { entry = g; exit = g }) r
+      ≡ fact 𝓤 (ViewRings p q j i g r)
+  view-ring-says κs p q j i g r = refl
 
   pub view-page-says : (κs : Lfts 3) (l : Place) (p q : Sheet) (ask : Request) (w : List ℕ) (r : Paged) (w′ : List ℕ)
       → view-page.ensures-1 𝓤 H κs A mem run p q ask (slice l w) (record { entry = p; exit = p }) (record { entry = q; exit = q }) (record { entry = ask; exit = ask }) (record { entry = slice l w; exit = slice l w′ }) r
       ≡ fact 𝓤 (ViewPages p q ask w r w′)
   view-page-says κs l p q ask w r w′ = refl
 
-  pub view-own-page-says : (κs : Lfts 2) (l : Place) (d : Sheet) (key : Key) (size : ℕ) (w : List ℕ) (r : Paged) (w′ : List ℕ)
-      → view-own-page.ensures-1 𝓤 H κs A mem run d key size (slice l w) (record { entry = d; exit = d }) (record { entry = key; exit = key }) (record { entry = size; exit = size }) (record { entry = slice l w; exit = slice l w′ }) r
-      ≡ fact 𝓤 (ViewOwnPages d key size w r w′)
-  view-own-page-says κs l d key size w r w′ = refl
+  pub view-own-page-says : (κs : Lfts 2) (l : Place) (d : Sheet) (key : Key) (size : ℕ) (g : Bool) (w : List ℕ) (r : Paged) (w′ : List ℕ)
+      → view-own-page.ensures-1 𝓤 H κs A mem run d key size g (slice l w) (record { entry = d; exit = d }) (record { entry = key; exit = key }) (record { entry = size; exit = size }) (record { entry = g; exit = g }) (record { entry = slice l w; exit = slice l w′ }) r
+      ≡ fact 𝓤 (ViewOwnPages d key size g w r w′)
+  view-own-page-says κs l d key size g w r w′ = refl
 
   pub view-partners-says : (κs : Lfts 3) (l : Place) (p q : Sheet) (id t : ℕ) (w : List ℕ) (r : Partnered) (w′ : List ℕ)
       → view-partners.ensures-1 𝓤 H κs A mem run p q id t (slice l w) (record { entry = p; exit = p }) (record { entry = q; exit = q }) (record { entry = id; exit = id }) (record { entry = t; exit = t }) (record { entry = slice l w; exit = slice l w′ }) r

@@ -1,8 +1,9 @@
 -- The premises of demand 3 can be had. `Editions`: the empty sheet opens, and may stand for every edition number that was never given out. And a history that is not empty: with
 -- the document's two sheets, of editions 7 and 9, a book begun for them asks, takes, and comes to be closed with the document's three pairs (`document-closed`).
 -- Assumes nothing.
+use Rattle.ring.proofs.PageLaws.{circle-any-form}
 use mathlib.Core.Path.{_≡_, refl, sym, ap, _∙_}
-use mathlib.Core.Bool.{true, true≢false}
+use mathlib.Core.Bool.{true, true≢false, false}
 use mathlib.Core.List.{List, [], _∷_}
 use Prim.Native.Nat.{ℕ}
 use native.Mathlib.Omega.{arith}
@@ -25,7 +26,7 @@ use Rattle.list.specs.declared.Pair.{Pair}
 use Rattle.list.specs.declared.Source.{Source}
 use Rattle.list.specs.Pairs.{none}
 use Rattle.list.specs.Pages.{thresholdNo}
-use Rattle.list.specs.RingList.{unblocked, ringPair, ringList}
+use Rattle.list.specs.RingList.{unblocked, ringList, ringPairBy, ringListBy}
 use Rattle.list.specs.Rows.{row, rows, listBy}
 use Rattle.list.specs.Terms.{full, listFor}
 use Rattle.list.proofs.TermsLaws.{full-ring-list}
@@ -79,10 +80,10 @@ unfolding begunFor beginNo first given answer begunBook editionOk thresholdNo
 begun-for = record { promised = refl }
 
 list-is : listFor full (pointsOf documentP) (pointsOf documentQ) ≡ threePairs
-list-is = full-ring-list (pointsOf documentP) (pointsOf documentQ) ∙ computed
+list-is = full-ring-list false (pointsOf documentP) (pointsOf documentQ) ∙ computed
   where
     computed : ringList (pointsOf documentP) (pointsOf documentQ) ≡ threePairs
-    computed = unfold ringList listBy rows row ringPair unblocked allB sameSpot blocks pointsOf spotOf tab num documentP documentQ in refl
+    computed = unfold ringListBy listBy rows row ringPairBy unblocked allB sameSpot blocks pointsOf spotOf tab num documentP documentQ in refl
 
 source-is : sourceOf documentP documentQ full ≡ documentSource
 unfolding sourceOf num documentP documentQ
@@ -94,7 +95,7 @@ unfolding begunBook documentWorld
 document-closed =
     let slots : List Pair = replicate 3 none in
     let h : History documentWorld (begunBook documentSource) slots = began documentSource (begunBook documentSource) slots begun-for in
-    let m = can-close documentWorld h (rw list-is (omega arith)) documentP documentQ (record { opens = p-opens; same = refl }, record { opens = q-opens; same = refl }) (λ e. absurd (true≢false (sym e))) source-is in
+    let m = can-close documentWorld h (rw list-is (omega arith)) documentP documentQ (record { opens = p-opens; same = refl }, record { opens = q-opens; same = refl }) (circle-any-form documentP documentQ) (λ e. absurd (true≢false (sym e))) source-is in
     let g = goes-on documentWorld h (m .2) in
     let c = closed-all documentWorld (g .0) (m .3) in
     let l : bookList documentWorld (m .0) ≡ threePairs = ap (λ (x : Source). listFor (x .terms) (pumpsOf documentWorld x) (chambersOf documentWorld x)) (g .1) ∙ list-is in

@@ -1,5 +1,6 @@
 -- The calls that are lent words for kept sets, each with what it answered: what they leave there is one rule, and is said of them all in one.
 -- "a filter walk leaves its kept set there, any other call zeros, and none touches words past them". (Calls through views: proofs/Alike. Over C: proofs/OverC.)
+use mathlib.Core.Bool.{Bool}
 use mathlib.Core.List.{List}
 use Prim.Native.Nat.{ℕ}
 use lib.IntN.{ℤ}
@@ -26,7 +27,7 @@ pub data Filters : List ℤ → List ℕ → ℕ → List ℕ → List ℕ → T
 -- An answer of any other call that is lent words: how many it needs, the number of the answer, the words lent and those at its exit.
 pub data Works : ℕ → ℕ → List ℕ → List ℕ → Type 0 where
   works-page : (P Q : List ℤ) (ask : Request) (w : List ℕ) (r : Paged) (w′ : List ℕ) → PageAnswers P Q ask w r w′ → Works (need P) (r .number) w w′
-  works-own : (S : List ℤ) (key : Key) (size : ℕ) (w : List ℕ) (r : Paged) (w′ : List ℕ) → OwnAnswers S key size w r w′ → Works (need S) (r .number) w w′
+  works-own : (S : List ℤ) (key : Key) (size : ℕ) (g : Bool) (w : List ℕ) (r : Paged) (w′ : List ℕ) → OwnAnswers S key size g w r w′ → Works (need S) (r .number) w w′
   works-partners : (P Q : List ℤ) (id t : ℕ) (w : List ℕ) (r : Partnered) (w′ : List ℕ) → PartnersAnswers P Q id t w r w′ → Works (need P) (r .number) w w′
   works-short : (P Q : List ℤ) (k : ℕ) (w : List ℕ) (r : Shortlist) (w′ : List ℕ) → ShortAnswers P Q k w r w′ → Works (need P) (r .number) w w′
   works-run : (P Q : List ℤ) (v : ℕ) (slots : List Pair) (w : List ℕ) (r : Run) (slots′ : List Pair) (w′ : List ℕ) → RunAnswers P Q v slots w r slots′ w′ → Works (runNeed P) (r .number) w w′

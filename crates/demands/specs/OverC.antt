@@ -1,5 +1,6 @@
 -- What the calls over C promise, under one name for each, as specs/Promises has it for the others. Of an answer that is an enum, ffi/specs/Over makes the struct of numbers
 -- that crosses; of a check it makes one with the sheet's edition and form.
+use mathlib.Core.Bool.{Bool}
 use mathlib.Core.Path.{_≡_}
 use mathlib.Core.List.{List}
 use Prim.Native.Nat.{ℕ}
@@ -69,12 +70,12 @@ pub record FilterC (P Q : List ℤ) (j : ℕ) (bits : List ℕ) (r : Filtered) (
   pub b-at : Place
   pub promised : filter-c.Post κs (slice p-at P, (slice q-at Q, (j, (slice b-at bits, tt)))) r (slice p-at P, (slice q-at Q, (j, (slice b-at bits′, tt))))
 
--- `ring_pair_walk(P, Q, j, i)` answers r [C1, D8]
-pub record WalkC (P Q : List ℤ) (j i : ℕ) (r : WalkAnswer) : Type 0 where
+-- `ring_pair_walk(P, Q, j, i, grid)` answers r [C1, D8]
+pub record WalkC (P Q : List ℤ) (j i : ℕ) (g : Bool) (r : WalkAnswer) : Type 0 where
   pub κs : Lfts 2
   pub p-at : Place
   pub q-at : Place
-  pub promised : walk-c.Post κs (slice p-at P, (slice q-at Q, (j, (i, tt)))) r (slice p-at P, (slice q-at Q, (j, (i, tt))))
+  pub promised : walk-c.Post κs (slice p-at P, (slice q-at Q, (j, (i, (g, tt))))) r (slice p-at P, (slice q-at Q, (j, (i, (g, tt)))))
 
 -- `ring_page(P, Q, ask, bits)` answers r, and the lent words are `bits′` at its exit [C1, D8]
 pub record PageC (P Q : List ℤ) (ask : Request) (bits : List ℕ) (r : Paged) (bits′ : List ℕ) : Type 0 where
@@ -84,12 +85,12 @@ pub record PageC (P Q : List ℤ) (ask : Request) (bits : List ℕ) (r : Paged) 
   pub b-at : Place
   pub promised : page-c.Post κs (slice p-at P, (slice q-at Q, (ask, (slice b-at bits, tt)))) r (slice p-at P, (slice q-at Q, (ask, (slice b-at bits′, tt))))
 
--- `ring_own_page(S, key, size, bits)` answers r, and the lent words are `bits′` at its exit [C1, D8]
-pub record OwnC (S : List ℤ) (key : Key) (size : ℕ) (bits : List ℕ) (r : Paged) (bits′ : List ℕ) : Type 0 where
+-- `ring_own_page(S, key, size, grid, bits)` answers r, and the lent words are `bits′` at its exit [C1, D8]
+pub record OwnC (S : List ℤ) (key : Key) (size : ℕ) (g : Bool) (bits : List ℕ) (r : Paged) (bits′ : List ℕ) : Type 0 where
   pub κs : Lfts 2
   pub w-at : Place
   pub b-at : Place
-  pub promised : own-c.Post κs (slice w-at S, (key, (size, (slice b-at bits, tt)))) r (slice w-at S, (key, (size, (slice b-at bits′, tt))))
+  pub promised : own-c.Post κs (slice w-at S, (key, (size, (g, (slice b-at bits, tt))))) r (slice w-at S, (key, (size, (g, (slice b-at bits′, tt)))))
 
 -- `ring_partners(P, Q, id, t, bits)` answers r, and the lent words are `bits′` at its exit [C1, D8]
 pub record PartnersC (P Q : List ℤ) (id t : ℕ) (bits : List ℕ) (r : Partnered) (bits′ : List ℕ) : Type 0 where

@@ -108,12 +108,12 @@ pub record FilterAnswers (P Q : List ℤ) (j : ℕ) (bits : List ℕ) (r : Filte
       r
       (slice p-at P, (slice q-at Q, (j, (slice b-at bits′, tt))))
 
--- `ring::ringwalk::ring_walk(P, Q, j, i)` answers r [B1, D1, D7, D8]
-pub record RingAnswers (P Q : List ℤ) (j i : ℕ) (r : Walked) : Type 0 where
+-- `ring::ringwalk::ring_walk(P, Q, j, i, grid)` answers r [B1, D1, D7, D8]
+pub record RingAnswers (P Q : List ℤ) (j i : ℕ) (g : Bool) (r : Walked) : Type 0 where
   pub κs : Lfts 2
   pub p-at : Place
   pub q-at : Place
-  pub promised : ring-walk.Post κs (slice p-at P, (slice q-at Q, (j, (i, tt)))) r (slice p-at P, (slice q-at Q, (j, (i, tt))))
+  pub promised : ring-walk.Post κs (slice p-at P, (slice q-at Q, (j, (i, (g, tt))))) r (slice p-at P, (slice q-at Q, (j, (i, (g, tt)))))
 
 -- `ring::page::page(P, Q, ask, bits)` answers r, and the lent words are `bits′` at its exit [B1, D1, D7, D8]
 pub record PageAnswers (P Q : List ℤ) (ask : Request) (bits : List ℕ) (r : Paged) (bits′ : List ℕ) : Type 0 where
@@ -123,17 +123,17 @@ pub record PageAnswers (P Q : List ℤ) (ask : Request) (bits : List ℕ) (r : P
   pub b-at : Place
   pub promised : page.Post κs (slice p-at P, (slice q-at Q, (ask, (slice b-at bits, tt)))) r (slice p-at P, (slice q-at Q, (ask, (slice b-at bits′, tt))))
 
--- `ring::own::own_page(S, key, size, bits)` answers r, and the lent words are `bits′` at its exit [D8]
-pub record OwnAnswers (S : List ℤ) (key : Key) (size : ℕ) (bits : List ℕ) (r : Paged) (bits′ : List ℕ) : Type 0 where
+-- `ring::own::own_page(S, key, size, grid, bits)` answers r, and the lent words are `bits′` at its exit [D8]
+pub record OwnAnswers (S : List ℤ) (key : Key) (size : ℕ) (g : Bool) (bits : List ℕ) (r : Paged) (bits′ : List ℕ) : Type 0 where
   pub κs : Lfts 2
   pub w-at : Place
   pub b-at : Place
-  pub promised : own-page.Post κs (slice w-at S, (key, (size, (slice b-at bits, tt)))) r (slice w-at S, (key, (size, (slice b-at bits′, tt))))
+  pub promised : own-page.Post κs (slice w-at S, (key, (size, (g, (slice b-at bits, tt))))) r (slice w-at S, (key, (size, (g, (slice b-at bits′, tt)))))
 
 -- An answer of the page request of these terms, for these lent words: of two sheets, or of a self join, which is of the one sheet in both places and has no t.
 abbrev pub OfKind : Bool → Terms → List ℤ → List ℤ → Key → ℕ → List ℕ → Paged → List ℕ → Type 0
 OfKind false a P Q key size bits r bits′ = PageAnswers P Q (requestOf a key size) bits r bits′
-OfKind true a P Q key size bits r bits′ = (P ≡ Q) × (a .threshold ≡ 0) × OwnAnswers P key size bits r bits′
+OfKind true a P Q key size bits r bits′ = (P ≡ Q) × (a .threshold ≡ 0) × OwnAnswers P key size (a .grid) bits r bits′
 
 abbrev pub TermsAnswers : Terms → List ℤ → List ℤ → Key → ℕ → List ℕ → Paged → List ℕ → Type 0
 TermsAnswers a P Q key size bits r bits′ = OfKind (a .own) a P Q key size bits r bits′
@@ -255,17 +255,17 @@ ViewPoints sheet position r = r ≡ pointed (now (sheet .words)) position
 abbrev pub ViewFilters : Sheet → Sheet → ℕ → List ℕ → Filtered → List ℕ → Type 0
 ViewFilters p q j bits r bits′ = (r ≡ filtered (now (p .words)) (now (q .words)) j (length bits)) × (bits′ ≡ filteredBits (now (p .words)) (now (q .words)) j bits)
 
--- `view::ring_walk_at(p, q, j, i)` answers r [S28, N19, D8]
-abbrev pub ViewRings : Sheet → Sheet → ℕ → ℕ → Walked → Type 0
-ViewRings p q j i r = r ≡ walked (now (p .words)) (now (q .words)) j i
+-- `view::ring_walk_at(p, q, j, i, grid)` answers r [S28, N19, D8]
+abbrev pub ViewRings : Sheet → Sheet → ℕ → ℕ → Bool → Walked → Type 0
+ViewRings p q j i g r = r ≡ walked (now (p .words)) (now (q .words)) j i g
 
 -- `view::page_at(p, q, ask, bits)` answers r, and the lent words are `bits′` at its exit [S28, N19, D8]
 abbrev pub ViewPages : Sheet → Sheet → Request → List ℕ → Paged → List ℕ → Type 0
 ViewPages p q ask bits r bits′ = (r ≡ pageAnswer (now (p .words)) (now (q .words)) ask (length bits)) × (bits′ ≡ pageBits (now (p .words)) (now (q .words)) ask bits)
 
--- `view::own_page_at(d, key, size, bits)` answers r, and the lent words are `bits′` at its exit [S28, D8]
-abbrev pub ViewOwnPages : Sheet → Key → ℕ → List ℕ → Paged → List ℕ → Type 0
-ViewOwnPages d key size bits r bits′ = (r ≡ ownAnswer (now (d .words)) key size (length bits)) × (bits′ ≡ ownBits (now (d .words)) key size bits)
+-- `view::own_page_at(d, key, size, grid, bits)` answers r, and the lent words are `bits′` at its exit [S28, D8]
+abbrev pub ViewOwnPages : Sheet → Key → ℕ → Bool → List ℕ → Paged → List ℕ → Type 0
+ViewOwnPages d key size g bits r bits′ = (r ≡ ownAnswer (now (d .words)) key size g (length bits)) × (bits′ ≡ ownBits (now (d .words)) key size g bits)
 
 -- `view::partners_at(p, q, id, t, bits)` answers r, and the lent words are `bits′` at its exit [S28, D8]
 abbrev pub ViewPartners : Sheet → Sheet → ℕ → ℕ → List ℕ → Partnered → List ℕ → Type 0

@@ -1,6 +1,7 @@
 -- The world of demand 3, told by what the shipped calls answer. "Pages may be lost, repeated, late or out of order, but not altered or invented; P sheets with one
 -- edition number hold the same points, and Q sheets likewise; nobody else writes the book or hands in an older state of it." For self joins the premise is
 -- "that all sheets given to self joins under one edition number hold the same points".
+use Rattle.ring.specs.Numbers.{gridNo}
 use mathlib.Core.Path.{_≡_}
 use mathlib.Core.Bool.{Bool, true, false, cond}
 use mathlib.Core.List.{List}
@@ -102,6 +103,8 @@ module _ (w : Editions) where
     pub Q : List ℤ
     pub sheets : Sheets (of .terms) P Q
     pub of-book : sourceOf P Q (of .terms) ≡ of
+    -- of the street grid the sheets are of form 1: else the request is refused, by 29
+    pub forms : gridNo (of .terms .grid) P Q ≡ 0
     -- as many words are lent as the points need: else the request is refused, by 24
     pub bits : List ℕ
     pub enough : need P ≤ length bits

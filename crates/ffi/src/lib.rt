@@ -167,6 +167,7 @@ fn of_begun(v: book::Begun) -> BookAnswer
                     terms: Terms {
                         threshold: 0,
                         own: false,
+                        grid: false,
                     },
                 },
             },
@@ -275,15 +276,15 @@ pub extern "C" fn ring_filter_walk(p: &[i32], q: &[i32], j: usize, bits: &mut [u
     ring::filter::filter_walk(p, q, j, bits)
 }
 
-// The ring walk for position j of Q and position i of P: 0, or 1 to 8 of P, of Q, 9.
+// The ring walk for position j of Q and position i of P, of a profile: 0, or 1 to 8 of P, of Q, 29, 9.
 #[no_mangle]
-pub extern "C" fn ring_pair_walk(p: &[i32], q: &[i32], j: usize, i: usize) -> WalkAnswer
-    ensures { λ r. ⌜ r ≡ walkOver (walked (now (p .entry)) (now (q .entry)) j i) ⌝ }
+pub extern "C" fn ring_pair_walk(p: &[i32], q: &[i32], j: usize, i: usize, grid: bool) -> WalkAnswer
+    ensures { λ r. ⌜ r ≡ walkOver (walked (now (p .entry)) (now (q .entry)) j i grid) ⌝ }
 {
-    of_walked(ring::ringwalk::ring_walk(p, q, j, i))
+    of_walked(ring::ringwalk::ring_walk(p, q, j, i, grid))
 }
 
-// The page of the first `size` ring pairs after a key, of chambers with at least so many as the threshold says: 0, or 1 to 8 of P, of Q, 9, 10, 21, 24.
+// The page of the first `size` ring pairs after a key, of chambers with at least so many as the threshold says, of a profile: 0, or 1 to 8 of P, of Q, 29, 9, 10, 21, 24.
 #[no_mangle]
 pub extern "C" fn ring_page(p: &[i32], q: &[i32], request: Request, bits: &mut [u64]) -> Paged
     ensures { λ r. ⌜ (r ≡ pageAnswer (now (p .entry)) (now (q .entry)) request (length (now (bits .entry)))) × (now (bits .exit) ≡ pageBits (now (p .entry)) (now (q .entry)) request (now (bits .entry))) ⌝ }
@@ -299,12 +300,18 @@ pub extern "C" fn ring_shortest(p: &[i32], q: &[i32], k: usize, bits: &mut [u64]
     shortest::shortest(p, q, k, bits)
 }
 
-// The page of the first `size` pairs after a key of the self join of one sheet, lower id first: 0, or 1 to 8, 9, 10, 24.
+// The page of the first `size` pairs after a key of the self join of one sheet, lower id first, of a profile: 0, or 1 to 8, 29, 9, 10, 24.
 #[no_mangle]
-pub extern "C" fn ring_own_page(words: &[i32], key: Key, size: usize, bits: &mut [u64]) -> Paged
-    ensures { λ r. ⌜ (r ≡ ownAnswer (now (words .entry)) key size (length (now (bits .entry)))) × (now (bits .exit) ≡ ownBits (now (words .entry)) key size (now (bits .entry))) ⌝ }
+pub extern "C" fn ring_own_page(
+    words: &[i32],
+    key: Key,
+    size: usize,
+    grid: bool,
+    bits: &mut [u64],
+) -> Paged
+    ensures { λ r. ⌜ (r ≡ ownAnswer (now (words .entry)) key size grid (length (now (bits .entry)))) × (now (bits .exit) ≡ ownBits (now (words .entry)) key size grid (now (bits .entry))) ⌝ }
 {
-    ring::own::own_page(words, key, size, bits)
+    ring::own::own_page(words, key, size, grid, bits)
 }
 
 // The smaller of t and the number of ring partners of the chamber with this id, and whether that is t: 0, or 1 to 8 of P, of Q, 20, 21, 24.

@@ -17,3 +17,4 @@ pub mod Sign
 pub mod Mach
 pub mod Cast
 pub mod Bools
+pub mod Differences

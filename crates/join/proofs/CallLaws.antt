@@ -13,29 +13,30 @@ use borrow.Author.Tests.{not-true, not-false, lt-ltb, le-ltb}
 use Rattle.words.proofs.AllLaws.{first-none, first-more, first-stop}
 use Rattle.plane.specs.declared.Spot.{Spot}
 use Rattle.plane.specs.Rule.{SpotIn}
+use Rattle.plane.specs.Profile.{Profile, circle, profileOf}
 use Rattle.plane.specs.Point.{idAt}
+use Rattle.plane.proofs.ProfileLaws.{profile-lawful}
 use Rattle.sheet.specs.Places.{spotOf, pointsOf}
 use Rattle.sheet.specs.Open.{Opens}
 use Rattle.sheet.proofs.SheetLaws.{by-counts}
 use Rattle.sheet.proofs.RangeLaws.{spot-in}
 use Rattle.bits.specs.Set.{kept}
-use Rattle.walk.specs.FilterWalk.{filterKept}
+use Rattle.walk.specs.FilterWalk.{filterKept, keepsBy, keepsOpened}
 use Rattle.walk.specs.RingWalk.{clear}
-use Rattle.walk.proofs.Meaning.{filter-opened-at-most-m, pair-opened}
+use Rattle.walk.proofs.Meaning.{keeps-opened-at-most-m, pair-opened}
 use Rattle.list.specs.declared.Key.{Key}
 use Rattle.list.specs.declared.Pair.{Pair}
 use Rattle.list.specs.Pairs.{keyOf, follows}
-use Rattle.list.specs.RingList.{pairAt}
+use Rattle.list.specs.RingList.{pairBy, pairAt}
 use Rattle.join.specs.declared.Draft.{Draft}
 use Rattle.join.specs.declared.Tried.{Tried}
 use Rattle.join.specs.Walks.{Walks, Agrees}
 use Rattle.join.specs.Work.{firstFrom}
-use Rattle.join.specs.Maker.{spent, found, withTried, tried, partners, chamber}
+use Rattle.join.specs.Maker.{spent, found, withTried, tried, chamber}
 use Rattle.list.specs.declared.Terms.{Terms}
 use Rattle.join.specs.Sheets.{walksBy, walksOf}
-use Rattle.join.specs.Threshold.{ringOpened, walksFor, onWords}
+use Rattle.join.specs.Threshold.{walksFor, onWords}
 use Rattle.join.proofs.TurnLaws.{Capped, all-words}
-use Rattle.join.proofs.ThresholdLaws.{ring-few}
 
 -- ---- the first chamber from the key on: none of the first j is one
 
@@ -90,61 +91,53 @@ with-no size v t u d e n = rw (← e, n)
 spent-none : (d : Draft) → d ≡ spent 0 d
 spent-none d = let e : d .opened ≡ d .opened + 0 = omega arith in λ s. record { pairs = d .pairs; count = d .count; more = d .more; opened = e s }
 
-module _ (ws : List ℕ) (P Q : List ℤ) (key : Key) (size j i : ℕ) (t : Bool) (et : t ≡ follows key (keyOf (pairAt (pointsOf P) (pointsOf Q) j i))) (d r : Draft) where
-  pub show-late : t ≡ true → (v : Pair) → v ≡ pairAt (pointsOf P) (pointsOf Q) j i → r ≡ found size v d → r ≡ withTried size (pairAt (pointsOf P) (pointsOf Q) j i) (tried (onWords ws P Q) key j i) d
+module _ (φ : Profile) (ws : List ℕ) (P Q : List ℤ) (key : Key) (size j i : ℕ) (t : Bool) (et : t ≡ follows key (keyOf (pairAt (pointsOf P) (pointsOf Q) j i))) (d r : Draft) where
+  pub show-late : t ≡ true → (v : Pair) → v ≡ pairBy φ (pointsOf P) (pointsOf Q) j i → r ≡ found size v d → r ≡ withTried size (pairBy φ (pointsOf P) (pointsOf Q) j i) (tried (onWords φ ws P Q) key j i) d
   unfolding withTried tried
-  show-late y v ev e = rw (sym et ∙ y) (e ∙ ap (λ (x : Pair). found size x d) ev ∙ ap (found size (pairAt (pointsOf P) (pointsOf Q) j i)) (spent-none d))
+  show-late y v ev e = rw (sym et ∙ y) (e ∙ ap (λ (x : Pair). found size x d) ev ∙ ap (found size (pairBy φ (pointsOf P) (pointsOf Q) j i)) (spent-none d))
 
-  pub show-early : t ≡ false → r ≡ d → r ≡ withTried size (pairAt (pointsOf P) (pointsOf Q) j i) (tried (onWords ws P Q) key j i) d
+  pub show-early : t ≡ false → r ≡ d → r ≡ withTried size (pairBy φ (pointsOf P) (pointsOf Q) j i) (tried (onWords φ ws P Q) key j i) d
   unfolding withTried tried
   show-early n e = rw (sym et ∙ n) (e ∙ spent-none d)
 
-pub on-words : (ws : List ℕ) (P Q : List ℤ) → Capped (onWords ws P Q) 0 0
-on-words ws P Q = record { filter = λ j. omega arith; ring = λ j i. omega arith }
+pub on-words : (φ : Profile) (ws : List ℕ) (P Q : List ℤ) → Capped (onWords φ ws P Q) 0 0
+on-words φ ws P Q = record { filter = λ j. omega arith; ring = λ j i. omega arith }
 
--- ---- the words of the filter walk, and room
+-- ---- the words of what is kept, and room
 
-pub words-of : (P Q : List ℤ) (j : ℕ) (ws : List ℕ) → ws ≡ filterKept (length ws) P (spotOf Q j) .bits → Agrees (walksOf (length ws) P Q) j 0 ws
-words-of P Q j ws e = all-words (walksOf (length ws) P Q) j ws (λ i. ap (λ (x : List ℕ). kept x i) (sym e))
-
-pub words-on : (P Q : List ℤ) (j : ℕ) (ws : List ℕ) → Agrees (onWords ws P Q) j 0 ws
-words-on P Q j ws = all-words (onWords ws P Q) j ws (λ i. refl)
+pub words-on : (φ : Profile) (P Q : List ℤ) (j : ℕ) (ws : List ℕ) → Agrees (onWords φ ws P Q) j 0 ws
+words-on φ P Q j ws = all-words (onWords φ ws P Q) j ws (λ i. refl)
 
 module _ (P Q : List ℤ) (j : ℕ) (z : Spot) (ez : z ≡ spotOf Q j) (b : ℕ) where
-  pub words-are : (ws : List ℕ) → length ws ≡ b → ws ≡ filterKept b P z .bits → ws ≡ filterKept (length ws) P (spotOf Q j) .bits
-  words-are ws el e = e ∙ ap (λ (l : ℕ). filterKept l P z .bits) (sym el) ∙ ap (λ (y : Spot). filterKept (length ws) P y .bits) ez
+  -- words that were lent for the q at j, b of them, hold what is kept for it
+  pub words-are : (φ : Profile) (ws : List ℕ) → length ws ≡ b → ((i : ℕ) → kept ws i ≡ keepsBy φ b P z i) → (i : ℕ) → keepsBy φ (length ws) P (spotOf Q j) i ≡ kept ws i
+  words-are φ ws el e i = sym (e i ∙ ap (λ (l : ℕ). keepsBy φ l P z i) (sym el) ∙ ap (λ (y : Spot). keepsBy φ (length ws) P y i) ez)
 
-  pub chamber-walked : (a : ℕ) → a ≡ b → (key : Key) (size n o : ℕ) (d r : Draft) → o ≡ filterKept b P z .opened → r ≡ partners (walksOf a P Q) key size j n 0 (spent o d) → r ≡ chamber (walksOf b P Q) key size n j d
-  unfolding chamber
-  chamber-walked a el key size n o d r eo e =
-      e
-      ∙ ap (λ (l : ℕ). partners (walksOf l P Q) key size j n 0 (spent o d)) el
-      ∙ ap (λ (x : ℕ). partners (walksOf b P Q) key size j n 0 (spent x d)) (eo ∙ ap (λ (y : Spot). filterKept b P y .opened) ez)
+  -- those of the filter walk too
+  pub words-filtered : (ws : List ℕ) → length ws ≡ b → ws ≡ filterKept b P z .bits → Agrees (walksOf false (length ws) P Q) j 0 ws
+  words-filtered ws el e = all-words (walksOf false (length ws) P Q) j ws (words-are circle ws el (unfold keepsBy in λ i. ap (λ (x : List ℕ). kept x i) e))
 
 -- so many words, or as many
 pub chamber-same : (c : Terms) (P Q : List ℤ) (key : Key) (size n t j : ℕ) (d r : Draft) (a b : ℕ) → a ≡ b → r ≡ chamber (walksFor (walksBy c a P Q) n t) key size n j d → r ≡ chamber (walksFor (walksBy c b P Q) n t) key size n j d
 chamber-same c P Q key size n t j d r a b e f = f ∙ ap (λ (x : ℕ). chamber (walksFor (walksBy c x P Q) n t) key size n j d) e
 
-pub filter-few : {P : List ℤ} {np mp : ℕ} → Opens P np mp → (words : ℕ) (z : Spot) (o : ℕ) → o ≡ filterKept words P z .opened → o ≤ mp
-filter-few {P} c words z o e = omega (arith, c .m-is, filter-opened-at-most-m words P z (by-counts c))
+pub keeps-few : {P : List ℤ} {np mp : ℕ} → Opens P np mp → (φ : Profile) (words : ℕ) (z : Spot) (o : ℕ) → o ≡ keepsOpened φ words P z → o ≤ mp
+keeps-few {P} c φ words z o e = omega (arith, c .m-is, keeps-opened-at-most-m φ words P z (by-counts c))
 
 pub join-spot-fits : {Q : List ℤ} {nq mq : ℕ} → Opens Q nq mq → (j : ℕ) (z : Spot) → j < nq → z ≡ spotOf Q j → SpotIn z
 join-spot-fits o j z h e = rw e (spot-in o j h)
 
 module _ {P Q : List ℤ} {np mp nq mq : ℕ} (o : Opens P np mp) (o′ : Opens Q nq mq) where
-  pub capped : (words : ℕ) → Capped (walksOf words P Q) mp (mp + mq)
-  capped words =
+  pub capped : (g : Bool) (words : ℕ) → Capped (walksOf g words P Q) mp (mp + mq)
+  capped g words =
       record {
-        filter = λ j. omega (arith, o .m-is, filter-opened-at-most-m words P (spotOf Q j) (by-counts o));
-        ring = λ j i. omega (arith, o .m-is, o′ .m-is, pair-opened P Q (by-counts o) (by-counts o′) j i);
+        filter = λ j. omega (arith, o .m-is, keeps-opened-at-most-m (profileOf g) words P (spotOf Q j) (by-counts o));
+        ring = λ j i. omega (arith, o .m-is, o′ .m-is, pair-opened (profileOf g) (profile-lawful g) P Q (by-counts o) (by-counts o′) j i);
       }
 
   -- the count of a chamber's ring walks fits
   pub walks-room : np * (mp + mq) ≤ 2880000000
   walks-room = mul-le-mul {n₁ = np} {m₁ = mp + mq} {n₂ = 60000} {m₂ = 48000} (o .n-le) (omega (arith, o .m-le, o′ .m-le))
-
-  pub walks-few : (words j s : ℕ) → s ≡ ringOpened (walksOf words P Q) np j → s ≤ np * (mp + mq)
-  walks-few words j s e = omega (arith, ring-few (walksOf words P Q) mp (mp + mq) np (capped words) j)
 
   -- the count of a page fits
   pub page-room : nq * (mp + np * (mp + mq)) < 9223372036854775808

@@ -14,6 +14,7 @@ use Prim.Native.Nat.{ℕ, _*_, _≤_, _<_}
 use native.Mathlib.Omega.{arith}
 use lib.IntN.{ℤ}
 use lib.ListN.{length}
+use Rattle.plane.proofs.ProfileLaws.{profile-lawful}
 use Rattle.plane.specs.Point.{Point, idAt}
 use Rattle.sheet.specs.Layout.{points}
 use Rattle.sheet.specs.Places.{pointsOf}
@@ -27,9 +28,9 @@ use Rattle.list.specs.declared.Source.{Source}
 use Rattle.list.specs.Pairs.{start}
 use Rattle.list.specs.Pages.{pageOf, followed}
 use Rattle.list.specs.Rows.{atLeast, listBy, Rising}
-use Rattle.list.specs.RingList.{pairAt, Sound}
+use Rattle.list.specs.RingList.{pairBy, Sound}
 use Rattle.list.specs.declared.Terms.{Terms}
-use Rattle.list.specs.Terms.{ofKind, pairFor, listedFor, listFor}
+use Rattle.list.specs.Terms.{ofKind, profileFor, pairFor, listedFor, listFor}
 use Rattle.list.proofs.RowLaws.{named}
 use Rattle.list.proofs.TermsLaws.{kind-of, for-pages}
 use Rattle.join.specs.Work.{pageOpened}
@@ -70,14 +71,14 @@ module _ {P Q : List ℤ} {np mp nq mq : ℕ} (o : Opens P np mp) (o′ : Opens 
     unfolding pairFor
     exact j i hj hi =
         by-kind (λ t R. j < points R → pairFor t (pointsOf P) (pointsOf R) j i ≡ (walksBy t words P R .kept j i && walksBy t words P R .clear j i)) a P Q al
-        (λ t h. walk-pair-exact P Q (by-counts o) (by-counts o′) j i h (omega (arith, o .n-is)) words (omega (arith, o .n-is)))
-        (λ t h. self-walked words P (by-counts o) (omega (arith, o .n-is)) j i h (omega (arith, o .n-is)))
+        (λ t h. walk-pair-exact (profileFor t) (profile-lawful (t .grid)) P Q (by-counts o) (by-counts o′) j i h (omega (arith, o .n-is)) words (omega (arith, o .n-is)))
+        (λ t h. self-walked words P (by-counts o) (omega (arith, o .n-is)) j (t .grid) i h (omega (arith, o .n-is)))
         (omega (arith, o′ .n-is))
 
-    list-is : listBy (atLeast (pairFor a (pointsOf P) (pointsOf Q)) (pairAt (pointsOf P) (pointsOf Q)) (a .threshold) np) (pairAt (pointsOf P) (pointsOf Q)) np nq ≡ listFor a (pointsOf P) (pointsOf Q)
+    list-is : listBy (atLeast (pairFor a (pointsOf P) (pointsOf Q)) (pairBy (profileFor a) (pointsOf P) (pointsOf Q)) (a .threshold) np) (pairBy (profileFor a) (pointsOf P) (pointsOf Q)) np nq ≡ listFor a (pointsOf P) (pointsOf Q)
     unfolding listFor listedFor
     list-is =
-        let pair = pairAt (pointsOf P) (pointsOf Q) in
+        let pair = pairBy (profileFor a) (pointsOf P) (pointsOf Q) in
         let l : ℕ → ℕ → List Pair = λ n m. listBy (atLeast (pairFor a (pointsOf P) (pointsOf Q)) pair (a .threshold) n) pair n m in
         ap (λ (k : ℕ). l k nq) (sym (length-points P ∙ o .n-is)) ∙ ap (λ (k : ℕ). l (length (pointsOf P)) k) (sym (length-points Q ∙ o′ .n-is))
 
@@ -85,8 +86,8 @@ module _ {P Q : List ℤ} {np mp nq mq : ℕ} (o : Opens P np mp) (o′ : Opens 
         → pageFrom s key (pageMade (walksFor (walksBy a words P Q) np (a .threshold)) key size np nq) ≡ pageOf s (listFor a (pointsOf P) (pointsOf Q)) key size
     join-page-pairs s key size h =
         let w = walksFor (walksBy a words P Q) np (a .threshold) in
-        let rule = atLeast (pairFor a (pointsOf P) (pointsOf Q)) (pairAt (pointsOf P) (pointsOf Q)) (a .threshold) np in
-        maker-page w key size rule np nq (exact-for (walksBy a words P Q) (pairFor a (pointsOf P) (pointsOf Q)) np nq exact (a .threshold)) (idAt (pointsOf P)) (for-named (walksBy a words P Q) np (a .threshold) (idAt (pointsOf P)) (named (pointsOf P) (pointsOf Q))) s
+        let rule = atLeast (pairFor a (pointsOf P) (pointsOf Q)) (pairBy (profileFor a) (pointsOf P) (pointsOf Q)) (a .threshold) np in
+        maker-page w key size rule np nq (exact-for (walksBy a words P Q) (pairFor a (pointsOf P) (pointsOf Q)) np nq exact (a .threshold)) (idAt (pointsOf P)) (for-named (walksBy a words P Q) np (a .threshold) (idAt (pointsOf P)) (named (profileFor a) (pointsOf P) (pointsOf Q))) s
         (for-rising (walksBy a words P Q) np (a .threshold) nq (ids-rise o′)) (ids-rise o) h
         ∙ ap (λ (pair : ℕ → ℕ → Pair). pageOf s (listBy rule pair np nq) key size) (for-pair (walksBy a words P Q) np (a .threshold))
         ∙ ap (λ (l : List Pair). pageOf s l key size) list-is

@@ -11,14 +11,13 @@ use lib.IntN.{ℤ}
 use lib.ListN.{length}
 use borrow.Author.Tests.{le-leb, lt-leb}
 use Rattle.integers.proofs.Bools.{decide}
-use Rattle.plane.specs.declared.Spot.{Spot}
 use Rattle.sheet.specs.Boxes.{sumOver}
-use Rattle.sheet.specs.Places.{spotOf}
 use Rattle.bits.specs.Set.{kept}
-use Rattle.walk.specs.FilterWalk.{filterKept}
 use Rattle.walk.proofs.WalkLaws.{sum-one}
 use Rattle.walk.proofs.SiftLaws.{oneIf, sum-cap}
 use Rattle.list.specs.declared.Key.{Key}
+use Rattle.list.specs.declared.Terms.{Terms}
+use Rattle.list.specs.Terms.{profileFor}
 use Rattle.list.specs.declared.Pair.{Pair}
 use Rattle.list.specs.Rows.{row, atLeast, Rising, Named}
 use Rattle.list.proofs.RowLaws.{row-same}
@@ -27,7 +26,7 @@ use Rattle.join.specs.declared.Draft.{Draft}
 use Rattle.join.specs.Walks.{Walks}
 use Rattle.join.specs.Work.{firstFrom}
 use Rattle.join.specs.Maker.{spent, withTried, tried, partner, partners, chamber}
-use Rattle.join.specs.Sheets.{walksOf}
+use Rattle.join.specs.Sheets.{walksBy}
 use Rattle.join.specs.Threshold.{foundFor, ringOpened, allWalked, walksFor, onWords}
 use Rattle.join.proofs.MakerLaws.{Exact}
 use Rattle.join.proofs.TurnLaws.{Capped, chamber-cap}
@@ -170,32 +169,32 @@ module _ (key : Key) (size : ℕ) where
           nobody false e = refl
 
 -- as the code has it: b words were lent, and they are a now
-module _ (P Q : List ℤ) (key : Key) (size n t j : ℕ) (d : Draft) (ne : t ≡ 0 → ⊥) (z : Spot) (ez : z ≡ spotOf Q j) (a b : ℕ) (el : a ≡ b) (o : ℕ) (eo : o ≡ filterKept b P z .opened) (s : ℕ) (es : s ≡ ringOpened (walksOf a P Q) n j) (c : ℕ) (ec : c ≡ foundFor (walksOf a P Q) n j) where
-  eo′ : o ≡ filterKept a P (spotOf Q j) .opened
-  eo′ = eo ∙ ap (λ (l : ℕ). filterKept l P z .opened) (sym el) ∙ ap (λ (y : Spot). filterKept a P y .opened) ez
+module _ (k : Terms) (P Q : List ℤ) (key : Key) (size n t j : ℕ) (d : Draft) (ne : t ≡ 0 → ⊥) (a b : ℕ) (el : a ≡ b) (o : ℕ) (eo : o ≡ walksBy k b P Q .keptOpened j) (s : ℕ) (es : s ≡ ringOpened (walksBy k a P Q) n j) (c : ℕ) (ec : c ≡ foundFor (walksBy k a P Q) n j) where
+  eo′ : o ≡ walksBy k a P Q .keptOpened j
+  eo′ = eo ∙ ap (λ (l : ℕ). walksBy k l P Q .keptOpened j) (sym el)
 
-  as-lent : chamber (walksFor (walksOf a P Q) n t) key size n j d ≡ chamber (walksFor (walksOf b P Q) n t) key size n j d
-  as-lent = ap (λ (l : ℕ). chamber (walksFor (walksOf l P Q) n t) key size n j d) el
+  as-lent : chamber (walksFor (walksBy k a P Q) n t) key size n j d ≡ chamber (walksFor (walksBy k b P Q) n t) key size n j d
+  as-lent = ap (λ (l : ℕ). chamber (walksFor (walksBy k l P Q) n t) key size n j d) el
 
   -- too few: nothing is shown
-  pub chamber-shut : c < t → spent s (spent o d) ≡ chamber (walksFor (walksOf b P Q) n t) key size n j d
-  chamber-shut l = chamber-few key size (walksOf a P Q) n t j d ne o eo′ s es c ec l ∙ as-lent
+  pub chamber-shut : c < t → spent s (spent o d) ≡ chamber (walksFor (walksBy k b P Q) n t) key size n j d
+  chamber-shut l = chamber-few key size (walksBy k a P Q) n t j d ne o eo′ s es c ec l ∙ as-lent
 
   -- enough: the pairs are those of the words
-  module _ (l : t ≤ c) (ws : List ℕ) (is : (i : ℕ) → kept ws i ≡ (walksOf a P Q .kept j i && walksOf a P Q .clear j i)) where
+  module _ (l : t ≤ c) (ws : List ℕ) (is : (i : ℕ) → kept ws i ≡ (walksBy k a P Q .kept j i && walksBy k a P Q .clear j i)) where
     all : (x : Bool) {y : Bool} → y ≡ true → x ≡ (x && y)
     all true e = sym e
     all false e = refl
 
-    words-same : (i : ℕ) (x : Draft) → partner (onWords ws P Q) key size j i x ≡ partner (allWalked (walksOf a P Q) n t) key size j i x
+    words-same : (i : ℕ) (x : Draft) → partner (onWords (profileFor k) ws P Q) key size j i x ≡ partner (allWalked (walksBy k a P Q) n t) key size j i x
     unfolding allWalked partner tried
     words-same i x =
-        ap (λ (y : Bool). cond y (withTried size (walksOf a P Q .pair j i) (tried (onWords ws P Q) key j i) x) x)
-        (is i ∙ all (walksOf a P Q .kept j i && walksOf a P Q .clear j i) (le-leb t (foundFor (walksOf a P Q) n j) (omega arith)))
+        ap (λ (y : Bool). cond y (withTried size (walksBy k a P Q .pair j i) (tried (onWords (profileFor k) ws P Q) key j i) x) x)
+        (is i ∙ all (walksBy k a P Q .kept j i && walksBy k a P Q .clear j i) (le-leb t (foundFor (walksBy k a P Q) n j) (omega arith)))
 
-    pub chamber-shown : (r : Draft) → r ≡ partners (onWords ws P Q) key size j n 0 (spent s (spent o d)) → r ≡ chamber (walksFor (walksOf b P Q) n t) key size n j d
+    pub chamber-shown : (r : Draft) → r ≡ partners (onWords (profileFor k) ws P Q) key size j n 0 (spent s (spent o d)) → r ≡ chamber (walksFor (walksBy k b P Q) n t) key size n j d
     chamber-shown r e =
         e
-        ∙ partners-same key size (onWords ws P Q) (allWalked (walksOf a P Q) n t) j words-same n 0 (spent s (spent o d))
-        ∙ chamber-left key size (walksOf a P Q) n t j d ne o eo′ s es c ec
+        ∙ partners-same key size (onWords (profileFor k) ws P Q) (allWalked (walksBy k a P Q) n t) j words-same n 0 (spent s (spent o d))
+        ∙ chamber-left key size (walksBy k a P Q) n t j d ne o eo′ s es c ec
         ∙ as-lent

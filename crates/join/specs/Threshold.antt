@@ -8,12 +8,13 @@ use Prim.Native.Nat.{ℕ, zero, suc, _+_}
 use lib.Dec.{leb}
 use lib.IntN.{ℤ}
 use lib.ListN.{length}
+use Rattle.plane.specs.Profile.{Profile}
 use Rattle.plane.specs.Point.{idAt}
 use Rattle.sheet.specs.Boxes.{sumOver}
 use Rattle.sheet.specs.Places.{pointsOf}
 use Rattle.bits.specs.Set.{kept}
 use Rattle.list.specs.Rows.{row}
-use Rattle.list.specs.RingList.{pairAt}
+use Rattle.list.specs.RingList.{pairBy}
 use Rattle.join.specs.Walks.{Walks}
 
 module _ (w : Walks) (n : ℕ) where
@@ -49,13 +50,13 @@ smaller a b = cond (leb a b) a b
 -- ---- a chamber's ring partners as they stand on words, for what is left to do of it. No promise of an open call cites this.
 
 -- exactly the kept positions are ring partners, and no walk is left to do
-abbrev pub onWords : List ℕ → List ℤ → List ℤ → Walks
-onWords ws P Q =
+abbrev pub onWords : Profile → List ℕ → List ℤ → List ℤ → Walks
+onWords φ ws P Q =
     record {
       kept = λ j i. kept ws i;
       keptOpened = λ j. 0;
       clear = λ j i. true;
       clearOpened = λ j i. 0;
       qid = λ j. idAt (pointsOf Q) j;
-      pair = λ j i. pairAt (pointsOf P) (pointsOf Q) j i;
+      pair = λ j i. pairBy φ (pointsOf P) (pointsOf Q) j i;
     }

@@ -9,12 +9,11 @@ use walk::Answer;
 ghost use mathlib.Core.Path.{_≡_};
 ghost use Prim.Native.Nat.{ℕ, _+_, _*_, _≤_, _<_};
 ghost use lib.ListN.{length};
-ghost use mathlib.Core.Bool.{_&&_};
+ghost use mathlib.Core.Bool.{false, _&&_};
 ghost use Rattle.bits.specs.Set.{kept, Holds};
 ghost use Rattle.sheet.specs.Open.{Opens};
 ghost use Rattle.plane.specs.Point.{idAt};
-ghost use Rattle.sheet.specs.Places.{spotOf, pointsOf};
-ghost use Rattle.walk.specs.FilterWalk.{filterKept};
+ghost use Rattle.sheet.specs.Places.{pointsOf};
 ghost use Rattle.walk.specs.RingWalk.{clear};
 ghost use Rattle.list.specs.Pairs.{keyOf, follows};
 ghost use Rattle.list.specs.RingList.{pairAt, partnersOf};
@@ -22,6 +21,7 @@ ghost use Rattle.join.specs.Walks.{Agrees};
 ghost use Rattle.join.specs.Work.{firstFrom};
 ghost use Rattle.join.specs.Maker.{found, tried, partners, chamber, pageMade, pageFrom};
 ghost use Rattle.join.specs.Sheets.{walksOf, startFor, Alone, walksBy};
+ghost use Rattle.list.specs.Terms.{profileFor};
 ghost use Rattle.join.specs.Threshold.{foundFor, ringOpened, walksFor, smaller, onWords};
 
 // What is asked for: the pairs after a key, how many, and of which list.
@@ -87,9 +87,9 @@ fn walked(p: &[i32], hp: Size, q: &[i32], hq: Size, terms: Terms, j: usize, i: u
     if terms.own {
         let a = sheet::reads::spot_at(q, hq.n, hq.m, j);
         let b = sheet::reads::spot_at(p, hp.n, hp.m, i);
-        return walk::ring::ring_on(p, hp.n, hp.m, 0, a, b, 0);
+        return walk::ring::ring_on(p, hp.n, hp.m, 0, a, b, 0, terms.grid);
     }
-    walk::ring::pair_walk(p, hp, q, hq, j, i)
+    walk::ring::pair_walk_by(p, hp, q, hq, j, i, terms.grid)
 }
 
 // The kept partner at position i of P, for the q at position j: ring-walked if it is after the key.
@@ -137,7 +137,7 @@ fn with_partners(
         let t = try_partner(p, hp, q, hq, ask, j, i);
         r.opened = r.opened + t.opened;
         if t.finds {
-            let v = walk::pair::pair_at(p, hp, q, hq, j, i);
+            let v = walk::pair::pair_by(p, hp, q, hq, j, i, ask.terms.grid);
             r = with_found(r, ask.size, v);
         }
         i = bits::next_from(bits, i + 1);
@@ -146,16 +146,24 @@ fn with_partners(
 }
 
 // Of the kept partners of the q at position j those stay kept whose ring walk is clear: how many they are, and the nodes opened.
-fn keep_clear(p: &[i32], hp: Size, q: &[i32], hq: Size, j: usize, bits: &mut [u64]) -> Sifted
-    requires { ⌜ Opens (now p) (hp .n) (hp .m) × Opens (now q) (hq .n) (hq .m) × (j < hq .n) × Holds (now bits) (hp .n) × (now bits ≡ filterKept (length (now bits)) (now p) (spotOf (now q) j) .bits) ⌝ }
-    ensures { λ r. ⌜ ((i : ℕ) → kept (now (bits .exit)) i ≡ (walksOf (length (now (bits .entry))) (now (p .entry)) (now (q .entry)) .kept j i && walksOf (length (now (bits .entry))) (now (p .entry)) (now (q .entry)) .clear j i)) × (r .count ≡ foundFor (walksOf (length (now (bits .entry))) (now (p .entry)) (now (q .entry))) (hp .n) j) × (r .opened ≡ ringOpened (walksOf (length (now (bits .entry))) (now (p .entry)) (now (q .entry))) (hp .n) j) ⌝ }
+fn keep_clear(
+    p: &[i32],
+    hp: Size,
+    q: &[i32],
+    hq: Size,
+    terms: Terms,
+    j: usize,
+    bits: &mut [u64],
+) -> Sifted
+    requires { ⌜ Opens (now p) (hp .n) (hp .m) × Opens (now q) (hq .n) (hq .m) × (j < hq .n) × Holds (now bits) (hp .n) × (terms .own ≡ false) × Agrees (walksBy terms (length (now bits)) (now p) (now q)) j 0 (now bits) ⌝ }
+    ensures { λ r. ⌜ ((i : ℕ) → kept (now (bits .exit)) i ≡ (walksBy terms (length (now (bits .entry))) (now (p .entry)) (now (q .entry)) .kept j i && walksBy terms (length (now (bits .entry))) (now (p .entry)) (now (q .entry)) .clear j i)) × (r .count ≡ foundFor (walksBy terms (length (now (bits .entry))) (now (p .entry)) (now (q .entry))) (hp .n) j) × (r .opened ≡ ringOpened (walksBy terms (length (now (bits .entry))) (now (p .entry)) (now (q .entry))) (hp .n) j) ⌝ }
 {
     let n = hp.n;
     let mut opened: u64 = 0;
     let mut count: usize = 0;
     let mut i = bits::next_from(bits, 0);
     while i < n {
-        let a = walk::ring::pair_walk(p, hp, q, hq, j, i);
+        let a = walk::ring::pair_walk_by(p, hp, q, hq, j, i, terms.grid);
         opened += a.opened;
         if walk::clear_after(a) {
             count += 1;
@@ -182,7 +190,7 @@ fn with_kept(
     d: Draft,
 ) -> Draft
     requires { ⌜ Opens (now p) (hp .n) (hp .m) × Opens (now q) (hq .n) (hq .m) × (j < hq .n) × (ask .size ≤ 16) × Holds (now bits) (hp .n) ⌝ }
-    ensures { λ r. ⌜ r ≡ partners (onWords (now (bits .entry)) (now (p .entry)) (now (q .entry))) (ask .key) (ask .size) j (hp .n) 0 d ⌝ }
+    ensures { λ r. ⌜ r ≡ partners (onWords (profileFor (ask .terms)) (now (bits .entry)) (now (p .entry)) (now (q .entry))) (ask .key) (ask .size) j (hp .n) 0 d ⌝ }
 {
     let n = hp.n;
     let key = ask.key;
@@ -193,7 +201,7 @@ fn with_kept(
             return r;
         }
         if is_late(p, hp, q, hq, key, j, i) {
-            let v = walk::pair::pair_at(p, hp, q, hq, j, i);
+            let v = walk::pair::pair_by(p, hp, q, hq, j, i, ask.terms.grid);
             r = with_found(r, ask.size, v);
         }
         i = bits::next_from(bits, i + 1);
@@ -231,7 +239,7 @@ fn with_chamber(
     ensures { λ r. ⌜ r ≡ chamber (walksFor (walksBy (ask .terms) (length (now (bits .entry))) (now (p .entry)) (now (q .entry))) (hp .n) (ask .terms .threshold)) (ask .key) (ask .size) (hp .n) j d ⌝ }
 {
     let z = sheet::reads::spot_at(q, hq.n, hq.m, j);
-    let opened = walk::filter::filter_kept(p, hp.n, hp.m, z, bits);
+    let opened = walk::filter::kept_by(p, hp.n, hp.m, z, bits, ask.terms.grid);
     let mut r = d;
     r.opened = d.opened + opened;
     let terms = ask.terms;
@@ -240,7 +248,7 @@ fn with_chamber(
         let from = start_for(terms, j);
         return with_partners(p, hp, q, hq, ask, j, from, bits, r);
     }
-    let s = keep_clear(p, hp, q, hq, j, bits);
+    let s = keep_clear(p, hp, q, hq, terms, j, bits);
     r.opened = r.opened + s.opened;
     if s.count < t {
         return r;
@@ -250,7 +258,7 @@ fn with_chamber(
 
 // How many ring partners the q at position j has, or t where it has more: no kept partner is walked after the t-th.
 fn count_to(p: &[i32], hp: Size, q: &[i32], hq: Size, j: usize, t: usize, bits: &[u64]) -> usize
-    requires { ⌜ Opens (now p) (hp .n) (hp .m) × Opens (now q) (hq .n) (hq .m) × (j < hq .n) × Holds (now bits) (hp .n) × (now bits ≡ filterKept (length (now bits)) (now p) (spotOf (now q) j) .bits) ⌝ }
+    requires { ⌜ Opens (now p) (hp .n) (hp .m) × Opens (now q) (hq .n) (hq .m) × (j < hq .n) × Holds (now bits) (hp .n) × Agrees (walksOf false (length (now bits)) (now p) (now q)) j 0 (now bits) ⌝ }
     ensures { λ r. ⌜ r ≡ smaller t (partnersOf (pointsOf (now (p .entry))) (pointsOf (now (q .entry))) j) ⌝ }
 {
     let n = hp.n;

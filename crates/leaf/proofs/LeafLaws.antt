@@ -10,6 +10,8 @@ use lib.Dec.{eqb, ltb}
 use borrow.Author.Tests.{ltb-true, ltb-false, ne-eqb, not-true, not-false}
 use lib.IntN.{ℤ}
 use lib.ListN.{length}
+use Rattle.plane.specs.Profile.{circle}
+use Rattle.plane.proofs.ProfileLaws.{circle-lawful}
 use Rattle.integers.proofs.Bools.{and-left, and-right, and-both, or-false-right, decide, clash, test-iff}
 use Rattle.words.specs.All.{allB}
 use Rattle.words.proofs.AllLaws.{all-at, all-make}
@@ -362,19 +364,19 @@ module _ (words : ℕ) (P Q : List ℤ) (p-opens : Opens P (points P) (nodes P))
       j-in = chamber-in Q q-opens v v-in v-leaf h k
 
       clear-q : Bool
-      clear-q = unblocked (pointsOf Q) (spotOf Q (position h)) (spotOf P i)
+      clear-q = unblocked circle (pointsOf Q) (spotOf Q (position h)) (spotOf P i)
 
       clear-p : Bool
-      clear-p = unblocked (pointsOf P) (spotOf Q (position h)) (spotOf P i)
+      clear-p = unblocked circle (pointsOf P) (spotOf Q (position h)) (spotOf P i)
 
       both : (clear-q && clear-p) ≡ true
-      both = sym (pair-rule P Q (position h) i j-in l) ∙ e
+      both = sym (pair-rule circle P Q (position h) i j-in l) ∙ e
 
-      free-p : Free P (points P) (spotOf Q (position h)) (spotOf P i)
-      free-p = unblocked-free P (spotOf Q (position h)) (spotOf P i) (and-right clear-q clear-p both)
+      free-p : Free circle P (points P) (spotOf Q (position h)) (spotOf P i)
+      free-p = unblocked-free circle P (spotOf Q (position h)) (spotOf P i) (and-right clear-q clear-p both)
 
-      free-q : Free Q (points Q) (spotOf Q (position h)) (spotOf P i)
-      free-q = unblocked-free Q (spotOf Q (position h)) (spotOf P i) (and-left clear-q clear-p both)
+      free-q : Free circle Q (points Q) (spotOf Q (position h)) (spotOf P i)
+      free-q = unblocked-free circle Q (spotOf Q (position h)) (spotOf P i) (and-left clear-q clear-p both)
 
   -- a ring partner of a chamber is exactly a position kept for it whose ring walk is clear
   pub leaf-exact : (h i : ℕ) → h < countOf Q (points Q) v → i < points P
@@ -382,7 +384,7 @@ module _ (words : ℕ) (P Q : List ℤ) (p-opens : Opens P (points P) (nodes P))
   leaf-exact h i k l =
       let kept = leafKeeps (chamberSpot Q v) (countOf Q (points Q) v) words P h i in
       let walk = clear (pairWalk P Q (chamberAt Q v h) i .hit) in
-      let same = pair-clear P Q p-opens q-opens (chamberAt Q v h) i (chamber-in Q q-opens v v-in v-leaf h k) l in
+      let same = pair-clear circle circle-lawful P Q p-opens q-opens (chamberAt Q v h) i (chamber-in Q q-opens v v-in v-leaf h k) l in
       test-iff _ _
       (λ e. and-both kept walk (leaf-partner h i k l e) (same ∙ e))
       (λ e. sym same ∙ and-right kept walk e)

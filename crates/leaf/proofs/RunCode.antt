@@ -11,6 +11,8 @@ use lib.Dec.{ltb}
 use lib.IntN.{ℤ}
 use lib.ListN.{length}
 use borrow.Author.Tests.{ltb-true, ltb-false, lt-ltb}
+use Rattle.plane.specs.Profile.{circle}
+use Rattle.plane.proofs.ProfileLaws.{circle-lawful}
 use Rattle.integers.proofs.Bools.{and-left, and-right, decide, clash}
 use Rattle.bits.specs.Set.{kept, with, without, none, nextFrom}
 use Rattle.bits.proofs.SetLaws.{with-length, kept-only, none-kept, none-length}
@@ -530,9 +532,9 @@ module _ {P Q : List ℤ} {np mp nq mq v words : ℕ} (told : Told P np mp Q nq 
             told .q-opens .m-is,
             told .q-opens .m-le,
             leaf-opened (chamberSpot Q v) (countOf Q (points Q) v) words P (by-counts (told .p-opens)),
-            sift-room (walkOf P Q v words) _ _ b count opened x s (mp + mq) (λ y. omega (arith, told .p-opens .m-is, told .q-opens .m-is, pair-opened P Q (by-counts (told .p-opens)) (by-counts (told .q-opens)) (chamberAt Q v (y / (64 * words))) (y % (64 * words)))),
+            sift-room (walkOf P Q v words) _ _ b count opened x s (mp + mq) (λ y. omega (arith, told .p-opens .m-is, told .q-opens .m-is, pair-opened circle circle-lawful P Q (by-counts (told .p-opens)) (by-counts (told .q-opens)) (chamberAt Q v (y / (64 * words))) (y % (64 * words)))),
             ap (λ (y : Answer). y .opened) f,
-            pair-opened P Q (by-counts (told .p-opens)) (by-counts (told .q-opens)) j i,
+            pair-opened circle circle-lawful P Q (by-counts (told .p-opens)) (by-counts (told .q-opens)) j i,
           )
 
       -- one turn: the bit stays, or is taken out

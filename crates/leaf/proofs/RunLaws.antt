@@ -9,6 +9,7 @@ use native.Mathlib.Omega.{arith}
 use native.Mathlib.Nat.{pos-of-ne-zero}
 use lib.IntN.{ℤ}
 use lib.ListN.{length, getD}
+use Rattle.plane.specs.Profile.{circle}
 use Rattle.integers.proofs.Bools.{decide}
 use Rattle.plane.specs.Point.{idAt}
 use Rattle.sheet.specs.Layout.{points, nodes}
@@ -121,7 +122,7 @@ module _ (P Q : List ℤ) (p-opens : Opens P (points P) (nodes P)) (q-opens : Op
     run-listed x m =
         let y = run-placed x m in
         subst (λ (u : Pair). List·Memᴰ u (ringList (pointsOf P) (pointsOf Q))) (sym (y .is))
-        (ring-iff (pointsOf P) (pointsOf Q) rise-p rise-q (chamberAt Q v (y .at-q)) (y .at-p) (omega (arith, length-points Q, chamber-in Q q-opens v v-in v-leaf (y .at-q) (y .q-in))) (omega (arith, length-points P, y .p-in)) .1 (y .holds))
+        (ring-iff circle (pointsOf P) (pointsOf Q) rise-p rise-q (chamberAt Q v (y .at-q)) (y .at-p) (omega (arith, length-points Q, chamber-in Q q-opens v v-in v-leaf (y .at-q) (y .q-in))) (omega (arith, length-points P, y .p-in)) .1 (y .holds))
 
     -- .. each of them ..
     pub run-holds : (k i : ℕ) → k < countOf Q (points Q) v → i < points P → ringPair (pointsOf P) (pointsOf Q) (chamberAt Q v k) i ≡ true → List·Memᴰ (pairAt (pointsOf P) (pointsOf Q) (chamberAt Q v k) i) (leafList P Q v)
@@ -153,7 +154,7 @@ module _ (P Q : List ℤ) (p-opens : Opens P (points P) (nodes P)) (q-opens : Op
   listed-run x m = record { leaf = v .node; here = v .here; level = v .level; in-run = there; only = only }
     where
       y : Placed (ringPair (pointsOf P) (pointsOf Q)) (pairAt (pointsOf P) (pointsOf Q)) (length (pointsOf P)) (length (pointsOf Q)) x
-      y = ring-only (pointsOf P) (pointsOf Q) rise-p rise-q x m
+      y = ring-only circle (pointsOf P) (pointsOf Q) rise-p rise-q x m
 
       j-in : y .at-q < points Q
       j-in = omega (arith, length-points Q, y .q-in)

@@ -16,7 +16,7 @@ use Rattle.list.specs.declared.Page.{Page}
 use Rattle.list.specs.Pairs.{start, none, follows, after, lastOr, isNone}
 use Rattle.list.specs.Pages.{padded, shown, pageOf}
 use Rattle.list.specs.Rows.{row, rows, atLeast, listBy}
-use Rattle.list.specs.RingList.{unblocked, ringPair, ringList}
+use Rattle.list.specs.RingList.{unblocked, ringPairBy, ringPair, ringListBy, ringList}
 use Rattle.list.specs.Terms.{full, withT, pairFor, listedFor, listFor}
 
 abbrev at : ℕ → ℕ → ℕ → Point
@@ -61,7 +61,7 @@ pub record Listed : Type 0 where
   of-three : listFor (withT 3) pumps chambers ≡ []
 
 pub listed : Listed
-unfolding ringList listBy rows row ringPair unblocked allB sameSpot blocks pageOf padded shown after follows lastOr isNone atLeast pairFor listedFor listFor
+unfolding ringListBy listBy rows row ringPairBy unblocked allB sameSpot blocks pageOf padded shown after follows lastOr isNone atLeast pairFor listedFor listFor
 listed = record { listing = refl; first = refl; second = refl; third = refl; between = refl; full = refl; of-none = refl; of-one = refl; of-two = refl; of-three = refl }
 
 -- "01's two examples with records on one spot turn round": a record of either set at the place of an end doesn't count as another point
@@ -78,6 +78,6 @@ pub record Starred : Type 0 where
   third-p : ringPair (at 1 7 7 ∷ at 2 7 7 ∷ []) (at 1 7 7 ∷ []) 0 0 ≡ true
 
 pub list-starred : Starred
-unfolding ringPair unblocked allB sameSpot blocks
+unfolding ringPairBy unblocked allB sameSpot blocks
 list-starred =
     record { alone = refl; beside = refl; on-end-q = refl; on-end-p = refl; one-spot = refl; one-off = refl; third-q = refl; third-p = refl }

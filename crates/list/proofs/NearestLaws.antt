@@ -15,16 +15,17 @@ use Rattle.integers.proofs.Bools.{and-both, decide}
 use Rattle.words.proofs.AllLaws.{all-make, below-suc}
 use Rattle.plane.specs.declared.Spot.{Spot}
 use Rattle.plane.specs.Rule.{blocks, size}
+use Rattle.plane.specs.Profile.{circle}
 use Rattle.plane.specs.Point.{Point, spotAt}
 use Rattle.plane.proofs.NearLaws.{nearer-left, nearer-right}
 use Rattle.list.specs.declared.Pair.{Pair}
 use Rattle.list.specs.Rows.{listBy}
-use Rattle.list.specs.RingList.{unblocked, ringPair, pairAt, ringList}
+use Rattle.list.specs.RingList.{unblocked, ringPairBy, ringPair, pairAt, ringListBy, ringList}
 use Rattle.list.specs.Nearest.{Nearest}
 use Rattle.list.proofs.RowLaws.{placed-rows}
 
 -- no record blocks, if none that blocks is there
-none-blocks : (s : List Point) (a b : Spot) → ((k : ℕ) → k < length s → blocks a b (spotAt s k) ≡ true → ⊥) → unblocked s a b ≡ true
+none-blocks : (s : List Point) (a b : Spot) → ((k : ℕ) → k < length s → blocks a b (spotAt s k) ≡ true → ⊥) → unblocked circle s a b ≡ true
 unfolding unblocked
 none-blocks s a b f =
     all-make (λ k. not (blocks a b (spotAt s k))) (length s)
@@ -38,7 +39,7 @@ module _ (P Q : List Point) where
   -- "every pump house and chamber at the least distance of all such couples is a ring pair": what blocks the pair would make a nearer couple, with p if it is a
   -- chamber and with q if it is a pump house
   pub nearest-pair : (j i : ℕ) → Nearest P Q j i → ringPair P Q j i ≡ true
-  unfolding ringPair
+  unfolding ringPairBy
   nearest-pair j i n =
       let a = spotAt Q j in
       let b = spotAt P i in
@@ -46,7 +47,7 @@ module _ (P Q : List Point) where
       λ k h e. no-way (size (spotAt Q k) b) (size a b) (nearer-right a b (spotAt Q k) e) (n .least k i h (n .p-in)) in
       let of-p : (k : ℕ) → k < length P → blocks a b (spotAt P k) ≡ true → ⊥ =
       λ k h e. no-way (size a (spotAt P k)) (size a b) (nearer-left a b (spotAt P k) e) (n .least j k (n .q-in) h) in
-      and-both (unblocked Q a b) (unblocked P a b) (none-blocks Q a b of-q) (none-blocks P a b of-p)
+      and-both (unblocked circle Q a b) (unblocked circle P a b) (none-blocks Q a b of-q) (none-blocks P a b of-p)
     where
       no-way : (x y : ℤ) → x <ℤ y → y ≤ℤ x → ⊥
       no-way x y h k = omega zl
@@ -110,7 +111,7 @@ module _ (P Q : List Point) (some-p : 0 < length P) (some-q : 0 < length Q) wher
 
   -- "so the list is not empty"
   pub list-never-empty : 0 < length (ringList P Q)
-  unfolding ringList listBy
+  unfolding ringListBy listBy
   list-never-empty =
       let c = couple in
       let n = c .nearest in

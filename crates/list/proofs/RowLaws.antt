@@ -9,21 +9,20 @@ use native.Mathlib.Omega.{arith}
 use native.Mathlib.Numerals.{add-one}
 use native.Mathlib.Nat.{eq-or-lt-of-le, le-antisymm}
 use lib.Dec.{ltb}
-use borrow.Author.Tests.{ltb-true, ltb-false}
-use lib.IntN.{pos, natAbs}
+use borrow.Author.Tests.{ltb-true, ltb-false, le-leb}
 use lib.ListN.{length, getD}
 use Rattle.integers.proofs.Bools.{decide, and-both}
-use Rattle.integers.proofs.Order.{in-+, in--, in-*, in-up}
-use Rattle.words.specs.Range.{lastId, idOk, sizeOk}
-use Rattle.words.proofs.RangeLaws.{id-make, id-bounds, size-make}
+use Rattle.words.specs.Range.{lastId, idOk}
+use Rattle.words.proofs.RangeLaws.{id-make, id-bounds}
 use Rattle.plane.specs.declared.Spot.{Spot}
-use Rattle.plane.specs.Rule.{SpotIn, size}
+use Rattle.plane.specs.Profile.{Profile, circle, profileOf, sizeOk}
+use Rattle.plane.proofs.ProfileLaws.{profile-lawful}
 use Rattle.plane.specs.Point.{Point, idAt, spotAt}
 use Rattle.list.specs.declared.Key.{Key}
 use Rattle.list.specs.declared.Pair.{Pair}
 use Rattle.list.specs.Pairs.{start, none, keyOf, follows, ascends, lastOr}
 use Rattle.list.specs.Rows.{row, rows, listBy, Rising, Named}
-use Rattle.list.specs.RingList.{ringPair, sizeOf, pairAt, ringList, Sound}
+use Rattle.list.specs.RingList.{ringPairBy, pairBy, ringListBy, Sound, Reached}
 use Rattle.list.proofs.Order.{by-q, by-p, asc-append, once}
 
 -- ids of later positions are greater
@@ -180,41 +179,34 @@ module _ (rule : ℕ → ℕ → Bool) (pair : ℕ → ℕ → Pair) (qid pid : 
 
 -- ---- the list of the ring pairs
 
-pub named : (P Q : List Point) → Named (pairAt P Q) (idAt Q) (idAt P)
-named P Q = record { q-is = λ j i. refl; p-is = λ j i. refl }
+pub named : (f : Profile) (P Q : List Point) → Named (pairBy f P Q) (idAt Q) (idAt P)
+named f P Q = record { q-is = λ j i. refl; p-is = λ j i. refl }
 
--- a pair that has the ids of two records and the squared diameter of their places is the pair of their positions
-pub pair-made : (P Q : List Point) (j i a b d : ℕ) (y z : Spot) → a ≡ idAt Q j → b ≡ idAt P i → y ≡ spotAt Q j → z ≡ spotAt P i → pos d ≡ size y z → _≡_ {A = Pair} (record { q = a; p = b; size = d }) (pairAt P Q j i)
-pair-made P Q j i a b d y z ea eb ey ez ed = λ t. record { q = ea t; p = eb t; size = (ap natAbs ed ∙ ap₂ sizeOf ey ez) t }
-
--- the size of two places where points of sheets may stand is in range
-pub size-most : (a b : Spot) → SpotIn a → SpotIn b → sizeOk (sizeOf a b) ≡ true
-size-most a b h k =
-    let x = in-- (h .x-in) (k .x-in) in
-    let y = in-- (h .y-in) (k .y-in) in
-    size-make (sizeOf a b) (in-up (in-+ (in-* x x) (in-* y y)) tt .abs)
+-- a pair that has the ids of two records and the size of their places is the pair of their positions
+pub pair-made : (f : Profile) (P Q : List Point) (j i a b d : ℕ) (y z : Spot) → a ≡ idAt Q j → b ≡ idAt P i → y ≡ spotAt Q j → z ≡ spotAt P i → d ≡ f .size y z → _≡_ {A = Pair} (record { q = a; p = b; size = d }) (pairBy f P Q j i)
+pair-made f P Q j i a b d y z ea eb ey ez ed = λ t. record { q = ea t; p = eb t; size = (ed ∙ ap₂ (f .size) ey ez) t }
 
 pub id-in : (id : ℕ → ℕ) (n : ℕ) → Rising id n → (i : ℕ) → i < n → idOk (id i) ≡ true
 id-in id n r i h = id-make (id i) (r .low i h) (r .high i h)
 
 -- ---- the list of any rule on two sets of points
 
-module _ (rule : ℕ → ℕ → Bool) (P Q : List Point) (rp : Rising (idAt P) (length P)) (rq : Rising (idAt Q) (length Q)) where
+module _ (f : Profile) (rule : ℕ → ℕ → Bool) (P Q : List Point) (rp : Rising (idAt P) (length P)) (rq : Rising (idAt Q) (length Q)) where
   -- the list
   abbrev pub Made : List Pair
-  Made = listBy rule (pairAt P Q) (length P) (length Q)
+  Made = listBy rule (pairBy f P Q) (length P) (length Q)
 
   -- it runs by q id, then p id
   pub made-ascends : ascends start Made ≡ true
-  made-ascends = ring-list-ascends _ _ (idAt Q) (idAt P) (named P Q) _ _ rq rp
+  made-ascends = ring-list-ascends _ _ (idAt Q) (idAt P) (named f P Q) _ _ rq rp
 
   -- it holds a chamber and a pump house, by ids, exactly if the rule makes them a pair ..
-  pub made-iff : (j i : ℕ) → j < length Q → i < length P → List·Memᴰ (pairAt P Q j i) Made ↔ (rule j i ≡ true)
-  made-iff j i a b = listed-iff _ _ (idAt Q) (idAt P) (named P Q) _ _ rq rp j i a b
+  pub made-iff : (j i : ℕ) → j < length Q → i < length P → List·Memᴰ (pairBy f P Q j i) Made ↔ (rule j i ≡ true)
+  made-iff j i a b = listed-iff _ _ (idAt Q) (idAt P) (named f P Q) _ _ rq rp j i a b
 
   -- .. it holds nothing else ..
-  pub made-only : (v : Pair) → List·Memᴰ v Made → Placed rule (pairAt P Q) (length P) (length Q) v
-  made-only v m = listed-holds _ _ (idAt Q) (idAt P) (named P Q) _ _ rq rp v m
+  pub made-only : (v : Pair) → List·Memᴰ v Made → Placed rule (pairBy f P Q) (length P) (length Q) v
+  made-only v m = listed-holds _ _ (idAt Q) (idAt P) (named f P Q) _ _ rq rp v m
 
   -- .. the ids of each pair are in range, and so is its key ..
   pub made-ids : (v : Pair) → List·Memᴰ v Made → (idOk (v .q) ≡ true) × (idOk (v .p) ≡ true)
@@ -225,43 +217,48 @@ module _ (rule : ℕ → ℕ → Bool) (P Q : List Point) (rp : Rising (idAt P) 
   pub made-keys : (v : Pair) → List·Memᴰ v Made → (v .q ≤ lastId) × (v .p ≤ lastId)
   made-keys v m = let z = made-ids v m in (id-bounds (v .q) (z .0) .1, id-bounds (v .p) (z .1) .1)
 
-  -- .. and its size is the squared diameter of the places of its two records
-  pub made-size : (v : Pair) → List·Memᴰ v Made → (j i : ℕ) → j < length Q → i < length P → idAt Q j ≡ v .q → idAt P i ≡ v .p → v .size ≡ sizeOf (spotAt Q j) (spotAt P i)
-  made-size v m j i a b e f =
+  -- .. and its size is that of the places of its two records
+  pub made-size : (v : Pair) → List·Memᴰ v Made → (j i : ℕ) → j < length Q → i < length P → idAt Q j ≡ v .q → idAt P i ≡ v .p → v .size ≡ f .size (spotAt Q j) (spotAt P i)
+  made-size v m j i a b e d =
       let z = made-only v m in
       let x : z .at-q ≡ j = by-id (idAt Q) (length Q) rq (z .at-q) j (z .q-in) a (sym (e ∙ ap (λ (u : Pair). u .q) (z .is))) in
-      let y : z .at-p ≡ i = by-id (idAt P) (length P) rp (z .at-p) i (z .p-in) b (sym (f ∙ ap (λ (u : Pair). u .p) (z .is))) in
-      ap (λ (u : Pair). u .size) (z .is) ∙ ap₂ (λ (s t : ℕ). sizeOf (spotAt Q s) (spotAt P t)) x y
+      let y : z .at-p ≡ i = by-id (idAt P) (length P) rp (z .at-p) i (z .p-in) b (sym (d ∙ ap (λ (u : Pair). u .p) (z .is))) in
+      ap (λ (u : Pair). u .size) (z .is) ∙ ap₂ (λ (s t : ℕ). f .size (spotAt Q s) (spotAt P t)) x y
 
--- of sound sets of points, the size of each pair is in range too
-pub made-sizes : (rule : ℕ → ℕ → Bool) (P Q : List Point) (sp : Sound P) (sq : Sound Q) (v : Pair) → List·Memᴰ v (Made rule P Q (sp .rising) (sq .rising)) → sizeOk (v .size) ≡ true
-made-sizes rule P Q sp sq v m =
-    let z = made-only rule P Q (sp .rising) (sq .rising) v m in
-    rw (z .is) (size-most (spotAt Q (z .at-q)) (spotAt P (z .at-p)) (sq .near (z .at-q) (z .q-in)) (sp .near (z .at-p) (z .p-in)))
+-- of points in reach of the profile, the size of each pair is in range too
+pub made-sizes : (g : Bool) (rule : ℕ → ℕ → Bool) (P Q : List Point) (rp : Rising (idAt P) (length P)) (rq : Rising (idAt Q) (length Q)) → Reached (profileOf g) P → Reached (profileOf g) Q → (v : Pair) → List·Memᴰ v (Made (profileOf g) rule P Q rp rq) → sizeOk g (v .size) ≡ true
+unfolding sizeOk
+made-sizes g rule P Q rp rq np nq v m =
+    let z = made-only (profileOf g) rule P Q rp rq v m in
+    rw (z .is) (le-leb (profileOf g .size (spotAt Q (z .at-q)) (spotAt P (z .at-p))) (profileOf g .most) (profile-lawful g .size-most (spotAt Q (z .at-q)) (spotAt P (z .at-p)) (nq .in-reach (z .at-q) (z .q-in)) (np .in-reach (z .at-p) (z .p-in))))
+
+-- sets of points as sheets hold them are in reach of the circle
+pub sound-reached : (s : List Point) → Sound s → Reached circle s
+sound-reached s h = record { in-reach = h .near }
 
 -- ---- the ring pairs' list
 
-module _ (P Q : List Point) (rp : Rising (idAt P) (length P)) (rq : Rising (idAt Q) (length Q)) where
-  pub ring-ascends : ascends start (ringList P Q) ≡ true
-  unfolding ringList
-  ring-ascends = made-ascends (ringPair P Q) P Q rp rq
+module _ (f : Profile) (P Q : List Point) (rp : Rising (idAt P) (length P)) (rq : Rising (idAt Q) (length Q)) where
+  pub ring-ascends : ascends start (ringListBy f P Q) ≡ true
+  unfolding ringListBy
+  ring-ascends = made-ascends f (ringPairBy f P Q) P Q rp rq
 
-  pub ring-iff : (j i : ℕ) → j < length Q → i < length P → List·Memᴰ (pairAt P Q j i) (ringList P Q) ↔ (ringPair P Q j i ≡ true)
-  unfolding ringList
-  ring-iff = made-iff (ringPair P Q) P Q rp rq
+  pub ring-iff : (j i : ℕ) → j < length Q → i < length P → List·Memᴰ (pairBy f P Q j i) (ringListBy f P Q) ↔ (ringPairBy f P Q j i ≡ true)
+  unfolding ringListBy
+  ring-iff = made-iff f (ringPairBy f P Q) P Q rp rq
 
-  pub ring-only : (v : Pair) → List·Memᴰ v (ringList P Q) → Placed (ringPair P Q) (pairAt P Q) (length P) (length Q) v
-  unfolding ringList
-  ring-only = made-only (ringPair P Q) P Q rp rq
+  pub ring-only : (v : Pair) → List·Memᴰ v (ringListBy f P Q) → Placed (ringPairBy f P Q) (pairBy f P Q) (length P) (length Q) v
+  unfolding ringListBy
+  ring-only = made-only f (ringPairBy f P Q) P Q rp rq
 
-  pub ring-keys : (v : Pair) → List·Memᴰ v (ringList P Q) → (v .q ≤ lastId) × (v .p ≤ lastId)
-  unfolding ringList
-  ring-keys = made-keys (ringPair P Q) P Q rp rq
+  pub ring-keys : (v : Pair) → List·Memᴰ v (ringListBy f P Q) → (v .q ≤ lastId) × (v .p ≤ lastId)
+  unfolding ringListBy
+  ring-keys = made-keys f (ringPairBy f P Q) P Q rp rq
 
-  pub ring-size : (v : Pair) → List·Memᴰ v (ringList P Q) → (j i : ℕ) → j < length Q → i < length P → idAt Q j ≡ v .q → idAt P i ≡ v .p → v .size ≡ sizeOf (spotAt Q j) (spotAt P i)
-  unfolding ringList
-  ring-size = made-size (ringPair P Q) P Q rp rq
+  pub ring-size : (v : Pair) → List·Memᴰ v (ringListBy f P Q) → (j i : ℕ) → j < length Q → i < length P → idAt Q j ≡ v .q → idAt P i ≡ v .p → v .size ≡ f .size (spotAt Q j) (spotAt P i)
+  unfolding ringListBy
+  ring-size = made-size f (ringPairBy f P Q) P Q rp rq
 
   -- each pair stands there once
-  pub list-ring-once : (a b : ℕ) → a < b → b < length (ringList P Q) → getD (ringList P Q) a none ≡ getD (ringList P Q) b none → ⊥
-  list-ring-once a b h g e = once start (ringList P Q) ring-ascends a b h g e
+  pub list-ring-once : (a b : ℕ) → a < b → b < length (ringListBy f P Q) → getD (ringListBy f P Q) a none ≡ getD (ringListBy f P Q) b none → ⊥
+  list-ring-once a b h g e = once start (ringListBy f P Q) ring-ascends a b h g e

@@ -16,11 +16,12 @@ use lib.Dec.{eqb, leb}
 use lib.ListN.{length}
 use borrow.Author.Tests.{eq-eqb, ne-eqb, leb-true, le-leb}
 use Rattle.integers.proofs.Bools.{decide, and-left, and-right, and-both}
+use Rattle.plane.specs.Profile.{Profile}
 use Rattle.plane.specs.Point.{Point, idAt}
 use Rattle.list.specs.declared.Pair.{Pair}
 use Rattle.list.specs.Pairs.{chamberPairs}
 use Rattle.list.specs.Rows.{row, rows, atLeast, listBy, Rising, Named}
-use Rattle.list.specs.RingList.{pairAt}
+use Rattle.list.specs.RingList.{pairBy}
 use Rattle.list.proofs.RowLaws.{rises-far, named, made-iff, made-only}
 
 -- ---- the pairs of one chamber, in the list of any rule
@@ -112,19 +113,19 @@ least-row rule pair t n j (suc k) i = go (rule j i) (leb t (length (row rule pai
     go false true l m e = e
     go false false l m e = e
 
-module _ (rule : ℕ → ℕ → Bool) (P Q : List Point) (rp : Rising (idAt P) (length P)) (rq : Rising (idAt Q) (length Q)) where
+module _ (f : Profile) (rule : ℕ → ℕ → Bool) (P Q : List Point) (rp : Rising (idAt P) (length P)) (rq : Rising (idAt Q) (length Q)) where
   -- the rule's list, and of it the chambers with at least t pairs
   abbrev All : List Pair
-  All = listBy rule (pairAt P Q) (length P) (length Q)
+  All = listBy rule (pairBy f P Q) (length P) (length Q)
 
   abbrev Least : ℕ → List Pair
-  Least t = listBy (atLeast rule (pairAt P Q) t (length P)) (pairAt P Q) (length P) (length Q)
+  Least t = listBy (atLeast rule (pairBy f P Q) t (length P)) (pairBy f P Q) (length P) (length Q)
 
   abbrev rowOf : ℕ → List Pair
-  rowOf j = row rule (pairAt P Q) j (length P) 0
+  rowOf j = row rule (pairBy f P Q) j (length P) 0
 
   row-is : (j : ℕ) → j < length Q → chamberPairs (idAt Q j) All ≡ rowOf j
-  row-is j h = list-of rule (pairAt P Q) (idAt Q) (idAt P) (named P Q) (length P) (length Q) rq j h
+  row-is j h = list-of rule (pairBy f P Q) (idAt Q) (idAt P) (named f P Q) (length P) (length Q) rq j h
 
   -- the number of a chamber's pairs in the list
   pub row-listed : (j : ℕ) → j < length Q → length (rowOf j) ≡ length (chamberPairs (idAt Q j) All)
@@ -134,8 +135,8 @@ module _ (rule : ℕ → ℕ → Bool) (P Q : List Point) (rp : Rising (idAt P) 
     -- "all such chambers .. with all their pairs"
     pub least-pairs : (j : ℕ) → j < length Q → chamberPairs (idAt Q j) (Least t) ≡ cond (leb t (length (chamberPairs (idAt Q j) All))) (chamberPairs (idAt Q j) All) []
     least-pairs j h =
-        list-of (atLeast rule (pairAt P Q) t (length P)) (pairAt P Q) (idAt Q) (idAt P) (named P Q) (length P) (length Q) rq j h
-        ∙ least-row rule (pairAt P Q) t (length P) j (length P) 0
+        list-of (atLeast rule (pairBy f P Q) t (length P)) (pairBy f P Q) (idAt Q) (idAt P) (named f P Q) (length P) (length Q) rq j h
+        ∙ least-row rule (pairBy f P Q) t (length P) j (length P) 0
         ∙ ap (λ (n : ℕ). cond (leb t n) (rowOf j) []) (row-listed j h)
         ∙ ap (λ (l : List Pair). cond (leb t (length (chamberPairs (idAt Q j) All))) l []) (sym (row-is j h))
 
@@ -143,17 +144,17 @@ module _ (rule : ℕ → ℕ → Bool) (P Q : List Point) (rp : Rising (idAt P) 
     unfolding atLeast
     least-iff v = (
       λ m.
-          let z = made-only (atLeast rule (pairAt P Q) t (length P)) P Q rp rq v m in
+          let z = made-only f (atLeast rule (pairBy f P Q) t (length P)) P Q rp rq v m in
           let j = z .at-q in
           let i = z .at-p in
-          let here : List·Memᴰ (pairAt P Q j i) All = made-iff rule P Q rp rq j i (z .q-in) (z .p-in) .1 (and-left (rule j i) (leb t (length (rowOf j))) (z .holds)) in
+          let here : List·Memᴰ (pairBy f P Q j i) All = made-iff f rule P Q rp rq j i (z .q-in) (z .p-in) .1 (and-left (rule j i) (leb t (length (rowOf j))) (z .holds)) in
           let many : t ≤ length (rowOf j) = leb-true t (length (rowOf j)) (and-right (rule j i) (leb t (length (rowOf j))) (z .holds)) in
           rw (z .is) (here, omega (arith, row-listed j (z .q-in))),
       λ x.
-          let z = made-only rule P Q rp rq v (x .0) in
+          let z = made-only f rule P Q rp rq v (x .0) in
           let j = z .at-q in
           let i = z .at-p in
           let same : length (chamberPairs (v .q) All) ≡ length (rowOf j) = ap (λ (u : Pair). length (chamberPairs (u .q) All)) (z .is) ∙ sym (row-listed j (z .q-in)) in
           let many : leb t (length (rowOf j)) ≡ true = le-leb t (length (rowOf j)) (omega (arith, x .1)) in
-          rw (z .is) (made-iff (atLeast rule (pairAt P Q) t (length P)) P Q rp rq j i (z .q-in) (z .p-in) .1 (and-both (rule j i) (leb t (length (rowOf j))) (z .holds) many)),
+          rw (z .is) (made-iff f (atLeast rule (pairBy f P Q) t (length P)) P Q rp rq j i (z .q-in) (z .p-in) .1 (and-both (rule j i) (leb t (length (rowOf j))) (z .holds) many)),
     )

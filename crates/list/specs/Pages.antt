@@ -23,16 +23,25 @@ thresholdNo t = given (not (leb t lastThreshold)) 21
 unfoldable pub sizeNo : ℕ → ℕ
 sizeNo size = given (not (leb 1 size && leb size 16)) 10
 
+-- both or neither
+abbrev pub alike : Bool → Bool → Bool
+alike a b = (a && b) || (not a && not b)
+
 -- both are of self joins, or neither is [J10]
 abbrev pub sameKind : Source → Source → Bool
-sameKind a b = (a .terms .own && b .terms .own) || (not (a .terms .own) && not (b .terms .own))
+sameKind a b = alike (a .terms .own) (b .terms .own)
 
--- 22 "wrong kind", then 13 "page of other editions", then 31 "page of another t": the number for a page of `b` and a book of `a`, 0 where they are of one list
--- [N28, N32, O7, T11, J11]
+-- both are of the street grid, or neither is [A8, A14]
+abbrev pub sameProfile : Source → Source → Bool
+sameProfile a b = alike (a .terms .grid) (b .terms .grid)
+
+-- 22 "wrong kind", then 30 "page of the other profile", then 13 "page of other editions", then 31 "page of another t": the number for a page of `b` and a book of `a`, 0 where they are of one list
+-- [N28, N32, O7, T11, J11, A14]
 unfoldable pub sourceNo : Source → Source → ℕ
 sourceNo a b =
     first
     (given (not (sameKind a b)) 22
+    ∷ given (not (sameProfile a b)) 30
     ∷ given (not (eqb (a .«p_edition») (b .«p_edition») && eqb (a .«q_edition») (b .«q_edition»))) 13
     ∷ given (not (eqb (a .terms .threshold) (b .terms .threshold))) 31
     ∷ [])

@@ -10,11 +10,20 @@ use Rattle.list.specs.declared.Pair.{Pair}
 use Rattle.list.specs.declared.Request.{Request}
 use Rattle.list.specs.declared.Terms.{Terms}
 use Rattle.list.specs.Rows.{atLeast, listBy}
-use Rattle.list.specs.RingList.{ringPair, pairAt}
+use Rattle.plane.specs.Profile.{Profile, profileOf}
+use Rattle.list.specs.RingList.{ringPairBy, pairBy}
 
--- the terms of the full list of two sheets, of the list of t, "0 for the full list", and of a self join, "with [..] t 0" [T5]
+-- the terms of either profile's list of t of two sheets, "0 for the full list", and of its self join, "with [..] t 0" [A8]
+abbrev pub withBy : Bool → ℕ → Terms
+withBy g t = record { threshold = t; own = false; grid = g }
+
+-- [A8]
+abbrev pub aloneBy : Bool → Terms
+aloneBy g = record { threshold = 0; own = true; grid = g }
+
+-- those of the circle [T5]
 abbrev pub withT : ℕ → Terms
-withT t = record { threshold = t; own = false }
+withT = withBy false
 
 -- [T5]
 abbrev pub full : Terms
@@ -22,24 +31,28 @@ full = withT 0
 
 -- [J1, J2, J5]
 abbrev pub alone : Terms
-alone = record { threshold = 0; own = true }
+alone = aloneBy false
 
 -- terms of either kind, the rest as it is; and the page request of terms of two sheets
 abbrev pub ofKind : Bool → Terms → Terms
-ofKind k a = record { threshold = a .threshold; own = k }
+ofKind k a = record { threshold = a .threshold; own = k; grid = a .grid }
 
 abbrev pub requestOf : Terms → Key → ℕ → Request
-requestOf a key size = record { key = key; size = size; threshold = a .threshold }
+requestOf a key size = record { key = key; size = size; threshold = a .threshold; grid = a .grid }
 
--- The rule of the terms, t apart: the ring rule. A self join is of one set in both places: "pairs of two different records of one sheet, lower id first", in which q is
+-- the profile of the terms [A10]
+abbrev pub profileFor : Terms → Profile
+profileFor a = profileOf (a .grid)
+
+-- The rule of the terms, t apart: the ring rule of their profile. A self join is of one set in both places: "pairs of two different records of one sheet, lower id first", in which q is
 -- the lower id, p the higher; "blocked by the other records of that sheet". [J1, J3]
 unfoldable pub pairFor : Terms → List Point → List Point → ℕ → ℕ → Bool
-pairFor a P Q j i = (not (a .own) || ltb (idAt Q j) (idAt P i)) && ringPair P Q j i
+pairFor a P Q j i = (not (a .own) || ltb (idAt Q j) (idAt P i)) && ringPairBy (profileFor a) P Q j i
 
 -- "list all such chambers by id with all their pairs": those of the rule, of the chambers that have at least t of them [T3]
 unfoldable pub listedFor : Terms → List Point → List Point → ℕ → ℕ → Bool
-listedFor a P Q = atLeast (pairFor a P Q) (pairAt P Q) (a .threshold) (length P)
+listedFor a P Q = atLeast (pairFor a P Q) (pairBy (profileFor a) P Q) (a .threshold) (length P)
 
--- "The list runs by q id, then p id" [P12, T3, J2, J6, D3]
+-- "The list runs by q id, then p id" [P12, T3, J2, J6, A10, D3]
 unfoldable pub listFor : Terms → List Point → List Point → List Pair
-listFor a P Q = listBy (listedFor a P Q) (pairAt P Q) (length P) (length Q)
+listFor a P Q = listBy (listedFor a P Q) (pairBy (profileFor a) P Q) (length P) (length Q)

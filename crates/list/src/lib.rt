@@ -19,12 +19,13 @@ pub struct Pair {
     pub size: u64,
 }
 
-// What is asked of a list beside its points: the number of partners that a chamber must have to be listed, 0 for the full list, and the kind: whether it is the self
-// join of one sheet. [T5]
+// What is asked of a list beside its points: the number of partners that a chamber must have to be listed, 0 for the full list; the kind: whether it is the self join of
+// one sheet; and the profile: whether it is the street grid's. [T5, A8]
 #[repr(C)]
 pub struct Terms {
     pub threshold: u32,
     pub own: bool,
+    pub grid: bool,
 }
 
 // What list a page or a book is of: two editions and the terms. The edition of a self join's sheet stands twice. [T5, J10]
@@ -35,12 +36,13 @@ pub struct Source {
     pub terms: Terms,
 }
 
-// What a page request asks for: the pairs strictly after a key, how many of them, and of which list. [P1]
+// What a page request asks for: the pairs strictly after a key, how many of them, and of which list. [P1, A8]
 #[repr(C)]
 pub struct Request {
     pub key: Key,
     pub size: usize,
     pub threshold: u32,
+    pub grid: bool,
 }
 
 // One page of a list: the pairs that follow a key, how many they are, and whether none follows them. [P7, F3]
@@ -103,6 +105,9 @@ pub fn source_no(a: Source, b: Source) -> u32
 {
     if !((a.terms.own & b.terms.own) | (!a.terms.own & !b.terms.own)) {
         return 22;
+    }
+    if !((a.terms.grid & b.terms.grid) | (!a.terms.grid & !b.terms.grid)) {
+        return 30;
     }
     if !((a.p_edition == b.p_edition) & (a.q_edition == b.q_edition)) {
         return 13;

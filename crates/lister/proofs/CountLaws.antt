@@ -15,7 +15,7 @@ use Rattle.list.specs.declared.Pair.{Pair}
 use Rattle.list.specs.Pairs.{start, after, isNone}
 use Rattle.list.specs.Pages.{shown}
 use Rattle.list.specs.Rows.{row, rows, listBy}
-use Rattle.list.specs.RingList.{ringList, ringPair, pairAt}
+use Rattle.list.specs.RingList.{ringListBy, ringPair, pairAt}
 use Rattle.list.proofs.Order.{after-all}
 use Rattle.list.proofs.PageLaws.{after-shown, none-drop}
 use Rattle.ring.specs.declared.Head.{Head}
@@ -54,7 +54,7 @@ toGo l key false = suc (length (after key l))
 
 module _ {P Q : List ℤ} {hp hq : Head} (b : Both P hp Q hq) where
   pub pairs-few : length (pairsOf P Q) ≤ 3600000000
-  unfolding ringList listBy
+  unfolding ringListBy listBy
   pairs-few =
       let p = length-points P ∙ b .p-opens .n-is in
       let q = length-points Q ∙ b .q-opens .n-is in

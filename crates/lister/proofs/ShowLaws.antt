@@ -1,6 +1,6 @@
 -- What a page of two sheets' list shows. Assumes nothing.
 use mathlib.Core.Path.{_≡_, refl, sym, ap, subst, _∙_}
-use mathlib.Core.Bool.{true}
+use mathlib.Core.Bool.{false, true}
 use mathlib.Core.List.{List, List·Memᴰ}
 use Prim.Native.Nat.{ℕ, suc, _≤_, _<_}
 use native.Mathlib.Omega.{arith}
@@ -9,6 +9,7 @@ use lib.IntN.{ℤ}
 use lib.ListN.{length, take, getD}
 use lib.Seq.{getD-take}
 use lib.Dec.{eqb}
+use Rattle.plane.specs.Profile.{circle}
 use Rattle.words.proofs.AllLaws.{first-in, first-hit}
 use Rattle.plane.specs.Point.{Point, idAt}
 use Rattle.sheet.specs.Places.{pointsOf}
@@ -29,7 +30,7 @@ use Rattle.ring.specs.declared.Head.{Head}
 use Rattle.ring.specs.declared.Paged.{Paged}
 use Rattle.ring.specs.Page.{sourceOf, pageGiven, pageAnswer}
 use Rattle.ring.proofs.HeadLaws.{sheets-both}
-use Rattle.ring.proofs.PageLaws.{ring-page-served}
+use Rattle.ring.proofs.PageLaws.{ring-page-served, circle-any-form}
 use Rattle.lister.specs.Listing.{Has, standsAt, HasBoth}
 use Rattle.lister.specs.Outcome.{firstNo, Both, InRange, pairsOf}
 use Rattle.sheet.specs.Find.{positionOf}
@@ -61,24 +62,24 @@ pub page-is : (P Q : List ℤ) → firstNo P ≡ 0 → firstNo Q ≡ 0 → (key 
 unfolding pageGiven
 page-is P Q p q key h a e =
     ap (λ (x : Paged). x .page)
-    (e ∙ ring-page-served P Q (requestOf full key 16) 16 (sheets-both P Q (listed-first P p) (listed-first Q q)) (h .0) (h .1) (omega arith) (omega arith) (omega arith) (first-need P p))
-    ∙ ap (λ (l : List Pair). pageOf (sourceOf P Q full) l key 16) (full-ring-list (pointsOf P) (pointsOf Q))
+    (e ∙ ring-page-served P Q (requestOf full key 16) 16 (sheets-both P Q (listed-first P p) (listed-first Q q)) (circle-any-form P Q) (h .0) (h .1) (omega arith) (omega arith) (omega arith) (first-need P p))
+    ∙ ap (λ (l : List Pair). pageOf (sourceOf P Q full) l key 16) (full-ring-list false (pointsOf P) (pointsOf Q))
 
 module _ {P Q : List ℤ} {hp hq : Head} (b : Both P hp Q hq) where
   pub ascending : ascends start (pairsOf P Q) ≡ true
-  ascending = ring-ascends (pointsOf P) (pointsOf Q) (points-rise (b .p-opens)) (points-rise (b .q-opens))
+  ascending = ring-ascends circle (pointsOf P) (pointsOf Q) (points-rise (b .p-opens)) (points-rise (b .q-opens))
 
   -- the ends of a listed pair are there, by ids in range
   member-has : (v : Pair) → List·Memᴰ v (pairsOf P Q) → HasBoth (pointsOf P) (pointsOf Q) v
   member-has v m =
-      let z = ring-only (pointsOf P) (pointsOf Q) (points-rise (b .p-opens)) (points-rise (b .q-opens)) v m in
+      let z = ring-only circle (pointsOf P) (pointsOf Q) (points-rise (b .p-opens)) (points-rise (b .q-opens)) v m in
       subst (HasBoth (pointsOf P) (pointsOf Q)) (sym (z .is)) (has (pointsOf Q) (z .at-q) (z .q-in), has (pointsOf P) (z .at-p) (z .p-in))
 
   -- the size of a listed pair, which its line ends with, is the squared diameter of the places of its two records
   pub line-size : (v : Pair) → List·Memᴰ v (pairsOf P Q) → v .size ≡ sizeOf (standsAt (pointsOf Q) (v .q)) (standsAt (pointsOf P) (v .p))
   line-size v m =
       let h = member-has v m in
-      ring-size (pointsOf P) (pointsOf Q) (points-rise (b .p-opens)) (points-rise (b .q-opens)) v m (positionOf (pointsOf Q) (v .q)) (positionOf (pointsOf P) (v .p)) (h .0) (h .1) (named (pointsOf Q) (v .q) (h .0)) (named (pointsOf P) (v .p) (h .1))
+      ring-size circle (pointsOf P) (pointsOf Q) (points-rise (b .p-opens)) (points-rise (b .q-opens)) v m (positionOf (pointsOf Q) (v .q)) (positionOf (pointsOf P) (v .p)) (h .0) (h .1) (named (pointsOf Q) (v .q) (h .0)) (named (pointsOf P) (v .p) (h .1))
 
   module _ (key : Key) (s : Source) (g : Page) (e : g ≡ pageOf s (pairsOf P Q) key 16) where
     pub page-count : g .count ≡ length (shown (pairsOf P Q) key 16)
@@ -107,4 +108,4 @@ module _ {P Q : List ℤ} {hp hq : Head} (b : Both P hp Q hq) where
         (member-has _ (shown-member (pairsOf P Q) key 16 _ (at-member (shown (pairsOf P Q) key 16) k (rw page-count at h))))
 
     pub next-in : InRange key → InRange (lastOr key (shown (pairsOf P Q) key 16))
-    next-in h = last-holds InRange key (shown (pairsOf P Q) key 16) h (λ v m. ring-keys (pointsOf P) (pointsOf Q) (points-rise (b .p-opens)) (points-rise (b .q-opens)) v (shown-member (pairsOf P Q) key 16 v m))
+    next-in h = last-holds InRange key (shown (pairsOf P Q) key 16) h (λ v m. ring-keys circle (pointsOf P) (pointsOf Q) (points-rise (b .p-opens)) (points-rise (b .q-opens)) v (shown-member (pairsOf P Q) key 16 v m))

@@ -37,6 +37,7 @@ fn page_after(p: &[i32], q: &[i32], key: Key) -> Page
         key: key,
         size: 16,
         threshold: 0,
+        grid: false,
     };
     let mut bits = [0u64; 16];
     let a = ring::page::page(p, q, request, &mut bits);

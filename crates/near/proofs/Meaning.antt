@@ -20,6 +20,8 @@ use Prim.Native.Nat.{ℕ, _*_, _<_, _≤_}
 use native.Mathlib.Omega.{arith}
 use lib.IntN.{ℤ}
 use lib.ListN.{length, getD}
+use Rattle.plane.specs.Profile.{circle}
+use Rattle.plane.proofs.ProfileLaws.{circle-lawful}
 use Rattle.integers.proofs.Bools.{and-right, and-both, decide, clash, test-iff}
 use Rattle.plane.specs.declared.Spot.{Spot}
 use Rattle.plane.specs.Rule.{drops}
@@ -89,7 +91,7 @@ unfolding drops
 partner-undropped P Q j i hj hi e b x =
     let q = spotOf Q j in
     let p = spotOf P i in
-    let free = unblocked-free P q p (and-right (unblocked (pointsOf Q) q p) (unblocked (pointsOf P) q p) (sym (pair-rule P Q j i hj hi) ∙ e)) in
+    let free = unblocked-free circle P q p (and-right (unblocked circle (pointsOf Q) q p) (unblocked circle (pointsOf P) q p) (sym (pair-rule circle P Q j i hj hi) ∙ e)) in
     clash (x .dropping) (free (x .by) (x .below))
 
 module _ (words : ℕ) (P Q : List ℤ) (p-opens : Opens P (points P) (nodes P)) (enough : points P ≤ 64 * words) (j i : ℕ) (j-in : j < points Q) (i-in : i < points P) where
@@ -105,7 +107,7 @@ module _ (words : ℕ) (P Q : List ℤ) (p-opens : Opens P (points P) (nodes P))
   pub near-exact : Opens Q (points Q) (nodes Q) → ringPair (pointsOf P) (pointsOf Q) j i ≡ (nearKeeps words P (spotOf Q j) i && clear (pairWalk P Q j i .hit))
   near-exact q-opens =
       let kept = nearKeeps words P (spotOf Q j) i in
-      let is-clear = pair-clear P Q p-opens q-opens j i j-in i-in in
+      let is-clear = pair-clear circle circle-lawful P Q p-opens q-opens j i j-in i-in in
       test-iff _ _
       (λ e. and-both kept (clear (pairWalk P Q j i .hit)) (near-partner e) (is-clear ∙ e))
       (λ e. sym is-clear ∙ and-right kept (clear (pairWalk P Q j i .hit)) e)

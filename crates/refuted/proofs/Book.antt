@@ -6,8 +6,9 @@ use Prim.Native.Nat.{ℕ, _+_, _-_}
 use lib.Dec.{eqb, leb, ltb}
 use lib.Seq.{paste}
 use lib.ListN.{length, getD, replicate}
-use Rattle.words.specs.Range.{idOk, editionOk, sizeOk}
+use Rattle.words.specs.Range.{idOk, editionOk}
 use Rattle.words.specs.First.{given, first, answer}
+use Rattle.plane.specs.Profile.{sizeOk}
 use Rattle.list.specs.declared.Key.{Key}
 use Rattle.list.specs.declared.Pair.{Pair}
 use Rattle.list.specs.declared.Source.{Source}
@@ -59,7 +60,7 @@ abbrev inRange : Source → ℕ
 inRange s = first (editionsAlone s ∷ thresholdNo (s .terms .threshold) ∷ [])
 
 abbrev ownWith : ℕ → Source
-ownWith t = source 7 7 (record { threshold = t; own = true })
+ownWith t = source 7 7 (record { threshold = t; own = true; grid = false })
 
 pub own-with-t-wrong : (inRange (ownWith 2) ≡ 0) × (beginNo (ownWith 2) ≡ 21)
 unfolding beginNo first given editionOk thresholdNo
@@ -130,7 +131,7 @@ past-held-wrong = (refl, refl)
 abbrev anySize : Pair → Bool
 anySize v = idOk (v .q) && idOk (v .p)
 
-pub any-size-wrong : (anySize (to 5 2 8000000000000000001) ≡ true) × (pairOk (to 5 2 8000000000000000001) ≡ false)
+pub any-size-wrong : (anySize (to 5 2 8000000000000000001) ≡ true) × (pairOk false (to 5 2 8000000000000000001) ≡ false)
 unfolding pairOk idOk sizeOk
 any-size-wrong = (refl, refl)
 
@@ -138,7 +139,7 @@ any-size-wrong = (refl, refl)
 abbrev oldLimit : Pair → Bool
 oldLimit v = idOk (v .q) && idOk (v .p) && leb (v .size) 8000000000000
 
-pub old-limit-wrong : (oldLimit (to 5 2 8000000000000000000) ≡ false) × (pairOk (to 5 2 8000000000000000000) ≡ true)
+pub old-limit-wrong : (oldLimit (to 5 2 8000000000000000000) ≡ false) × (pairOk false (to 5 2 8000000000000000000) ≡ true)
 unfolding pairOk idOk sizeOk
 old-limit-wrong = (refl, refl)
 
@@ -152,7 +153,7 @@ full-refused-wrong = (refl, refl)
 
 -- An empty page with no end mark. 15 is given for "no pair and no end mark". [N30]
 abbrev emptyOk : Page → Bool
-emptyOk g = not (ltb 16 (g .count)) && pairsOk (pagePairs g) && ascends (g .key) (pagePairs g)
+emptyOk g = not (ltb 16 (g .count)) && pairsOk false (pagePairs g) && ascends (g .key) (pagePairs g)
 
 pub empty-page-wrong : (emptyOk (page (key 5 1) false []) ≡ true) × (takeNo (book 1 false) slots (page (key 5 1) false []) ≡ 15)
 unfolding taken decided accepted refused advanced takeNo takeNoAt sourceNo first given answer sameKey pageBad pairsOk pairOk idOk sizeOk ascends follows pagePairs lastKey

@@ -10,6 +10,7 @@
 --     Runs        one run per leaf
 --     Nearest     nearest first: the order, the filter, the lent numbers
 --     Shortest    the shortest circles
+--     Streets     the street grid: what blocks, boxes, sizes, numbers
 --     Marker      the map marker
 pub mod Cases
 pub mod Plane
@@ -21,4 +22,5 @@ pub mod Book
 pub mod Runs
 pub mod Nearest
 pub mod Shortest
+pub mod Streets
 pub mod Marker

@@ -10,6 +10,7 @@ use Rattle.words.specs.All.{allB}
 use Rattle.words.specs.First.{given, first}
 use Rattle.plane.specs.declared.Spot.{Spot}
 use Rattle.plane.specs.Rule.{sameSpot, blocks, size}
+use Rattle.plane.specs.Profile.{circle}
 use Rattle.plane.specs.Point.{Point, idAt, spotAt}
 use Rattle.list.specs.declared.Key.{Key}
 use Rattle.list.specs.declared.Pair.{Pair}
@@ -17,7 +18,7 @@ use Rattle.list.specs.declared.Source.{Source}
 use Rattle.list.specs.Pairs.{start, none, keyOf, follows, after, lastOr, isNone}
 use Rattle.list.specs.Pages.{thresholdNo, sizeNo, sourceNo, padded, shown, pageOf}
 use Rattle.list.specs.Rows.{row, rows, atLeast, listBy}
-use Rattle.list.specs.RingList.{unblocked, ringPair, sizeOf, pairAt, ringList}
+use Rattle.list.specs.RingList.{unblocked, ringPairBy, ringPair, sizeOf, pairAt, ringListBy, ringList}
 use Rattle.list.specs.Terms.{full, withT, alone, pairFor, listedFor, listFor}
 use Rattle.refuted.proofs.Cases.{at, to, key, pumps, chambers}
 
@@ -25,23 +26,23 @@ use Rattle.refuted.proofs.Cases.{at, to, key, pumps, chambers}
 
 -- "an unchanging list": whatever it holds, it is not the list of all points. [R3, D2, V2]
 pub unchanging-wrong : (l : List Pair) → ((P Q : List Point) → ringList P Q ≡ l) → ⊥
-unfolding ringList listBy rows row ringPair unblocked allB sameSpot blocks isNone
+unfolding ringListBy listBy rows row ringPairBy unblocked allB sameSpot blocks isNone
 unchanging-wrong l same = true≢false (ap isNone (same [] [] ∙ sym (same pumps chambers)))
 
 -- Chambers alone block, or pump houses alone. "when no other record of P or Q blocks it". [R3]
 abbrev chambersBlock : List Point → List Point → ℕ → ℕ → Bool
-chambersBlock P Q j i = unblocked Q (spotAt Q j) (spotAt P i)
+chambersBlock P Q j i = unblocked circle Q (spotAt Q j) (spotAt P i)
 
 pub chambers-alone-wrong : (chambersBlock (at 1 4 0 ∷ at 2 2 0 ∷ []) (at 5 0 0 ∷ []) 0 0 ≡ true) × (ringPair (at 1 4 0 ∷ at 2 2 0 ∷ []) (at 5 0 0 ∷ []) 0 0 ≡ false)
-unfolding ringPair unblocked allB sameSpot blocks
+unfolding ringPairBy unblocked allB sameSpot blocks
 chambers-alone-wrong = (refl, refl)
 
 abbrev pumpsBlock : List Point → List Point → ℕ → ℕ → Bool
-pumpsBlock P Q j i = unblocked P (spotAt Q j) (spotAt P i)
+pumpsBlock P Q j i = unblocked circle P (spotAt Q j) (spotAt P i)
 
 -- [R3]
 pub pumps-alone-wrong : (pumpsBlock (at 1 4 0 ∷ []) (at 5 0 0 ∷ at 6 2 0 ∷ []) 0 0 ≡ true) × (ringPair (at 1 4 0 ∷ []) (at 5 0 0 ∷ at 6 2 0 ∷ []) 0 0 ≡ false)
-unfolding ringPair unblocked allB sameSpot blocks
+unfolding ringPairBy unblocked allB sameSpot blocks
 pumps-alone-wrong = (refl, refl)
 
 -- By p id, then q id. "The list runs by q id, then p id." [R4]
@@ -51,7 +52,7 @@ byPump P Q = listBy (λ i j. ringPair P Q j i) (λ i j. pairAt P Q j i) (length 
 pub by-pump-wrong :
     (byPump (at 1 10 0 ∷ at 2 0 0 ∷ []) (at 5 1 0 ∷ at 6 9 0 ∷ []) ≡ to 6 1 1 ∷ to 5 2 1 ∷ [])
     × (ringList (at 1 10 0 ∷ at 2 0 0 ∷ []) (at 5 1 0 ∷ at 6 9 0 ∷ []) ≡ to 5 2 1 ∷ to 6 1 1 ∷ [])
-unfolding ringList listBy rows row ringPair unblocked allB sameSpot blocks
+unfolding ringListBy listBy rows row ringPairBy unblocked allB sameSpot blocks
 by-pump-wrong = (refl, refl)
 
 -- The size of a pair from one of its ends. "Each pair [..] now has its squared diameter beside the ids." [Z1]
@@ -64,7 +65,7 @@ size-of-one-end-wrong = (refl, refl)
 -- Every chamber has a pair with the pump house nearest to it. Request 6 speaks of the least distance "of all such couples": here chamber 5's one pump house is
 -- blocked by chamber 6. [R6]
 pub own-nearest-wrong : ringPair (at 1 4 0 ∷ []) (at 5 0 0 ∷ at 6 2 0 ∷ []) 0 0 ≡ true → ⊥
-unfolding ringPair unblocked allB sameSpot blocks
+unfolding ringPairBy unblocked allB sameSpot blocks
 own-nearest-wrong e = true≢false (sym e)
 
 -- ---- a chamber's partners
@@ -74,7 +75,7 @@ abbrev moreThan : ℕ → List Point → List Point → List Pair
 moreThan t P Q = listBy (atLeast (ringPair P Q) (pairAt P Q) (suc t) (length P)) (pairAt P Q) (length P) (length Q)
 
 pub more-than-t-wrong : (moreThan 2 pumps chambers ≡ []) × (listFor (withT 2) pumps chambers ≡ to 5 1 16 ∷ to 5 2 36 ∷ [])
-unfolding listBy rows row atLeast pairFor listedFor listFor ringPair unblocked allB sameSpot blocks
+unfolding listBy rows row atLeast pairFor listedFor listFor ringPairBy unblocked allB sameSpot blocks
 more-than-t-wrong = (refl, refl)
 
 -- The first t pairs of such a chamber. "with all their pairs". [T3]
@@ -82,7 +83,7 @@ abbrev firstOnes : ℕ → List Point → List Point → List Pair
 firstOnes t P Q = take t (listFor (withT t) P Q)
 
 pub first-t-wrong : (firstOnes 1 pumps chambers ≡ to 5 1 16 ∷ []) × (listFor (withT 1) pumps chambers ≡ to 5 1 16 ∷ to 5 2 36 ∷ to 6 2 37 ∷ [])
-unfolding listBy rows row atLeast pairFor listedFor listFor ringPair unblocked allB sameSpot blocks
+unfolding listBy rows row atLeast pairFor listedFor listFor ringPairBy unblocked allB sameSpot blocks
 first-t-wrong = (refl, refl)
 
 -- t below 1,000. "Request 5's threshold goes to 60,000." [T9, Y13]
@@ -98,7 +99,7 @@ below-thousand-wrong = (refl, refl)
 -- The list of one sheet in both places. "One sheet used as both P and Q doesn't give a self join": each record is listed with itself, and two both ways. [B4, J1]
 pub both-ways-wrong :
     (ringList pumps pumps ≡ to 1 1 0 ∷ to 1 2 100 ∷ to 2 1 100 ∷ to 2 2 0 ∷ []) × (listFor alone pumps pumps ≡ to 1 2 100 ∷ [])
-unfolding ringList listBy rows row atLeast pairFor listedFor listFor ringPair unblocked allB sameSpot blocks
+unfolding ringListBy listBy rows row atLeast pairFor listedFor listFor ringPairBy unblocked allB sameSpot blocks
 both-ways-wrong = (refl, refl)
 
 -- The higher id first. "lower id first". [J1]
@@ -106,7 +107,7 @@ abbrev highFirst : List Point → List Pair
 highFirst S = listBy (λ j i. ltb (idAt S i) (idAt S j) && ringPair S S j i) (pairAt S S) (length S) (length S)
 
 pub high-first-wrong : (highFirst pumps ≡ to 2 1 100 ∷ []) × (listFor alone pumps pumps ≡ to 1 2 100 ∷ [])
-unfolding listBy rows row atLeast pairFor listedFor listFor ringPair unblocked allB sameSpot blocks
+unfolding listBy rows row atLeast pairFor listedFor listFor ringPairBy unblocked allB sameSpot blocks
 high-first-wrong = (refl, refl)
 
 -- Any two records. "Blocked by the other records of that sheet": (0, 0) and (10, 0) are, by the record between them. [J3]
@@ -117,7 +118,7 @@ abbrev inLine : List Point
 inLine = at 1 0 0 ∷ at 2 5 0 ∷ at 3 10 0 ∷ []
 
 pub any-two-wrong : (anyTwo inLine ≡ to 1 2 25 ∷ to 1 3 100 ∷ to 2 3 25 ∷ []) × (listFor alone inLine inLine ≡ to 1 2 25 ∷ to 2 3 25 ∷ [])
-unfolding listBy rows row atLeast pairFor listedFor listFor ringPair unblocked allB sameSpot blocks
+unfolding listBy rows row atLeast pairFor listedFor listFor ringPairBy unblocked allB sameSpot blocks
 any-two-wrong = (refl, refl)
 
 -- ---- pages

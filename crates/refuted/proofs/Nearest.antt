@@ -24,7 +24,7 @@ use Rattle.sheet.specs.Places.{spotOf, boxOf, pointsOf}
 use Rattle.sheet.specs.Find.{positionOf}
 use Rattle.bits.specs.Set.{digit, at as bitAt, kept, with, none, wordsFor, some, wiped}
 use Rattle.list.specs.Pages.{sizeNo}
-use Rattle.list.specs.RingList.{unblocked, ringPair}
+use Rattle.list.specs.RingList.{unblocked, ringPairBy, ringPair}
 use Rattle.walk.specs.Walk.{inTurn}
 use Rattle.walk.specs.FilterWalk.{Kept, soFar, dropped, shut, consider}
 use Rattle.near.specs.Waiting.{pointEntry, boxEntry, covered, distance, before, insert, withCovered}
@@ -76,7 +76,7 @@ pub near-skipped-wrong :
     (kept (neverOpened pumpSheet (spotAt chambers 0) .bits) 0 ≡ false)
     × (nearKeeps 1 pumpSheet (spotAt chambers 0) 0 ≡ true)
     × (ringPair pumps chambers 0 0 ≡ true)
-unfolding nearKept nearAll nearSteps rootWaits withCovered insert before distance covered inTurn levelOf firstOf countOf boxOf sideOf spotOf orderOf num consider dropped shut some none kept with bitAt digit drops dropsBox blocks sameSpot inBox ringPair unblocked allB
+unfolding nearKept nearAll nearSteps rootWaits withCovered insert before distance covered inTurn levelOf firstOf countOf boxOf sideOf spotOf orderOf num consider dropped shut some none kept with bitAt digit drops dropsBox blocks sameSpot inBox ringPairBy unblocked allB
 near-skipped-wrong = (refl, refl, refl)
 
 -- ---- the lent numbers

@@ -6,7 +6,8 @@ use lib.IntN.{ℤ, pos, _+ℤ_, _*ℤ_}
 use lib.Signed.{leZ, ltZ, shrZ}
 use Rattle.plane.specs.declared.Spot.{Spot}
 use Rattle.plane.specs.declared.Boxed.{Boxed}
-use Rattle.plane.specs.Rule.{spot, sq, dot, sameSpot, inBox, blocks, drops, behind, dropsBox, size, out, far, inside, cornersIn, sideIn}
+use Rattle.plane.specs.Rule.{spot, sq, dot, sameSpot, inBox, blocks, drops, behind, dropsBox, size, out, far, inside}
+use Rattle.plane.specs.Profile.{circle, cornersIn, sideIn}
 
 abbrev at : ℕ → ℕ → Spot
 at x y = spot (pos x) (pos y)
@@ -133,14 +134,14 @@ abbrev touchingSide : Spot → Spot → Boxed → Bool
 touchingSide a b o = touching a b (spot (o .xmin) (o .ymin)) && touching a b (spot (o .xmin) (o .ymax))
 
 pub touching-side-wrong :
-    (touchingSide (at 0 0) (at 4 0) (box 4 0 4 0) ≡ true) × (sideIn (at 0 0) (at 4 0) (box 4 0 4 0) ≡ 4) × (blocks (at 0 0) (at 4 0) (at 4 0) ≡ false)
+    (touchingSide (at 0 0) (at 4 0) (box 4 0 4 0) ≡ true) × (sideIn circle (at 0 0) (at 4 0) (box 4 0 4 0) ≡ 4) × (blocks (at 0 0) (at 4 0) (at 4 0) ≡ false)
 unfolding sideIn inside blocks sameSpot
 touching-side-wrong = (refl, refl, refl)
 
 -- Right is named before bottom. "the first that qualifies of left, bottom, right, top". [E1]
 abbrev rightFirst : Spot → Spot → Boxed → ℕ
-rightFirst a b o = cond (cornersIn a b o 0) 0 (cond (cornersIn a b o 2) 2 (cond (cornersIn a b o 1) 1 (cond (cornersIn a b o 3) 3 4)))
+rightFirst a b o = cond (cornersIn circle a b o 0) 0 (cond (cornersIn circle a b o 2) 2 (cond (cornersIn circle a b o 1) 1 (cond (cornersIn circle a b o 3) 3 4)))
 
-pub right-first-wrong : (rightFirst (at 0 0) (at 8 0) (box 1 1 4 3) ≡ 2) × (sideIn (at 0 0) (at 8 0) (box 1 1 4 3) ≡ 1)
+pub right-first-wrong : (rightFirst (at 0 0) (at 8 0) (box 1 1 4 3) ≡ 2) × (sideIn circle (at 0 0) (at 8 0) (box 1 1 4 3) ≡ 1)
 unfolding sideIn inside
 right-first-wrong = (refl, refl)

@@ -11,7 +11,8 @@ use Rattle.words.specs.All.{allB, tab}
 use Rattle.words.specs.First.{given, first, answer}
 use Rattle.words.specs.Range.{idWord, editionWord, coordWord}
 use Rattle.plane.specs.declared.Spot.{Spot}
-use Rattle.plane.specs.Rule.{spot, sameSpot, inBox, blocks, behind, drops, dropsBox, far, inside, sideIn}
+use Rattle.plane.specs.Rule.{spot, sameSpot, inBox, blocks, behind, drops, dropsBox, far, inside}
+use Rattle.plane.specs.Profile.{sideIn}
 use Rattle.sheet.specs.Limits.{form1, limitsOf}
 use Rattle.sheet.specs.Layout.{points, nodes, countsOk, rootWord, layoutOk, trailerNo}
 use Rattle.sheet.specs.Points.{fieldsOk, risesOk, pointOk, pointsOk}
@@ -24,10 +25,10 @@ use Rattle.bits.specs.Set.{digit, at as bitAt, kept, with, none as noBits, word
 use Rattle.list.specs.declared.Pair.{Pair}
 use Rattle.list.specs.Pairs.{none}
 use Rattle.list.specs.Rows.{row, rows, listBy}
-use Rattle.list.specs.RingList.{unblocked, ringPair, ringList}
+use Rattle.list.specs.RingList.{unblocked, ringPairBy, ringListBy, ringList}
 use Rattle.walk.specs.Walk.{inTurn, walk, walkAll}
 use Rattle.walk.specs.FilterWalk.{Kept, soFar}
-use Rattle.walk.specs.RingWalk.{meet, ringTake, enter, ringVisit, ringOn, ringWalk, pairWalk}
+use Rattle.walk.specs.RingWalk.{meet, ringTake, enter, ringVisit, ringOn, ringWalk, pairWalkBy}
 use Rattle.leaf.specs.LeafWalk.{slot, someB, chamberAt, chamberSpot, ruledOut, weigh, leafTake, skips, leafVisit, leafKept, leafKeeps}
 use Rattle.leaf.specs.LeafRun.{leafList, leafOpened}
 use Rattle.ring.specs.Lent.{need, bitsNo}
@@ -102,7 +103,7 @@ marked = to 9 9 9 ∷ to 9 9 9 ∷ to 9 9 9 ∷ to 8 8 8 ∷ []
 
 pub rest-touched-wrong :
     (restGone pumpSheet chamberSheet 0 marked ≡ three ++ (none ∷ [])) × (runSlots pumpSheet chamberSheet 0 marked 16 ≡ three ++ (to 8 8 8 ∷ []))
-unfolding runSlots runNo leafNo bitsNo wordsFor roomNo answer leafList chamberAt listBy rows row ringPair unblocked blocks sameSpot pointsOf tab spotOf openNo bodyNo trailerNo first given countsOk within editionWord layoutOk rootWord pointsOk pointOk fieldsOk risesOk idWord coordWord before orderOk placeOk isBelow rankOf orderOf nodesOk tableOk nodeOk nodeRule runOk endOk isLast sameLevel dueOf dueNext tightOk tightSide best better minZ maxZ coordOf sideOf levelOf firstOf countOf eqZ num allB limitsOf form1
+unfolding runSlots runNo leafNo bitsNo wordsFor roomNo answer leafList chamberAt listBy rows row ringPairBy unblocked blocks sameSpot pointsOf tab spotOf openNo bodyNo trailerNo first given countsOk within editionWord layoutOk rootWord pointsOk pointOk fieldsOk risesOk idWord coordWord before orderOk placeOk isBelow rankOf orderOf nodesOk tableOk nodeOk nodeRule runOk endOk isLast sameLevel dueOf dueNext tightOk tightSide best better minZ maxZ coordOf sideOf levelOf firstOf countOf eqZ num allB limitsOf form1
 rest-touched-wrong = (refl, refl)
 
 -- As many pairs as there are slots for. Refused by 16, the call "leaves lent memory [..] as they stood". [L10]
@@ -113,7 +114,7 @@ abbrev few : List Pair
 few = to 9 9 9 ∷ []
 
 pub filled-up-wrong : (filledUp pumpSheet chamberSheet 0 few ≡ to 5 1 16 ∷ []) × (runSlots pumpSheet chamberSheet 0 few 16 ≡ few)
-unfolding runSlots runNo leafNo bitsNo wordsFor roomNo answer leafList chamberAt listBy rows row ringPair unblocked blocks sameSpot pointsOf tab spotOf openNo bodyNo trailerNo first given countsOk within editionWord layoutOk rootWord pointsOk pointOk fieldsOk risesOk idWord coordWord before orderOk placeOk isBelow rankOf orderOf nodesOk tableOk nodeOk nodeRule runOk endOk isLast sameLevel dueOf dueNext tightOk tightSide best better minZ maxZ coordOf sideOf levelOf firstOf countOf eqZ num allB limitsOf form1
+unfolding runSlots runNo leafNo bitsNo wordsFor roomNo answer leafList chamberAt listBy rows row ringPairBy unblocked blocks sameSpot pointsOf tab spotOf openNo bodyNo trailerNo first given countsOk within editionWord layoutOk rootWord pointsOk pointOk fieldsOk risesOk idWord coordWord before orderOk placeOk isBelow rankOf orderOf nodesOk tableOk nodeOk nodeRule runOk endOk isLast sameLevel dueOf dueNext tightOk tightSide best better minZ maxZ coordOf sideOf levelOf firstOf countOf eqZ num allB limitsOf form1
 filled-up-wrong = (refl, refl)
 
 -- By q id. "by place, then p id": in this leaf chamber 6 stands at the first place. [L1]
@@ -122,7 +123,7 @@ turned = words (5 ∷ 4 ∷ 0 ∷ 6 ∷ 16 ∷ 1 ∷ 1 ∷ 0 ∷ 1 ∷ 0 ∷ 0 �
 
 pub by-id-wrong :
     (ringList (pointsOf pumpSheet) (pointsOf turned) ≡ three) × (leafList pumpSheet turned 0 ≡ to 6 2 37 ∷ to 5 1 16 ∷ to 5 2 36 ∷ [])
-unfolding ringList leafList chamberAt listBy rows row ringPair unblocked allB blocks sameSpot pointsOf tab spotOf orderOf firstOf countOf num
+unfolding ringListBy leafList chamberAt listBy rows row ringPairBy unblocked allB blocks sameSpot pointsOf tab spotOf orderOf firstOf countOf num
 by-id-wrong = (refl, refl)
 
 -- ---- the walk
@@ -180,5 +181,5 @@ abbrev walkAlone : List ℤ → List ℤ → ℕ → ℕ
 walkAlone P Q v = leafKept (chamberSpot Q v) (countOf Q (points Q) v) 1 P .opened
 
 pub walk-alone-wrong : (walkAlone pumpSheet chamberSheet 0 ≡ 1) × (leafOpened 1 pumpSheet chamberSheet 0 ≡ 7)
-unfolding leafOpened sumOver chamberSpot chamberAt pairWalk ringWalk ringOn ringVisit ringTake meet enter walkAll walk inTurn levelOf firstOf countOf boxOf sideOf spotOf orderOf num blocks sameSpot far sideIn inside leafKept leafVisit leafTake skips weigh ruledOut noBits kept with bitAt digit allB drops dropsBox inBox
+unfolding leafOpened sumOver chamberSpot chamberAt pairWalkBy ringWalk ringOn ringVisit ringTake meet enter walkAll walk inTurn levelOf firstOf countOf boxOf sideOf spotOf orderOf num blocks sameSpot far sideIn inside leafKept leafVisit leafTake skips weigh ruledOut noBits kept with bitAt digit allB drops dropsBox inBox
 walk-alone-wrong = (refl, refl)

@@ -6,8 +6,8 @@
 --     ring-pages-list        following the answers from (0, 0), whatever their sizes from 1 to 16, gives the list
 --     given-by-points   sheets with the same points give the same pairs, number and end mark of every page of any terms
 -- Assumes nothing.
-use mathlib.Core.Path.{_≡_, refl, sym, ap, _∙_}
-use mathlib.Core.Bool.{true, false, not, _&&_, true≢false}
+use mathlib.Core.Path.{_≡_, refl, sym, ap, ap₂, _∙_}
+use mathlib.Core.Bool.{Bool, true, false, not, _&&_, _||_, true≢false}
 use mathlib.Core.List.{List, [], _∷_, _++_}
 use Prim.Native.Nat.{ℕ, _*_, _≤_, _<_}
 use native.Mathlib.Omega.{arith}
@@ -16,13 +16,19 @@ use lib.IntN.{ℤ}
 use lib.ListN.{length, take, drop}
 use borrow.Author.Tests.{le-leb}
 use Rattle.words.specs.First.{given, first}
-use Rattle.words.proofs.FirstLaws.{none-applies, first-passes, first-stops, first-last, first-front, given-no, answer-given, answer-refused, answer-number}
+use Rattle.words.proofs.FirstLaws.{none-applies, first-passes, first-stops, first-last, first-front, given-no, given-yes, given-failed, answer-given, answer-refused, answer-number}
 use Rattle.words.specs.Range.{lastId}
 use Rattle.words.specs.Word.{num}
-use Rattle.sheet.specs.Layout.{edition, points, nodes}
+use Rattle.sheet.specs.Layout.{edition, second, points, nodes}
 use Rattle.sheet.specs.Places.{pointsOf}
-use Rattle.sheet.specs.Open.{Opens}
+use Rattle.sheet.specs.Open.{sheetNo, Opens}
 use Rattle.sheet.proofs.SheetLaws.{sheet-facts}
+use Rattle.sheet.proofs.RangeLaws.{first-within}
+use Rattle.sheet.proofs.PointsLaws.{length-points, spot-of}
+use Rattle.integers.proofs.Bools.{or-false-left, or-false-right}
+use Rattle.plane.specs.Profile.{profileOf}
+use Rattle.list.specs.RingList.{Reached}
+use Rattle.list.proofs.RowLaws.{sound-reached}
 use Rattle.bits.specs.Set.{none, wordsFor, wiped}
 use Rattle.bits.proofs.LentLaws.{words-enough, part-wiped}
 use Rattle.list.specs.declared.Key.{Key}
@@ -32,7 +38,7 @@ use Rattle.list.specs.Pairs.{start}
 use Rattle.list.specs.Pages.{lastThreshold, thresholdNo, sizeNo, pageOf, followed}
 use Rattle.list.specs.declared.Terms.{Terms}
 use Rattle.list.specs.declared.Request.{Request}
-use Rattle.list.specs.Terms.{withT, requestOf, listFor}
+use Rattle.list.specs.Terms.{withBy, requestOf, listFor}
 use Rattle.list.proofs.PageLaws.{size-fits, size-taken, asked-pages}
 use Rattle.list.proofs.TermsLaws.{for-keys}
 use Rattle.join.specs.declared.Draft.{Draft}
@@ -41,10 +47,10 @@ use Rattle.join.specs.Maker.{pageMade, pageFrom}
 use Rattle.join.specs.Walks.{Walks}
 use Rattle.join.specs.Sheets.{walksBy, Alone}
 use Rattle.join.specs.Threshold.{walksFor}
-use Rattle.join.proofs.Meaning.{points-rise, join-page-pairs, join-page-opened, sheet-pages, join-list-by-points}
+use Rattle.join.proofs.Meaning.{points-rise, points-sound, join-page-pairs, join-page-opened, sheet-pages, join-list-by-points}
 use Rattle.ring.specs.declared.Heads.{Heads}
 use Rattle.ring.specs.declared.Paged.{Paged}
-use Rattle.ring.specs.Numbers.{sheetsNo}
+use Rattle.ring.specs.Numbers.{sheetsNo, gridNo}
 use Rattle.ring.specs.Answers.{headsOf}
 use Rattle.ring.specs.Lent.{need, bitsNo}
 use Rattle.ring.specs.Page.{keyNo, askedNo, pageNo, sourceOf, pageGiven, pageRefused, termsOf, pageAnswer, pageBits}
@@ -53,27 +59,62 @@ use Rattle.ring.proofs.HeadLaws.{headed-both, both-open, sheets-stop, s
 
 -- ---- the numbers of the key, of the size and of the threshold
 
-module _ (key : Key) (size t : ℕ) where
-  pub asked-9 : not (leb (key .q) lastId && leb (key .p) lastId) ≡ true → 9 ≡ askedNo key size t
-  unfolding askedNo keyNo first given
-  asked-9 e = rw e
-
-  module _ (e : not (leb (key .q) lastId && leb (key .p) lastId) ≡ false) (k : ℕ) (d : k ≡ sizeNo size) where
-    pub asked-10 : (k ≡ 0 → ⊥) → k ≡ askedNo key size t
-    unfolding askedNo keyNo
-    asked-10 ne = d ∙ sym (first-passes _ _ (given-no 9 e) ∙ first-stops (sizeNo size) _ (λ z. ne (d ∙ z)))
-
-    pub asked-21 : k ≡ 0 → (n : ℕ) → n ≡ thresholdNo t → n ≡ askedNo key size t
-    unfolding askedNo keyNo
-    asked-21 z n f = f ∙ sym (first-passes _ _ (given-no 9 e) ∙ first-passes (sizeNo size) _ (sym d ∙ z) ∙ first-last _)
-
-  -- a request that is not refused has its size from 1 to 16
-  pub asked-size : askedNo key size t ≡ 0 → (1 ≤ size) × (size ≤ 16)
+module _ (P Q : List ℤ) (g : Bool) (key : Key) (size t n : ℕ) (f : n ≡ gridNo g P Q) where
+  pub asked-29 : (n ≡ 0 → ⊥) → n ≡ askedNo P Q g key size t
   unfolding askedNo
-  asked-size e = size-fits size (none-applies _ .0 e 1)
+  asked-29 ne = f ∙ sym (first-stops (gridNo g P Q) _ (λ z. ne (f ∙ z)))
 
-  pub size-in : {a : ℕ} → a ≡ askedNo key size t → a ≡ 0 → size ≤ 16
+  module _ (form : n ≡ 0) where
+    rest : askedNo P Q g key size t ≡ first (keyNo key ∷ sizeNo size ∷ thresholdNo t ∷ [])
+    unfolding askedNo
+    rest = first-passes (gridNo g P Q) _ (sym f ∙ form)
+
+    pub asked-9 : not (leb (key .q) lastId && leb (key .p) lastId) ≡ true → 9 ≡ askedNo P Q g key size t
+    asked-9 e = sym (rest ∙ (unfold keyNo first given in rw e))
+
+    module _ (e : not (leb (key .q) lastId && leb (key .p) lastId) ≡ false) (k : ℕ) (d : k ≡ sizeNo size) where
+      pub asked-10 : (k ≡ 0 → ⊥) → k ≡ askedNo P Q g key size t
+      unfolding keyNo
+      asked-10 ne = d ∙ sym (rest ∙ first-passes _ _ (given-no 9 e) ∙ first-stops (sizeNo size) _ (λ z. ne (d ∙ z)))
+
+      pub asked-21 : k ≡ 0 → (m : ℕ) → m ≡ thresholdNo t → m ≡ askedNo P Q g key size t
+      unfolding keyNo
+      asked-21 z m h = h ∙ sym (rest ∙ first-passes _ _ (given-no 9 e) ∙ first-passes (sizeNo size) _ (sym d ∙ z) ∙ first-last _)
+
+module _ (P Q : List ℤ) (g : Bool) (key : Key) (size t : ℕ) where
+  -- a request that is not refused has its size from 1 to 16
+  pub asked-size : askedNo P Q g key size t ≡ 0 → (1 ≤ size) × (size ≤ 16)
+  unfolding askedNo
+  asked-size e = size-fits size (none-applies _ .0 e 2)
+
+  pub size-in : {a : ℕ} → a ≡ askedNo P Q g key size t → a ≡ 0 → size ≤ 16
   size-in d y = asked-size (sym d ∙ y) .1
+
+-- what is asked of the two forms
+module _ (g : Bool) (P Q : List ℤ) (s t : Bool) (e : s ≡ second P) (f : t ≡ second Q) where
+  pub forms-second : (g && (s || t)) ≡ true → 29 ≡ gridNo g P Q
+  unfolding gridNo
+  forms-second h = sym (given-yes 29 (ap₂ (λ (x y : Bool). g && (x || y)) (sym e) (sym f) ∙ h))
+
+  pub forms-first : (g && (s || t)) ≡ false → 0 ≡ gridNo g P Q
+  unfolding gridNo
+  forms-first h = sym (given-no 29 (ap₂ (λ (x y : Bool). g && (x || y)) (sym e) (sym f) ∙ h))
+
+-- 29 is not given of the circle
+pub circle-any-form : (P Q : List ℤ) → gridNo false P Q ≡ 0
+unfolding gridNo given
+circle-any-form P Q = refl
+
+-- and where it is not given, the points of both sheets stand in reach of the profile
+pub forms-reach : (g : Bool) (P Q : List ℤ) → sheetNo P ≡ 0 → sheetNo Q ≡ 0 → gridNo g P Q ≡ 0 → Reached (profileOf g) (pointsOf P) × Reached (profileOf g) (pointsOf Q)
+forms-reach false P Q p q e = (sound-reached (pointsOf P) (points-sound P p), sound-reached (pointsOf Q) (points-sound Q q))
+forms-reach true P Q p q e = (near P p (or-false-left (second P) (second Q) both), near Q q (or-false-right (second P) (second Q) both))
+  where
+    both : (second P || second Q) ≡ false
+    both = let x : given (second P || second Q) 29 ≡ 0 = unfold gridNo in e in given-failed 28 x
+
+    near : (w : List ℤ) → sheetNo w ≡ 0 → second w ≡ false → Reached (profileOf true) (pointsOf w)
+    near w o f = record { in-reach = λ i h. let k : i < points w = omega (arith, length-points w) in rw (spot-of w i k) (first-within w o f i k) }
 
 -- ---- the answers
 
@@ -95,13 +136,13 @@ module _ (P Q : List ℤ) (a : Request) (len : ℕ) where
   pub ring-page-once : (r r′ : Paged) → r ≡ pageAnswer P Q a len → r′ ≡ pageAnswer P Q a len → r ≡ r′
   ring-page-once r r′ e f = e ∙ sym f
 
-  -- No other request is refused: sheets that open, each id of the key at most 2,000,000,000, a size from 1 to 16, a t in range and as many words as the points need are served.
-  pub ring-page-served : sheetsNo P Q ≡ 0 → a .key .q ≤ lastId → a .key .p ≤ lastId → 1 ≤ a .size → a .size ≤ 16 → a .threshold ≤ lastThreshold → need P ≤ len → pageAnswer P Q a len ≡ Given
+  -- No other request is refused: sheets that open, of form 1 for the street grid, each id of the key at most 2,000,000,000, a size from 1 to 16, a t in range and as many words as the points need are served.
+  pub ring-page-served : sheetsNo P Q ≡ 0 → gridNo (a .grid) P Q ≡ 0 → a .key .q ≤ lastId → a .key .p ≤ lastId → 1 ≤ a .size → a .size ≤ 16 → a .threshold ≤ lastThreshold → need P ≤ len → pageAnswer P Q a len ≡ Given
   unfolding pageNo keyNo thresholdNo first given
-  ring-page-served opens x y c d e f =
+  ring-page-served opens forms x y c d e f =
       let s = both-open P Q opens in
       page-answered
-      (rw (s .0, s .1, le-leb (a .key .q) lastId x, le-leb (a .key .p) lastId y, size-taken (a .size) c d, le-leb (a .threshold) lastThreshold e, bits-enough (need P) len f))
+      (rw (s .0, s .1, forms, le-leb (a .key .q) lastId x, le-leb (a .key .p) lastId y, size-taken (a .size) c d, le-leb (a .threshold) lastThreshold e, bits-enough (need P) len f))
 
   -- the number is the first that applies
   pub ring-page-no : pageAnswer P Q a len .number ≡ pageNo P Q a len
@@ -121,12 +162,12 @@ module _ (P Q : List ℤ) (a : Request) (ws : List ℕ) (h : Heads) (e : h ≡ h
   unfolding pageNo
   page-sheets ne f = stops (h .number) (sheets-stop P Q h _ e ne) ne f
 
-  module _ (z : h .number ≡ 0) (k : ℕ) (d : k ≡ askedNo (a .key) (a .size) (a .threshold)) where
+  module _ (z : h .number ≡ 0) (k : ℕ) (d : k ≡ askedNo P Q (a .grid) (a .key) (a .size) (a .threshold)) where
     after : pageNo P Q a (length ws) ≡ first (k ∷ bitsNo (need P) (length ws) ∷ [])
     unfolding pageNo askedNo
     after =
         sheets-pass P Q h _ e z
-        ∙ first-front (keyNo (a .key) ∷ sizeNo (a .size) ∷ thresholdNo (a .threshold) ∷ []) (bitsNo (need P) (length ws) ∷ [])
+        ∙ first-front (gridNo (a .grid) P Q ∷ keyNo (a .key) ∷ sizeNo (a .size) ∷ thresholdNo (a .threshold) ∷ []) (bitsNo (need P) (length ws) ∷ [])
         ∙ ap (λ (n : ℕ). first (n ∷ bitsNo (need P) (length ws) ∷ [])) (sym d)
 
     pub page-asked : (k ≡ 0 → ⊥) → r ≡ pageRefused k → PageDone P Q a ws r ws
@@ -191,10 +232,10 @@ module _ (P Q : List ℤ) (opens : sheetsNo P Q ≡ 0) (len : ℕ) (enough : nee
   q-opens : Opens Q (points Q) (nodes Q)
   q-opens = sheet-facts Q (both-open P Q opens .1)
 
-  pub ring-pages-list : (t : ℕ) → t ≤ lastThreshold → (sizes : ℕ → ℕ) → ((i : ℕ) → sizeNo (sizes i) ≡ 0)
-      → followed (length (listFor (withT t) (pointsOf P) (pointsOf Q))) sizes (λ k n. pageAnswer P Q (requestOf (withT t) k n) len .page) start ≡ listFor (withT t) (pointsOf P) (pointsOf Q)
-  ring-pages-list t most sizes s =
-      followed-list (withT t) P Q p-opens q-opens (λ k n. pageAnswer P Q (requestOf (withT t) k n) len) (λ k n x y c d. ring-page-served P Q (requestOf (withT t) k n) len opens x y c d most enough) sizes s
+  pub ring-pages-list : (g : Bool) → gridNo g P Q ≡ 0 → (t : ℕ) → t ≤ lastThreshold → (sizes : ℕ → ℕ) → ((i : ℕ) → sizeNo (sizes i) ≡ 0)
+      → followed (length (listFor (withBy g t) (pointsOf P) (pointsOf Q))) sizes (λ k n. pageAnswer P Q (requestOf (withBy g t) k n) len .page) start ≡ listFor (withBy g t) (pointsOf P) (pointsOf Q)
+  ring-pages-list g forms t most sizes s =
+      followed-list (withBy g t) P Q p-opens q-opens (λ k n. pageAnswer P Q (requestOf (withBy g t) k n) len) (λ k n x y c d. ring-page-served P Q (requestOf (withBy g t) k n) len opens forms x y c d most enough) sizes s
 
 -- sheets with the same points give the same pairs, number and end mark of every page, whatever their editions and trees
 module _ (a : Terms) (P P′ Q Q′ : List ℤ) (key : Key) (size : ℕ) (ep : pointsOf P ≡ pointsOf P′) (eq : pointsOf Q ≡ pointsOf Q′) (r r′ : Paged) (e : r ≡ pageGiven a P Q key size) (e′ : r′ ≡ pageGiven a P′ Q′ key size) where

@@ -5,6 +5,7 @@ use Prim.Native.Nat.{ℕ}
 use lib.IntN.{ℤ}
 use lib.ListN.{length}
 use Rattle.words.specs.Word.{num}
+use Rattle.plane.specs.Profile.{profileOf}
 use Rattle.words.specs.First.{answer}
 use Rattle.sheet.specs.Layout.{points, nodes}
 use Rattle.sheet.specs.Points.{idAt, xAt, yAt}
@@ -14,7 +15,7 @@ use Rattle.ring.specs.Numbers.{sheetsNo, pointNo, filterNo, ringNo}
 use Rattle.sheet.specs.Places.{spotOf}
 use Rattle.bits.specs.Set.{card}
 use Rattle.walk.specs.FilterWalk.{Kept, filterKept}
-use Rattle.walk.specs.RingWalk.{clear, pairWalk}
+use Rattle.walk.specs.RingWalk.{clear, pairWalkBy}
 use Rattle.ring.specs.declared.Head.{Head}
 use Rattle.ring.specs.declared.Heads.{Heads}
 use Rattle.ring.specs.declared.Asset.{Asset}
@@ -78,6 +79,6 @@ abbrev pub walkedClear : Walked → Bool
 walkedClear (Done a) = clear (a .hit)
 walkedClear (Refused k) = false
 
--- q is position j of Q, p is position i of P [W17, W18, N2, N20]
-unfoldable pub walked : List ℤ → List ℤ → ℕ → ℕ → Walked
-walked P Q j i = answer (ringNo P Q j i) (Done (pairWalk P Q j i)) Refused
+-- q is position j of Q, p is position i of P, of a profile [W17, W18, N2, N20]
+unfoldable pub walked : List ℤ → List ℤ → ℕ → ℕ → Bool → Walked
+walked P Q j i g = answer (ringNo P Q j i g) (Done (pairWalkBy (profileOf g) P Q j i)) Refused

@@ -1,5 +1,5 @@
 -- The page request: its number, and its answer.
-use mathlib.Core.Bool.{false, not, _&&_}
+use mathlib.Core.Bool.{Bool, false, not, _&&_}
 use mathlib.Core.List.{List, [], _∷_}
 use Prim.Native.Nat.{ℕ}
 use lib.Dec.{leb}
@@ -17,24 +17,25 @@ use Rattle.list.specs.declared.Terms.{Terms}
 use Rattle.list.specs.declared.Request.{Request}
 use Rattle.list.specs.Pairs.{start, none}
 use Rattle.list.specs.Pages.{thresholdNo, sizeNo, pageOf}
-use Rattle.list.specs.Terms.{full, withT, listFor}
+use Rattle.list.specs.Terms.{full, withBy, listFor}
 use Rattle.join.specs.Work.{pageOpened}
 use Rattle.join.specs.Sheets.{walksBy}
 use Rattle.join.specs.Threshold.{walksFor}
 use Rattle.ring.specs.Lent.{need, bitsNo, wipedBy}
+use Rattle.ring.specs.Numbers.{gridNo}
 use Rattle.ring.specs.declared.Paged.{Paged}
 
 -- 9: "key out of range", "each 0 to 2,000,000,000" [P1, N22]
 unfoldable pub keyNo : Key → ℕ
 keyNo key = given (not (leb (key .q) lastId && leb (key .p) lastId)) 9
 
--- 9, then 10, then 21 "t outside 0 to 1,000 [..] after 10 for a page": what the request itself is refused by [N22, N23, T10, V1]
-unfoldable pub askedNo : Key → ℕ → ℕ → ℕ
-askedNo key size t = first (keyNo key ∷ sizeNo size ∷ thresholdNo t ∷ [])
+-- 29 "before 9", then 9, then 10, then 21 "t outside 0 to 1,000 [..] after 10 for a page": what the request itself is refused by, of sheets that open [N22, N23, T10, V1]
+unfoldable pub askedNo : List ℤ → List ℤ → Bool → Key → ℕ → ℕ → ℕ
+askedNo P Q g key size t = first (gridNo g P Q ∷ keyNo key ∷ sizeNo size ∷ thresholdNo t ∷ [])
 
--- "checks its sheets first [..]: 1 to 8 for P, then for Q"; "24 bit slice too short, after all others" [Y15, V1]
+-- "checks its sheets first [..]: 1 to 8 for P, then for Q"; "24 bit slice too short, after all others" [Y15, A13, V1]
 unfoldable pub pageNo : List ℤ → List ℤ → Request → ℕ → ℕ
-pageNo P Q a len = first (sheetNo P ∷ sheetNo Q ∷ keyNo (a .key) ∷ sizeNo (a .size) ∷ thresholdNo (a .threshold) ∷ bitsNo (need P) len ∷ [])
+pageNo P Q a len = first (sheetNo P ∷ sheetNo Q ∷ gridNo (a .grid) P Q ∷ keyNo (a .key) ∷ sizeNo (a .size) ∷ thresholdNo (a .threshold) ∷ bitsNo (need P) len ∷ [])
 
 -- "The page holds both editions"; "Pages and books now carry t, 0 for the full list" and "say their kind" [P3, T5, J5, J10]
 unfoldable pub sourceOf : List ℤ → List ℤ → Terms → Source
@@ -60,7 +61,7 @@ pageRefused k =
 
 -- what a request's list is told by: it is of two sheets
 abbrev pub termsOf : Request → Terms
-termsOf a = withT (a .threshold)
+termsOf a = withBy (a .grid) (a .threshold)
 
 -- the answer for so many lent words, by its number: 0 is the page, any other is the refusal of that number
 unfoldable pub pageAnswer : List ℤ → List ℤ → Request → ℕ → Paged

@@ -8,17 +8,17 @@ ghost use mathlib.Core.Path.{_≡_};
 ghost use lib.ListN.{length};
 ghost use Rattle.ring.specs.Own.{ownAnswer, ownBits};
 
-// The first `size` pairs of the sheet's self join strictly after the key, lower id first, and the nodes opened to find them.
+// The first `size` pairs of the sheet's self join strictly after the key, lower id first, of a profile, and the nodes opened to find them.
 // The words lent for kept sets, as many as the points need, are zeros after an answer.
-// Refused by 1 to 8 of the sheet, then by 9 for the key, then by 10 for the size, then by 24 where fewer words are lent; no word is touched then, nor ever one past them.
-pub fn own_page(s: &[i32], key: Key, size: usize, bits: &mut [u64]) -> Paged
-    ensures { λ r. ⌜ (r ≡ ownAnswer (now (s .entry)) key size (length (now (bits .entry)))) × (now (bits .exit) ≡ ownBits (now (s .entry)) key size (now (bits .entry))) ⌝ }
+// Refused by 1 to 8 of the sheet, then by 29 where the street grid is asked of a sheet of form 2, then by 9 for the key, then by 10 for the size, then by 24 where fewer words are lent; no word is touched then, nor ever one past them.
+pub fn own_page(s: &[i32], key: Key, size: usize, grid: bool, bits: &mut [u64]) -> Paged
+    ensures { λ r. ⌜ (r ≡ ownAnswer (now (s .entry)) key size grid (length (now (bits .entry)))) × (now (bits .exit) ≡ ownBits (now (s .entry)) key size grid (now (bits .entry))) ⌝ }
 {
     let h = crate::open::head_of(s);
     if h.number != 0 {
         return crate::page::refused(h.number);
     }
-    let asked = crate::page::asked_no(key, size, 0);
+    let asked = crate::page::asked_no(s, s, grid, key, size, 0);
     if asked != 0 {
         return crate::page::refused(asked);
     }
@@ -30,6 +30,7 @@ pub fn own_page(s: &[i32], key: Key, size: usize, bits: &mut [u64]) -> Paged
     let terms = Terms {
         threshold: 0,
         own: true,
+        grid: grid,
     };
     let ask = Ask {
         key: key,

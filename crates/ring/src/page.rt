@@ -14,6 +14,7 @@ ghost use lib.ListN.{length};
 ghost use Rattle.bits.specs.Set.{wordsFor, none};
 ghost use Rattle.sheet.specs.Open.{Opens};
 ghost use Rattle.join.specs.Sheets.{Alone};
+ghost use Rattle.ring.specs.Numbers.{gridNo};
 ghost use Rattle.ring.specs.Page.{askedNo, sourceOf, pageGiven, pageRefused, pageAnswer, pageBits};
 
 // A refused request: its number, and zeros.
@@ -30,6 +31,7 @@ pub(crate) fn refused(number: u32) -> Paged
                 terms: Terms {
                     threshold: 0,
                     own: false,
+                    grid: false,
                 },
             },
             key: Key { q: 0, p: 0 },
@@ -44,10 +46,31 @@ pub(crate) fn refused(number: u32) -> Paged
     }
 }
 
-// The number that a request is refused by, its sheets aside: 9 by its key, 10 by its size, 21 by its threshold, or 0.
-pub(crate) fn asked_no(key: Key, size: usize, threshold: u32) -> u32
-    ensures { λ r. ⌜ r ≡ askedNo key size threshold ⌝ }
+// The number that a request of a profile is refused by for the forms of its sheets: 29 where one is of form 2 and the profile is the street grid's, or 0.
+pub(crate) fn grid_no(p: &[i32], q: &[i32], grid: bool) -> u32
+    ensures { λ r. ⌜ r ≡ gridNo grid (now (p .entry)) (now (q .entry)) ⌝ }
 {
+    if grid & (sheet::is_second(p) | sheet::is_second(q)) {
+        return 29;
+    }
+    0
+}
+
+// The number that a request is refused by, of sheets that open: 29 by their forms, 9 by its key, 10 by its size, 21 by its threshold, or 0.
+pub(crate) fn asked_no(
+    p: &[i32],
+    q: &[i32],
+    grid: bool,
+    key: Key,
+    size: usize,
+    threshold: u32,
+) -> u32
+    ensures { λ r. ⌜ r ≡ askedNo (now (p .entry)) (now (q .entry)) grid key size threshold ⌝ }
+{
+    let form = grid_no(p, q, grid);
+    if form != 0 {
+        return form;
+    }
     if !((key.q <= 2000000000) & (key.p <= 2000000000)) {
         return 9;
     }
@@ -90,7 +113,7 @@ pub(crate) fn given(p: &[i32], hp: Size, q: &[i32], hq: Size, ask: Ask, bits: &m
 
 // The first `size` ring pairs strictly after the key, of chambers with at least so many as the threshold says (0: of all), and the nodes opened to find them.
 // The words lent for kept sets, as many as the points of P need, are zeros after an answer.
-// Refused by 1 to 8 of P, then of Q, then by 9 for the key, then by 10 for the size, then by 21 for the threshold, then by 24 where fewer words are lent; no word is touched then,
+// Refused by 1 to 8 of P, then of Q, then by 29 where the street grid is asked of a sheet of form 2, then by 9 for the key, then by 10 for the size, then by 21 for the threshold, then by 24 where fewer words are lent; no word is touched then,
 // nor ever one past them.
 pub fn page(p: &[i32], q: &[i32], request: Request, bits: &mut [u64]) -> Paged
     ensures { λ r. ⌜ (r ≡ pageAnswer (now (p .entry)) (now (q .entry)) request (length (now (bits .entry)))) × (now (bits .exit) ≡ pageBits (now (p .entry)) (now (q .entry)) request (now (bits .entry))) ⌝ }
@@ -100,7 +123,7 @@ pub fn page(p: &[i32], q: &[i32], request: Request, bits: &mut [u64]) -> Paged
         return refused(h.number);
     }
     let key = request.key;
-    let asked = asked_no(key, request.size, request.threshold);
+    let asked = asked_no(p, q, request.grid, key, request.size, request.threshold);
     if asked != 0 {
         return refused(asked);
     }
@@ -113,6 +136,7 @@ pub fn page(p: &[i32], q: &[i32], request: Request, bits: &mut [u64]) -> Paged
     let terms = Terms {
         threshold: request.threshold,
         own: false,
+        grid: request.grid,
     };
     let ask = Ask {
         key: key,

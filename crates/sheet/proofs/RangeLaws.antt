@@ -1,7 +1,7 @@
 -- The places of the points of a sheet that opens, and the boxes of its nodes, are within the range that the arithmetic of the plane asks.
 -- Assumes nothing.
-use mathlib.Core.Path.{_≡_, refl, subst}
-use mathlib.Core.Bool.{true, _&&_}
+use mathlib.Core.Path.{_≡_, refl, sym, subst, _∙_}
+use mathlib.Core.Bool.{true, false, _&&_}
 use mathlib.Core.List.{List}
 use Prim.Native.Nat.{ℕ, _<_}
 use native.Mathlib.Omega.{arith}
@@ -13,12 +13,16 @@ use Rattle.words.specs.Range.{idWord, coordWord}
 use Rattle.words.proofs.RangeLaws.{coord-in}
 use Rattle.integers.proofs.Bools.{and-left, and-right}
 use Rattle.words.proofs.AllLaws.{all-at}
-use Rattle.plane.specs.Rule.{SpotIn, BoxIn}
+use Rattle.plane.specs.Rule.{SpotTo, SpotIn, BoxIn}
 use Rattle.sheet.specs.Points.{idAt, xAt, yAt, fieldsOk, risesOk, pointOk, pointsOk}
 use Rattle.sheet.specs.Order.{orderOf}
 use Rattle.sheet.specs.Nodes.{levelOf}
 use Rattle.sheet.specs.Places.{spotOf, boxOf}
-use Rattle.sheet.specs.Open.{Opens}
+use Rattle.sheet.specs.declared.Limits.{Limits}
+use Rattle.sheet.specs.Limits.{form1, limitsOf}
+use Rattle.sheet.specs.Layout.{form, second, points}
+use Rattle.sheet.specs.Open.{sheetNo, Opens}
+use Rattle.sheet.proofs.SheetLaws.{open-facts, open-lim, limits-fair, limits-one}
 use Rattle.sheet.proofs.OrderLaws.{order-below}
 use Rattle.sheet.proofs.PlaceLaws.{touching, touching-below, below-place, on-sides}
 
@@ -61,3 +65,12 @@ module _ {w : List ℤ} {n m : ℕ} (o : Opens w n m) where
 
       at : (q : ℕ) → SpotIn (spotOf w (orderOf w n (place q)))
       at q = spot-in (orderOf w n (place q)) (order-below w n (o .ordered) (place q) (below-place w n m (o .table) (o .tight) (levelOf w n j) j h refl (place q) (touching-below w n m (o .table) (o .tight) (levelOf w n j) j h refl q)))
+
+-- the points of a sheet that opens and is not of form 2 stand within a million
+pub first-within : (w : List ℤ) → sheetNo w ≡ 0 → second w ≡ false → (i : ℕ) → i < points w → SpotTo 1_000_000 (spotOf w i)
+first-within w e f i h =
+    let o = open-facts (limitsOf (form w)) (limits-fair (form w)) w e in
+    let lim : form1 ≡ o .lim = limits-one w false (sym f) refl ∙ sym (open-lim (limitsOf (form w)) (limits-fair (form w)) w e) in
+    let c : form1 .coordinate ≤ℤ pos 1_000_000 = unfold form1 in record { le = tt } in
+    let z = spot-within o 1_000_000 (subst (λ (l : Limits). l .coordinate ≤ℤ pos 1_000_000) lim c) i h in
+    record { x-in = z .0; y-in = z .1 }

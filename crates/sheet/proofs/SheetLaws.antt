@@ -14,7 +14,7 @@ use Rattle.words.proofs.FirstLaws.{none-applies, given-held}
 use Rattle.sheet.specs.declared.Limits.{Limits}
 use Rattle.words.specs.Word.{eqZ}
 use Rattle.sheet.specs.Limits.{Fair, form1, form2, limitsOf}
-use Rattle.sheet.specs.Layout.{form, points, nodes}
+use Rattle.sheet.specs.Layout.{form, second, points, nodes}
 use Rattle.sheet.specs.Nodes.{tableOk, nodesOk}
 use Rattle.sheet.specs.Open.{bodyNo, openNo, sheetNo, Opens}
 use Rattle.sheet.proofs.OpenLaws.{Trailer, trailer-facts, nodes-table}
@@ -99,10 +99,10 @@ pub by-counts : {w : List ℤ} {n m : ℕ} → Opens w n m → Opens w (points w
 by-counts {w} {n} o = subst (λ (a : ℕ). Opens w a (nodes w)) (sym (o .n-is)) (subst (Opens w n) (sym (o .m-is)) o)
 
 -- the limits that the last word asks for: no words have the form word 0
-pub limits-none : (w : List ℤ) → length w ≡ 0 → form1 ≡ limitsOf (form w)
-unfolding limitsOf eqZ
-limits-none [] e = refl
-limits-none (x ∷ w) e = absurd (omega arith)
+pub second-none : (w : List ℤ) → length w ≡ 0 → false ≡ second w
+unfolding eqZ
+second-none [] e = refl
+second-none (x ∷ w) e = absurd (omega arith)
 
 pub limits-two : (w : List ℤ) (t : Bool) → t ≡ eqZ (form w) (pos 2) → t ≡ true → form2 ≡ limitsOf (form w)
 unfolding limitsOf

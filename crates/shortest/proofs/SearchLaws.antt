@@ -13,6 +13,7 @@ use lib.IntN.{ℤ}
 use lib.ListN.{length, take, drop, getD, replicate, length-drop, take-append-drop, List·getD-append}
 use lib.Seq.{length-take-le, take-all, take-append-le, take-append-seam}
 use borrow.Author.Tests.{ltb-true, not-false}
+use Rattle.plane.specs.Profile.{circle}
 use Rattle.sheet.specs.Places.{pointsOf}
 use Rattle.sheet.specs.Open.{Opens}
 use Rattle.list.specs.declared.Key.{Key}
@@ -47,11 +48,11 @@ pub record Made (l : List Pair) (key : Key) (d : Draft) : Type 0 where
   pub pairs : d .pairs ≡ padded (shown l key 16)
   pub end : not (d .more) ≡ isNone (after (lastOr key (shown l key 16)) l)
 
-pub made : {P Q : List ℤ} {np mp nq mq : ℕ} → Opens P np mp → Opens Q nq mq → (words : ℕ) → np ≤ 64 * words → (key : Key) (d : Draft) → d ≡ pageMade (walksFor (walksOf words P Q) np 0) key 16 np nq → Made (pairsOf P Q) key d
+pub made : {P Q : List ℤ} {np mp nq mq : ℕ} → Opens P np mp → Opens Q nq mq → (words : ℕ) → np ≤ 64 * words → (key : Key) (d : Draft) → d ≡ pageMade (walksFor (walksOf false words P Q) np 0) key 16 np nq → Made (pairsOf P Q) key d
 unfolding pageFrom pageOf
 made {P} {Q} o o′ words enough key d e =
     let s : Source = record { «p_edition» = 0; «q_edition» = 0; terms = full } in
-    let g : pageFrom s key d ≡ pageOf s (pairsOf P Q) key 16 = ap (pageFrom s key) e ∙ join-page-pairs o o′ full (of-two full refl P Q) words enough s key 16 (omega arith) ∙ ap (λ (l : List Pair). pageOf s l key 16) (full-ring-list (pointsOf P) (pointsOf Q)) in
+    let g : pageFrom s key d ≡ pageOf s (pairsOf P Q) key 16 = ap (pageFrom s key) e ∙ join-page-pairs o o′ full (of-two full refl P Q) words enough s key 16 (omega arith) ∙ ap (λ (l : List Pair). pageOf s l key 16) (full-ring-list false (pointsOf P) (pointsOf Q)) in
     record { count = ap (λ (x : Page). x .count) g; pairs = ap (λ (x : Page). x .pairs) g; end = ap (λ (x : Page). x .end) g }
 
 -- ---- a search that holds s
@@ -252,4 +253,4 @@ module _ (l : List Pair) (k : ℕ) (asc : ascends start l ≡ true) where
       (ap (λ (x : Search). x .count) (o .fair .whole) ∙ ap length is, ap (λ (x : Search). x .pairs) (o .fair .whole) ∙ ap padded is)
 
 pub pairs-ascend : {P Q : List ℤ} {np mp nq mq : ℕ} → Opens P np mp → Opens Q nq mq → ascends start (pairsOf P Q) ≡ true
-pairs-ascend {P} {Q} o o′ = ring-ascends (pointsOf P) (pointsOf Q) (points-rise o) (points-rise o′)
+pairs-ascend {P} {Q} o o′ = ring-ascends circle (pointsOf P) (pointsOf Q) (points-rise o) (points-rise o′)

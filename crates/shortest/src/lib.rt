@@ -75,6 +75,7 @@ fn with_page(
     let terms = Terms {
         threshold: 0,
         own: false,
+        grid: false,
     };
     let ask = Ask {
         key: key,

@@ -1,5 +1,5 @@
-// Histories of a book, played through `take` and `next_key` on slices of many lengths: pages early, late, repeated, of other editions, thresholds and keys, and broken by hand. After each
-// call the number, the state, every slot and the next key are held to a plain list and to a second reading of the rules.
+// Histories of a book of either profile, played through `take` and `next_key` on slices of many lengths: pages early, late, repeated, of another kind, profile, edition, threshold and key, and
+// broken by hand. After each call the number, the state, every slot and the next key are held to a plain list and to a second reading of the rules.
 use book::Begun;
 use book::Book;
 use book::Next;
@@ -9,7 +9,7 @@ use list::Pair;
 use list::Source;
 use list::Terms;
 
-const HISTORIES: u64 = 600;
+const HISTORIES: u64 = 1000;
 
 const CALLS: u64 = 40;
 
@@ -51,8 +51,16 @@ fn drawn(seed: u64, n: usize) -> usize {
 
 // ---- the list and its pages
 
+// The largest size of a pair of the circle, and of the street grid.
+fn most_of(grid: bool) -> u64 {
+    if grid {
+        return 16000000000000;
+    }
+    8000000000000000000
+}
+
 // The next pair, of a size of its own: every ninth has the largest.
-fn pair_after(v: Pair, step: u32) -> Pair {
+fn pair_after(v: Pair, step: u32, most: u64) -> Pair {
     let mut w = v;
     if v.p < step {
         w.p = v.p + 1;
@@ -60,12 +68,16 @@ fn pair_after(v: Pair, step: u32) -> Pair {
         w.q = std::num::wrapping_add_u32(v.q, 3);
         w.p = 1;
     }
-    w.size = std::num::wrapping_add_u64(v.size, 1000000000000000000) % 9000000000000000000;
+    w.size = 0;
+    if v.size < most {
+        w.size = std::num::wrapping_add_u64(v.size, most / 8);
+    }
     w
 }
 
 // n pairs, ascending, of at most `step` to a chamber.
-fn made_list(n: usize, step: u32) -> [Pair; 64] {
+fn made_list(n: usize, step: u32, grid: bool) -> [Pair; 64] {
+    let most = most_of(grid);
     let mut l = [Pair {
         q: 0,
         p: 0,
@@ -81,7 +93,7 @@ fn made_list(n: usize, step: u32) -> [Pair; 64] {
         if i < n {
             l[i] = v;
         }
-        v = pair_after(v, step);
+        v = pair_after(v, step, most);
         i += 1;
     }
     l
@@ -157,6 +169,7 @@ fn is_id(k: u32) -> bool {
 
 // Whether the pairs that a page counts have a bad id or size, or do not ascend from its key.
 fn has_bad(g: Page) -> bool {
+    let most = most_of(g.source.terms.grid);
     let mut last = rank(g.key);
     let mut bad = false;
     let mut i: usize = 0;
@@ -164,11 +177,7 @@ fn has_bad(g: Page) -> bool {
         let v = g.pairs[i];
         let k = list::key_of(v);
         if i < g.count {
-            bad = bad
-                | !is_id(k.q)
-                | !is_id(k.p)
-                | (8000000000000000000 < v.size)
-                | (rank(k) <= last);
+            bad = bad | !is_id(k.q) | !is_id(k.p) | (most < v.size) | (rank(k) <= last);
         }
         last = rank(k);
         i += 1;
@@ -184,8 +193,12 @@ fn is_kind(a: Source, b: Source) -> bool {
     !(a.terms.own ^ b.terms.own)
 }
 
+fn is_profile(a: Source, b: Source) -> bool {
+    !(a.terms.grid ^ b.terms.grid)
+}
+
 fn is_source(a: Source, b: Source) -> bool {
-    is_kind(a, b) & is_edition(a, b) & (a.terms.threshold == b.terms.threshold)
+    is_kind(a, b) & is_profile(a, b) & is_edition(a, b) & (a.terms.threshold == b.terms.threshold)
 }
 
 // The number of refusal, read from the rules a second time.
@@ -202,6 +215,9 @@ fn expected(b: Book, len: usize, last: Key, g: Page) -> u32 {
     }
     if !is_kind(own, other) {
         return 22;
+    }
+    if !is_profile(own, other) {
+        return 30;
     }
     if !is_edition(own, other) {
         return 13;
@@ -378,14 +394,15 @@ fn of_others(g: Page) -> Page {
         terms: Terms {
             threshold: 1,
             own: g.source.terms.own,
+            grid: g.source.terms.grid,
         },
     };
     h.source = others;
     h
 }
 
-// A page of the other kind, and of other editions.
-fn of_kind(g: Page) -> Page {
+// A page of the other kind, of other editions, and of either profile.
+fn of_kind(g: Page, grid: bool) -> Page {
     let mut h = g;
     let source = g.source;
     let other = Source {
@@ -394,6 +411,24 @@ fn of_kind(g: Page) -> Page {
         terms: Terms {
             threshold: 0,
             own: !source.terms.own,
+            grid: grid,
+        },
+    };
+    h.source = other;
+    h
+}
+
+// A page of the other profile, and of this P's edition.
+fn of_profile(g: Page, p_edition: u32) -> Page {
+    let mut h = g;
+    let source = g.source;
+    let other = Source {
+        p_edition: p_edition,
+        q_edition: 9,
+        terms: Terms {
+            threshold: source.terms.threshold,
+            own: source.terms.own,
+            grid: !source.terms.grid,
         },
     };
     h.source = other;
@@ -409,18 +444,28 @@ fn of_another(g: Page) -> Page {
         terms: Terms {
             threshold: 3,
             own: g.source.terms.own,
+            grid: g.source.terms.grid,
         },
     };
     h.source = another;
     h
 }
 
-// A page of another list, in one of three ways.
+// A page of another list, in one of seven ways.
 fn of_other_list(g: Page, way: usize) -> Page {
-    if way < 2 {
-        return of_kind(g);
+    if way == 0 {
+        return of_kind(g, false);
     }
-    if way < 4 {
+    if way == 1 {
+        return of_kind(g, true);
+    }
+    if way == 2 {
+        return of_profile(g, 7);
+    }
+    if way == 3 {
+        return of_profile(g, 8);
+    }
+    if way == 4 {
         return of_others(g);
     }
     of_another(g)
@@ -433,7 +478,7 @@ fn unmarked(g: Page) -> Page {
     h
 }
 
-// A page broken by hand, in one of seven ways.
+// A page broken by hand, in one of eight ways.
 fn broken(g: Page, way: usize) -> Page {
     let mut h = g;
     if way == 0 {
@@ -458,9 +503,11 @@ fn broken(g: Page, way: usize) -> Page {
             size: 2,
         };
     } else if way == 4 {
-        h.pairs[0].size = 8000000000000000001;
+        h.pairs[0].size = std::num::wrapping_add_u64(most_of(g.source.terms.grid), 1);
     } else if way == 5 {
         h.pairs[1] = h.pairs[0];
+    } else if way == 6 {
+        h.pairs[0].size = 8000000000000000001;
     } else {
         h.count = 0;
         h.end = false;
@@ -470,7 +517,7 @@ fn broken(g: Page, way: usize) -> Page {
 
 // The page of a kind: the book's own, one from before, one of another key, and the faults by themselves and in pairs.
 fn page_of(g: Game, kind: usize) -> Page {
-    let way = drawn(mixed(g.seed), 7);
+    let way = drawn(mixed(g.seed), 8);
     if kind < 3 {
         return unmarked(own_page(g));
     }
@@ -570,12 +617,14 @@ fn some_threshold(seed: u64) -> u32 {
 
 fn opened(seed: u64, tally: Tally) -> Game {
     let n = drawn(seed, 61);
+    let grid = drawn(mixed(seed) >> 9, 2) == 1;
     let source = Source {
         p_edition: 7,
         q_edition: 9,
         terms: Terms {
             threshold: some_threshold(mixed(seed)),
             own: false,
+            grid: grid,
         },
     };
     let b = begun(source);
@@ -585,6 +634,7 @@ fn opened(seed: u64, tally: Tally) -> Game {
         terms: Terms {
             threshold: 60001,
             own: false,
+            grid: grid,
         },
     };
     let over = Source {
@@ -593,6 +643,7 @@ fn opened(seed: u64, tally: Tally) -> Game {
         terms: Terms {
             threshold: 60001,
             own: false,
+            grid: grid,
         },
     };
     let two = Source {
@@ -601,6 +652,7 @@ fn opened(seed: u64, tally: Tally) -> Game {
         terms: Terms {
             threshold: 1,
             own: true,
+            grid: grid,
         },
     };
     let least = Source {
@@ -609,6 +661,7 @@ fn opened(seed: u64, tally: Tally) -> Game {
         terms: Terms {
             threshold: 1,
             own: true,
+            grid: grid,
         },
     };
     let good = is_book(b, 0, false, source)
@@ -621,7 +674,7 @@ fn opened(seed: u64, tally: Tally) -> Game {
         t.wrong = std::num::wrapping_add_u64(t.wrong, 1);
     }
     Game {
-        list: made_list(n, 4),
+        list: made_list(n, 4, grid),
         n: n,
         slots: [Pair {
             q: 77,
@@ -662,6 +715,7 @@ fn report(t: Tally) {
     line(b"refused 11", t.counts[11]);
     line(b"refused 12", t.counts[12]);
     line(b"refused 22", t.counts[22]);
+    line(b"refused 30", t.counts[30]);
     line(b"refused 13", t.counts[13]);
     line(b"refused 31", t.counts[31]);
     line(b"refused 14", t.counts[14]);

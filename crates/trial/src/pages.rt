@@ -7,8 +7,8 @@ fn print_key(k: list::Key) {
     say::number(k.p as u64);
 }
 
-fn print_mark(end: bool) {
-    if end {
+pub fn print_mark(set: bool) {
+    if set {
         say::number(1);
     } else {
         say::number(0);
@@ -21,6 +21,7 @@ fn print_page(page: list::Page) {
     say::number(source.q_edition as u64);
     say::number(source.terms.threshold as u64);
     print_mark(source.terms.own);
+    print_mark(source.terms.grid);
     let key = page.key;
     print_key(key);
     say::number(page.count as u64);
@@ -29,22 +30,25 @@ fn print_page(page: list::Page) {
     say::pairs(pairs, 16);
 }
 
-// A key, a size and a threshold, and the page that they ask for.
+// A key, a size, a threshold and a profile, and the page that they ask for.
 pub fn page_case(p: &[i32], q: &[i32], bits: &mut [u64]) {
     let key_q = tape::next_id();
     let key_p = tape::next_id();
     let size = tape::next_or_largest();
     let threshold = tape::next_id();
+    let grid = tape::next_mark();
     let key = list::Key { q: key_q, p: key_p };
     say::say(b"page");
     print_key(key);
     say::number(size as u64);
     say::number(threshold as u64);
+    print_mark(grid);
     say::say(b":");
     let request = list::Request {
         key: key,
         size: size,
         threshold: threshold,
+        grid: grid,
     };
     let r = ring::page::page(p, q, request, bits);
     say::number(r.number as u64);
@@ -53,17 +57,19 @@ pub fn page_case(p: &[i32], q: &[i32], bits: &mut [u64]) {
     print_page(page);
 }
 
-// A key and a size, and the page of the self join that they ask for.
+// A key, a size and a profile, and the page of the self join that they ask for.
 pub fn own_case(s: &[i32], bits: &mut [u64]) {
     let key_q = tape::next_id();
     let key_p = tape::next_id();
     let size = tape::next_or_largest();
+    let grid = tape::next_mark();
     let key = list::Key { q: key_q, p: key_p };
     say::say(b"own");
     print_key(key);
     say::number(size as u64);
+    print_mark(grid);
     say::say(b":");
-    let r = ring::own::own_page(s, key, size, bits);
+    let r = ring::own::own_page(s, key, size, grid, bits);
     say::number(r.number as u64);
     say::number(r.opened);
     let page = r.page;

@@ -1,4 +1,4 @@
-// The checked examples of document 01: the rules on places and boxes.
+// The checked examples of document 01, the rules on places and boxes; and some of the street grid.
 use crate::say;
 use plane::Boxed;
 use plane::Spot;
@@ -133,7 +133,7 @@ fn box_rule(a: Spot, b: Spot, low: Spot, high: Spot)
         say::say(b" skipped\n");
         return;
     }
-    let side = plane::side_inside(a, b, o);
+    let side = plane::profile::side_inside(false, a, b, o);
     if side == 4 {
         say::say(b" opened\n");
         return;
@@ -141,6 +141,77 @@ fn box_rule(a: Spot, b: Spot, low: Spot, high: Spot)
     say::say(b" blocks by side");
     say::number(side as u64);
     say::end_line();
+}
+
+// Whether z blocks a, b along the streets.
+fn street_block(a: Spot, b: Spot, z: Spot)
+    requires { ⌜ SpotIn a × SpotIn b × SpotIn z ⌝ }
+{
+    say::say(b"street rule");
+    say_spot(a);
+    say_spot(b);
+    say_spot(z);
+    if plane::profile::does_block(true, a, b, z) {
+        say::say(b" blocks\n");
+    } else {
+        say::say(b" does not block\n");
+    }
+}
+
+// What a box is to the pair a, b along the streets.
+fn street_box(a: Spot, b: Spot, low: Spot, high: Spot)
+    requires { ⌜ SpotIn a × SpotIn b × SpotIn low × SpotIn high ⌝ }
+{
+    say::say(b"street boxes");
+    say_spot(a);
+    say_spot(b);
+    say::say(b" box");
+    say_spot(low);
+    say_spot(high);
+    let o = boxed(low, high);
+    if plane::profile::is_far(true, a, b, o) {
+        say::say(b" skipped\n");
+        return;
+    }
+    let side = plane::profile::side_inside(true, a, b, o);
+    if side == 4 {
+        say::say(b" opened\n");
+        return;
+    }
+    say::say(b" blocks by side");
+    say::number(side as u64);
+    say::end_line();
+}
+
+// The size of the pair a, b along the streets.
+fn street_size(a: Spot, b: Spot)
+    requires { ⌜ SpotIn a × SpotIn b ⌝ }
+{
+    say::say(b"street size");
+    say_spot(a);
+    say_spot(b);
+    say::number(plane::profile::size_of(true, a, b));
+    say::end_line();
+}
+
+fn street_rule() {
+    street_block(spot(0, 0), spot(4, 0), spot(2, 2));
+    street_block(spot(0, 0), spot(4, 0), spot(3, 1));
+    street_block(spot(0, 0), spot(4, 0), spot(2, 3));
+    street_block(spot(0, 0), spot(4, 0), spot(0, 0));
+    street_block(spot(0, 0), spot(4, 0), spot(4, 0));
+    street_block(spot(0, 0), spot(1, 0), spot(1, 1));
+    street_block(spot(0, 0), spot(4, 4), spot(5, 3));
+    street_block(spot(0, 0), spot(5, 3), spot(4, 4));
+}
+
+fn street_boxes() {
+    street_box(spot(0, 0), spot(4, 0), spot(2, 2), spot(5, 5));
+    street_box(spot(0, 0), spot(4, 0), spot(4, 1), spot(6, 6));
+    street_box(spot(0, 0), spot(4, 0), spot(0, 0), spot(0, 0));
+    street_box(spot(0, 0), spot(4, 0), spot(1, 0), spot(9, 1));
+    street_box(spot(0, 0), spot(4, 0), spot(2, 0), spot(9, 1));
+    street_size(spot(0, 0), spot(3, 4));
 }
 
 fn ring_rule() {
@@ -169,4 +240,6 @@ pub fn rules() {
     ring_rule();
     filter_rule();
     box_rules();
+    street_rule();
+    street_boxes();
 }

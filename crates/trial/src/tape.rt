@@ -87,6 +87,11 @@ pub fn next_id() -> u32
     words::num(w) as u32
 }
 
+// The next word as a mark: whether it is above 0.
+pub fn next_mark() -> bool {
+    next_count() > 0
+}
+
 // The next n words go to the first n places of `out`. The others stay as they were.
 pub fn fill(out: &mut [i32], n: usize)
     requires { ⌜ n ≤ length (now out) ⌝ }

@@ -55,6 +55,9 @@ fn show_walk(w: Walked) {
 
 fn show_pairs(g: Page) {
     say::number(g.count as u64);
+    if g.source.terms.grid {
+        say::say(b" grid");
+    }
     if g.end {
         say::say(b" end");
     }
@@ -132,8 +135,9 @@ fn ring_walk_through(
     mq: usize,
     j: usize,
     i: usize,
+    grid: bool,
 ) -> Walked
-    ensures { λ r. ⌜ r ≡ walked (now (p .entry)) (now (q .entry)) j i ⌝ }
+    ensures { λ r. ⌜ r ≡ walked (now (p .entry)) (now (q .entry)) j i grid ⌝ }
 {
     view::ring_walk_at(
         Sheet {
@@ -148,6 +152,7 @@ fn ring_walk_through(
         },
         j,
         i,
+        grid,
     )
 }
 
@@ -241,7 +246,7 @@ fn ask_short(
     show_waiting(waiting);
 }
 
-// Which call, the counts that the views of P and of Q claim, two positions or ids, and a size. A call that does not take one of these reads it all the same.
+// Which call, the counts that the views of P and of Q claim, two positions or ids, a size, and a profile. A call that does not take one of these reads it all the same.
 pub fn view_case(p: &[i32], q: &[i32], bits: &mut [u64]) {
     let call = tape::next_count();
     let np = tape::next_or_largest();
@@ -251,6 +256,7 @@ pub fn view_case(p: &[i32], q: &[i32], bits: &mut [u64]) {
     let a = tape::next_id();
     let b = tape::next_id();
     let size = tape::next_or_largest();
+    let grid = tape::next_mark();
     if call == 1 {
         show_head(view::open_head(p));
     } else if call == 2 {
@@ -260,13 +266,14 @@ pub fn view_case(p: &[i32], q: &[i32], bits: &mut [u64]) {
     } else if call == 4 {
         show_filter(filter_walk_through(p, np, mp, q, nq, mq, a as usize, bits));
     } else if call == 5 {
-        show_walk(ring_walk_through(p, np, mp, q, nq, mq, a as usize, b as usize));
+        show_walk(ring_walk_through(p, np, mp, q, nq, mq, a as usize, b as usize, grid));
     } else if call == 6 {
         let key = Key { q: a, p: b };
         let request = Request {
             key: key,
             size: size,
             threshold: 0,
+            grid: grid,
         };
         show_page(page_through(p, np, mp, q, nq, mq, request, bits));
     } else if call == 7 {

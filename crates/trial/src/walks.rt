@@ -47,13 +47,15 @@ fn print_answer(r: ring::Walked) {
     say::end_line();
 }
 
-// A position of Q and one of P, and their ring walk.
+// A position of Q, one of P and a profile, and their ring walk.
 pub fn ring_case(p: &[i32], q: &[i32]) {
     let j = tape::next_or_largest();
     let i = tape::next_or_largest();
+    let grid = tape::next_mark();
     say::say(b"ring");
     say::number(j as u64);
     say::number(i as u64);
+    crate::pages::print_mark(grid);
     say::say(b":");
-    print_answer(ring::ringwalk::ring_walk(p, q, j, i));
+    print_answer(ring::ringwalk::ring_walk(p, q, j, i, grid));
 }

@@ -1,6 +1,7 @@
 -- One input, one answer: from each promise alone. What two answers of `open` share is all that a view shows: the number, the words covered and where they
 -- stand, the counts. And what the readers make of a view is settled by the words that it covers: its own counts say nothing.
 -- Assumes nothing.
+use mathlib.Core.Bool.{Bool}
 use mathlib.Core.Path.{_≡_, refl, sym, ap, _∙_}
 use mathlib.Core.List.{List, []}
 use Prim.Native.Nat.{ℕ}
@@ -55,9 +56,9 @@ pub point-through-once : (d d′ : Sheet) (i : ℕ) (r r′ : Pointed) → now (
     → r ≡ pointed (now (d .words)) i → r′ ≡ pointed (now (d′ .words)) i → r ≡ r′
 point-through-once d d′ i r r′ v e f = e ∙ (λ x. pointed (v x) i) ∙ sym f
 
-pub ring-through-once : (p p′ q q′ : Sheet) (j i : ℕ) (r r′ : Walked) → now (p .words) ≡ now (p′ .words) → now (q .words) ≡ now (q′ .words)
-    → r ≡ walked (now (p .words)) (now (q .words)) j i → r′ ≡ walked (now (p′ .words)) (now (q′ .words)) j i → r ≡ r′
-ring-through-once p p′ q q′ j i r r′ v w e f = e ∙ (λ x. walked (v x) (w x) j i) ∙ sym f
+pub ring-through-once : (p p′ q q′ : Sheet) (j i : ℕ) (g : Bool) (r r′ : Walked) → now (p .words) ≡ now (p′ .words) → now (q .words) ≡ now (q′ .words)
+    → r ≡ walked (now (p .words)) (now (q .words)) j i g → r′ ≡ walked (now (p′ .words)) (now (q′ .words)) j i g → r ≡ r′
+ring-through-once p p′ q q′ j i g r r′ v w e f = e ∙ (λ x. walked (v x) (w x) j i g) ∙ sym f
 
 pub filter-through-once : (p p′ q q′ : Sheet) (j : ℕ) (ws : List ℕ) (r r′ : Filtered) (t t′ : List ℕ) → now (p .words) ≡ now (p′ .words) → now (q .words) ≡ now (q′ .words)
     → (r ≡ filtered (now (p .words)) (now (q .words)) j (length ws)) × (t ≡ filteredBits (now (p .words)) (now (q .words)) j ws)
@@ -73,12 +74,12 @@ pub page-through-once : (p p′ q q′ : Sheet) (ask : Request) (ws : List ℕ) 
 page-through-once p p′ q q′ ask ws r r′ t t′ v w e f =
     (e .0 ∙ (λ i. pageAnswer (v i) (w i) ask (length ws)) ∙ sym (f .0), e .1 ∙ (λ i. pageBits (v i) (w i) ask ws) ∙ sym (f .1))
 
-pub own-through-once : (d d′ : Sheet) (key : Key) (size : ℕ) (ws : List ℕ) (r r′ : Paged) (t t′ : List ℕ) → now (d .words) ≡ now (d′ .words)
-    → (r ≡ ownAnswer (now (d .words)) key size (length ws)) × (t ≡ ownBits (now (d .words)) key size ws)
-    → (r′ ≡ ownAnswer (now (d′ .words)) key size (length ws)) × (t′ ≡ ownBits (now (d′ .words)) key size ws)
+pub own-through-once : (d d′ : Sheet) (key : Key) (size : ℕ) (g : Bool) (ws : List ℕ) (r r′ : Paged) (t t′ : List ℕ) → now (d .words) ≡ now (d′ .words)
+    → (r ≡ ownAnswer (now (d .words)) key size g (length ws)) × (t ≡ ownBits (now (d .words)) key size g ws)
+    → (r′ ≡ ownAnswer (now (d′ .words)) key size g (length ws)) × (t′ ≡ ownBits (now (d′ .words)) key size g ws)
     → (r ≡ r′) × (t ≡ t′)
-own-through-once d d′ key size ws r r′ t t′ v e f =
-    (e .0 ∙ (λ i. ownAnswer (v i) key size (length ws)) ∙ sym (f .0), e .1 ∙ (λ i. ownBits (v i) key size ws) ∙ sym (f .1))
+own-through-once d d′ key size g ws r r′ t t′ v e f =
+    (e .0 ∙ (λ i. ownAnswer (v i) key size g (length ws)) ∙ sym (f .0), e .1 ∙ (λ i. ownBits (v i) key size g ws) ∙ sym (f .1))
 
 pub partners-through-once : (p p′ q q′ : Sheet) (id t : ℕ) (ws : List ℕ) (r r′ : Partnered) (s s′ : List ℕ) → now (p .words) ≡ now (p′ .words) → now (q .words) ≡ now (q′ .words)
     → (r ≡ partnersAnswer (now (p .words)) (now (q .words)) id t (length ws)) × (s ≡ partnersBits (now (p .words)) (now (q .words)) id t ws)

@@ -82,14 +82,14 @@ pub fn filter_walk_at<'a, 'b, 'c>(
     ring::filter::filter_walk(p.words, q.words, j, bits)
 }
 
-// The ring walk for position j of Q and position i of P; refused by 1 to 8 of P's words, then of Q's, then by 9.
-pub fn ring_walk_at<'a, 'b>(p: Sheet<'a>, q: Sheet<'b>, j: usize, i: usize) -> Walked
-    ensures { λ r. ⌜ r ≡ walked (now (p .entry .words)) (now (q .entry .words)) j i ⌝ }
+// The ring walk for position j of Q and position i of P, of a profile; refused by 1 to 8 of P's words, then of Q's, then by 29, then by 9.
+pub fn ring_walk_at<'a, 'b>(p: Sheet<'a>, q: Sheet<'b>, j: usize, i: usize, grid: bool) -> Walked
+    ensures { λ r. ⌜ r ≡ walked (now (p .entry .words)) (now (q .entry .words)) j i grid ⌝ }
 {
-    ring::ringwalk::ring_walk(p.words, q.words, j, i)
+    ring::ringwalk::ring_walk(p.words, q.words, j, i, grid)
 }
 
-// The page that follows a key; refused by 1 to 8 of P's words, then of Q's, then by 9 for the key, by 10 for the size, by 21 for the threshold, by 24 for the words lent.
+// The page that follows a key; refused by 1 to 8 of P's words, then of Q's, then by 29, by 9 for the key, by 10 for the size, by 21 for the threshold, by 24 for the words lent.
 pub fn page_at<'a, 'b, 'c>(
     p: Sheet<'a>,
     q: Sheet<'b>,
@@ -101,11 +101,17 @@ pub fn page_at<'a, 'b, 'c>(
     ring::page::page(p.words, q.words, request, bits)
 }
 
-// The page of a self join that follows a key; refused by 1 to 8 of the words, then by 9 for the key, by 10 for the size, by 24 for the words lent.
-pub fn own_page_at<'a, 'b>(sheet: Sheet<'a>, key: Key, size: usize, bits: &'b mut [u64]) -> Paged
-    ensures { λ r. ⌜ (r ≡ ownAnswer (now (sheet .entry .words)) key size (length (now (bits .entry)))) × (now (bits .exit) ≡ ownBits (now (sheet .entry .words)) key size (now (bits .entry))) ⌝ }
+// The page of a self join that follows a key; of a profile; refused by 1 to 8 of the words, then by 29, by 9 for the key, by 10 for the size, by 24 for the words lent.
+pub fn own_page_at<'a, 'b>(
+    sheet: Sheet<'a>,
+    key: Key,
+    size: usize,
+    grid: bool,
+    bits: &'b mut [u64],
+) -> Paged
+    ensures { λ r. ⌜ (r ≡ ownAnswer (now (sheet .entry .words)) key size grid (length (now (bits .entry)))) × (now (bits .exit) ≡ ownBits (now (sheet .entry .words)) key size grid (now (bits .entry))) ⌝ }
 {
-    ring::own::own_page(sheet.words, key, size, bits)
+    ring::own::own_page(sheet.words, key, size, grid, bits)
 }
 
 // Whether the chamber with an id has at least t partners; refused by 1 to 8 of P's words, then of Q's, then by 20, then by 21, then by 24.

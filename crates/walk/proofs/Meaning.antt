@@ -1,5 +1,6 @@
 -- What the two walks mean, for every sheet that opens, in any form: `Opens w (points w) (nodes w)`, which the sheet's `open-facts` makes of `openNo lim w ≡ 0`.
--- The ring rule is that of the lists of points, `ringPair (pointsOf P) (pointsOf Q) j i`, with no tree in it: q is position j of Q, p is position i of P.
+-- The ring rule is that of the lists of points, `ringPairBy φ (pointsOf P) (pointsOf Q) j i`, with no tree in it, of any lawful profile φ: q is position j of Q, p is position i
+-- of P.
 --
 --     filter walk for q over w, kept set on so many words as hold the points
 --         walk-kept-partner      "For every position, a ring partner of q is kept"
@@ -27,10 +28,12 @@ use Prim.Native.Nat.{ℕ, _+_, _*_, _<_, _≤_}
 use native.Mathlib.Omega.{arith}
 use lib.IntN.{ℤ}
 use lib.ListN.{length}
+use borrow.Author.Tests.{lt-ltb, ltb-true}
 use Rattle.integers.proofs.Bools.{and-right, and-both, decide, clash, test-iff}
 use Rattle.plane.specs.declared.Spot.{Spot}
-use Rattle.plane.specs.Rule.{drops}
-use Rattle.list.specs.RingList.{unblocked, ringPair}
+use Rattle.plane.specs.Profile.{Profile}
+use Rattle.plane.proofs.ProfileLaws.{Lawful}
+use Rattle.list.specs.RingList.{unblocked, ringPairBy}
 use Rattle.sheet.specs.Layout.{points, nodes}
 use Rattle.sheet.specs.Places.{spotOf, pointsOf}
 use Rattle.sheet.specs.Open.{Opens}
@@ -41,8 +44,8 @@ use Rattle.walk.specs.declared.Blocker.{Blocker}
 use Rattle.walk.specs.declared.Edge.{Edge}
 use Rattle.walk.specs.declared.Hit.the-variants.{Point, Side}
 use Rattle.walk.specs.declared.Answer.{Answer}
-use Rattle.walk.specs.FilterWalk.{filterKept, filterKeeps}
-use Rattle.walk.specs.RingWalk.{clear, ringWalk, pairWalk}
+use Rattle.walk.specs.FilterWalk.{filterKept, filterKeeps, keepsBy, keepsOpened}
+use Rattle.walk.specs.RingWalk.{clear, ringWalk, pairWalkBy}
 use Rattle.walk.specs.Claims.{Dropper, Blocks, BlocksBySide, plus, overQ, overP, BlocksPair, BlocksPairBySide}
 use Rattle.walk.proofs.FilterLaws.{filter-opened, kept-long, kept-below, kept-settled}
 use Rattle.walk.proofs.RingLaws.{Truth, ring-truth, ring-opened}
@@ -81,74 +84,101 @@ module _ (words : ℕ) (w : List ℤ) (q : Spot) (opens : Opens w (points w) (no
         (λ (x : Dropper w (points w) q (filterKept words w q .bits) i). x)
         (kept-settled words w q opens enough i h)
 
--- "For every position, a ring partner of q is kept": q is position j of Q, its partner position i of P.
-pub walk-kept-partner : (words : ℕ) (P Q : List ℤ) → Opens P (points P) (nodes P) → points P ≤ 64 * words → (j i : ℕ) → j < points Q → i < points P
-    → ringPair (pointsOf P) (pointsOf Q) j i ≡ true → filterKeeps words P (spotOf Q j) i ≡ true
-unfolding drops
-walk-kept-partner words P Q opens enough j i hj hi e =
+-- "For every position, a ring partner of q is kept", of a profile for which the half-plane filter is used: q is position j of Q, its partner position i of P.
+pub walk-kept-partner : (φ : Profile) → Lawful φ → φ .half ≡ true → (words : ℕ) (P Q : List ℤ) → Opens P (points P) (nodes P) → points P ≤ 64 * words → (j i : ℕ) → j < points Q → i < points P
+    → ringPairBy φ (pointsOf P) (pointsOf Q) j i ≡ true → filterKeeps words P (spotOf Q j) i ≡ true
+walk-kept-partner φ law half words P Q opens enough j i hj hi e =
     let q = spotOf Q j in
     let p = spotOf P i in
-    let free = unblocked-free P q p (and-right (unblocked (pointsOf Q) q p) (unblocked (pointsOf P) q p) (sym (pair-rule P Q j i hj hi) ∙ e)) in
+    let free = unblocked-free φ P q p (and-right (unblocked φ (pointsOf Q) q p) (unblocked φ (pointsOf P) q p) (sym (pair-rule φ P Q j i hj hi) ∙ e)) in
     ⊎-elim
     (λ (t : filterKeeps words P q i ≡ true). t)
-    (λ (x : Dropper P (points P) q (filterKept words P q .bits) i). clash (x .dropping) (free (x .by) (x .below)))
+    (λ (x : Dropper P (points P) q (filterKept words P q .bits) i). clash (law .dropped-blocks half q (spotOf P (x .by)) p (x .dropping)) (free (x .by) (x .below)))
     (kept-settled words P q opens enough i hi)
+
+-- what is kept by any profile: a ring partner is
+pub keeps-partner : (φ : Profile) → Lawful φ → (words : ℕ) (P Q : List ℤ) → Opens P (points P) (nodes P) → points P ≤ 64 * words → (j i : ℕ) → j < points Q → i < points P
+    → ringPairBy φ (pointsOf P) (pointsOf Q) j i ≡ true → keepsBy φ words P (spotOf Q j) i ≡ true
+unfolding keepsBy
+keeps-partner φ law words P Q opens enough j i hj hi e =
+    ⊎-elim
+    (λ (h : φ .half ≡ true). rw h (walk-kept-partner φ law h words P Q opens enough j i hj hi e))
+    (λ (h : φ .half ≡ false). rw h (lt-ltb i (points P) hi))
+    (decide (φ .half))
+
+-- no position past the points is
+pub keeps-below : (φ : Profile) (words : ℕ) (w : List ℤ) (q : Spot) → Opens w (points w) (nodes w) → points w ≤ 64 * words → (i : ℕ) → keepsBy φ words w q i ≡ true → i < points w
+unfolding keepsBy
+keeps-below φ words w q opens enough i e =
+    ⊎-elim
+    (λ (h : φ .half ≡ true). kept-below words w q opens enough i (rw h at e))
+    (λ (h : φ .half ≡ false). ltb-true i (points w) (rw h at e))
+    (decide (φ .half))
+
+-- and no more nodes are opened for it than the sheet has
+pub keeps-opened-at-most-m : (φ : Profile) (words : ℕ) (w : List ℤ) (q : Spot) → Opens w (points w) (nodes w) → keepsOpened φ words w q ≤ nodes w
+unfolding keepsOpened
+keeps-opened-at-most-m φ words w q opens =
+    ⊎-elim
+    (λ (h : φ .half ≡ true). rw h (filter-opened-at-most-m words w q opens))
+    (λ (h : φ .half ≡ false). rw h (omega arith))
+    (decide (φ .half))
 
 -- ---- the ring walk for the pair a, b over w
 
-module _ (set : ℕ) (w : List ℤ) (opens : Opens w (points w) (nodes w)) (a b : Spot) where
+module _ (φ : Profile) (law : Lawful φ) (set : ℕ) (w : List ℤ) (opens : Opens w (points w) (nodes w)) (a b : Spot) where
   -- "nodes opened never exceed m in one walk of one sheet"
-  pub walk-ring-opened-at-most-m : ringWalk set w a b .opened ≤ nodes w
-  walk-ring-opened-at-most-m = ring-opened set w opens a b
+  pub walk-ring-opened-at-most-m : ringWalk φ set w a b .opened ≤ nodes w
+  walk-ring-opened-at-most-m = ring-opened φ set w opens a b
 
   -- The walk is clear exactly if no record of the sheet blocks.
-  pub walk-clear-iff : clear (ringWalk set w a b .hit) ≡ unblocked (pointsOf w) a b
-  walk-clear-iff = walk-unblocked set w opens a b
+  pub walk-clear-iff : clear (ringWalk φ set w a b .hit) ≡ unblocked φ (pointsOf w) a b
+  walk-clear-iff = walk-unblocked φ law set w opens a b
 
   -- A point answer names a position of the sheet that blocks.
-  pub walk-point-blocks : (x : Blocker) → ringWalk set w a b .hit ≡ Point x → (x .set ≡ set) × Blocks w (points w) a b (x .position)
-  walk-point-blocks x e = subst (Truth set w (points w) (nodes w) a b) e (ring-truth set w opens a b)
+  pub walk-point-blocks : (x : Blocker) → ringWalk φ set w a b .hit ≡ Point x → (x .set ≡ set) × Blocks φ w (points w) a b (x .position)
+  walk-point-blocks x e = subst (Truth φ set w (points w) (nodes w) a b) e (ring-truth φ law set w opens a b)
 
   -- A side answer names a node of the sheet and the first side of its box that lies strictly inside; on it stands a position that blocks.
-  pub walk-side-blocks : (x : Edge) → ringWalk set w a b .hit ≡ Side x → (x .set ≡ set) × (x .node < nodes w) × BlocksBySide w (points w) a b (x .node) (x .side)
-  walk-side-blocks x e = subst (Truth set w (points w) (nodes w) a b) e (ring-truth set w opens a b)
+  pub walk-side-blocks : (x : Edge) → ringWalk φ set w a b .hit ≡ Side x → (x .set ≡ set) × (x .node < nodes w) × BlocksBySide φ w (points w) a b (x .node) (x .side)
+  walk-side-blocks x e = subst (Truth φ set w (points w) (nodes w) a b) e (ring-truth φ law set w opens a b)
 
 -- ---- the ring walk for q and p: over Q, then over P. Set 0 is P, 1 is Q.
 
 -- "Q is walked first, then P if Q is clear; the counts add up"
-pub pair-is : (P Q : List ℤ) (j i : ℕ) → pairWalk P Q j i ≡ cond (clear (overQ P Q j i .hit)) (plus (overQ P Q j i .opened) (overP P Q j i)) (overQ P Q j i)
+pub pair-is : (φ : Profile) (P Q : List ℤ) (j i : ℕ) → pairWalkBy φ P Q j i ≡ cond (clear (overQ φ P Q j i .hit)) (plus (overQ φ P Q j i .opened) (overP φ P Q j i)) (overQ φ P Q j i)
 pair-is = pair-walks
 
-module _ (P Q : List ℤ) (p-opens : Opens P (points P) (nodes P)) (q-opens : Opens Q (points Q) (nodes Q)) (j i : ℕ) where
+module _ (φ : Profile) (law : Lawful φ) (P Q : List ℤ) (p-opens : Opens P (points P) (nodes P)) (q-opens : Opens Q (points Q) (nodes Q)) (j i : ℕ) where
   -- At most the nodes of both sheets are opened.
-  pub pair-opened : pairWalk P Q j i .opened ≤ nodes P + nodes Q
-  pair-opened = subst (λ (s : Answer). s .opened ≤ nodes P + nodes Q) (sym (pair-is P Q j i)) (go (clear (overQ P Q j i .hit)))
+  pub pair-opened : pairWalkBy φ P Q j i .opened ≤ nodes P + nodes Q
+  pair-opened = subst (λ (s : Answer). s .opened ≤ nodes P + nodes Q) (sym (pair-is φ P Q j i)) (go (clear (overQ φ P Q j i .hit)))
     where
-      go : (t : Bool) → cond t (plus (overQ P Q j i .opened) (overP P Q j i)) (overQ P Q j i) .opened ≤ nodes P + nodes Q
-      go true = omega (arith, ring-opened 1 Q q-opens (spotOf Q j) (spotOf P i), ring-opened 0 P p-opens (spotOf Q j) (spotOf P i))
-      go false = omega (arith, ring-opened 1 Q q-opens (spotOf Q j) (spotOf P i))
+      go : (t : Bool) → cond t (plus (overQ φ P Q j i .opened) (overP φ P Q j i)) (overQ φ P Q j i) .opened ≤ nodes P + nodes Q
+      go true = omega (arith, ring-opened φ 1 Q q-opens (spotOf Q j) (spotOf P i), ring-opened φ 0 P p-opens (spotOf Q j) (spotOf P i))
+      go false = omega (arith, ring-opened φ 1 Q q-opens (spotOf Q j) (spotOf P i))
 
   -- A point answer names a record of Q or one of P that blocks;
-  pub pair-point : (x : Blocker) → pairWalk P Q j i .hit ≡ Point x → BlocksPair P Q j i (x .set) (x .position)
-  pair-point x = pair-hit P Q j i (λ h. h ≡ Point x → BlocksPair P Q j i (x .set) (x .position)) (λ e. inl (walk-point-blocks 1 Q q-opens (spotOf Q j) (spotOf P i) x e)) (λ e. inr (walk-point-blocks 0 P p-opens (spotOf Q j) (spotOf P i) x e))
+  pub pair-point : (x : Blocker) → pairWalkBy φ P Q j i .hit ≡ Point x → BlocksPair φ P Q j i (x .set) (x .position)
+  pair-point x = pair-hit φ P Q j i (λ h. h ≡ Point x → BlocksPair φ P Q j i (x .set) (x .position)) (λ e. inl (walk-point-blocks φ law 1 Q q-opens (spotOf Q j) (spotOf P i) x e)) (λ e. inr (walk-point-blocks φ law 0 P p-opens (spotOf Q j) (spotOf P i) x e))
 
   -- and a side answer a node of that sheet and the first side of its box that lies strictly inside, on which one stands.
-  pub pair-side : (x : Edge) → pairWalk P Q j i .hit ≡ Side x → BlocksPairBySide P Q j i (x .set) (x .node) (x .side)
-  pair-side x = pair-hit P Q j i (λ h. h ≡ Side x → BlocksPairBySide P Q j i (x .set) (x .node) (x .side)) (λ e. inl (walk-side-blocks 1 Q q-opens (spotOf Q j) (spotOf P i) x e)) (λ e. inr (walk-side-blocks 0 P p-opens (spotOf Q j) (spotOf P i) x e))
+  pub pair-side : (x : Edge) → pairWalkBy φ P Q j i .hit ≡ Side x → BlocksPairBySide φ P Q j i (x .set) (x .node) (x .side)
+  pair-side x = pair-hit φ P Q j i (λ h. h ≡ Side x → BlocksPairBySide φ P Q j i (x .set) (x .node) (x .side)) (λ e. inl (walk-side-blocks φ law 1 Q q-opens (spotOf Q j) (spotOf P i) x e)) (λ e. inr (walk-side-blocks φ law 0 P p-opens (spotOf Q j) (spotOf P i) x e))
 
   module _ (j-in : j < points Q) (i-in : i < points P) where
     -- The pair walk is clear exactly for a ring pair.
-    pub pair-clear : clear (pairWalk P Q j i .hit) ≡ ringPair (pointsOf P) (pointsOf Q) j i
+    pub pair-clear : clear (pairWalkBy φ P Q j i .hit) ≡ ringPairBy φ (pointsOf P) (pointsOf Q) j i
     pair-clear =
-        pair-both P Q j i
-        ∙ ap (λ (t : Bool). t && clear (overP P Q j i .hit)) (walk-clear-iff 1 Q q-opens (spotOf Q j) (spotOf P i))
-        ∙ ap (λ (t : Bool). unblocked (pointsOf Q) (spotOf Q j) (spotOf P i) && t) (walk-clear-iff 0 P p-opens (spotOf Q j) (spotOf P i))
-        ∙ sym (pair-rule P Q j i j-in i-in)
+        pair-both φ P Q j i
+        ∙ ap (λ (t : Bool). t && clear (overP φ P Q j i .hit)) (walk-clear-iff φ law 1 Q q-opens (spotOf Q j) (spotOf P i))
+        ∙ ap (λ (t : Bool). unblocked φ (pointsOf Q) (spotOf Q j) (spotOf P i) && t) (walk-clear-iff φ law 0 P p-opens (spotOf Q j) (spotOf P i))
+        ∙ sym (pair-rule φ P Q j i j-in i-in)
 
     -- A ring partner of q is exactly a kept position whose ring walk is clear: what a page maker may rely on.
-    pub walk-pair-exact : (words : ℕ) → points P ≤ 64 * words → ringPair (pointsOf P) (pointsOf Q) j i ≡ (filterKeeps words P (spotOf Q j) i && clear (pairWalk P Q j i .hit))
+    pub walk-pair-exact : (words : ℕ) → points P ≤ 64 * words → ringPairBy φ (pointsOf P) (pointsOf Q) j i ≡ (keepsBy φ words P (spotOf Q j) i && clear (pairWalkBy φ P Q j i .hit))
     walk-pair-exact words enough =
-        let kept = filterKeeps words P (spotOf Q j) i in
+        let kept = keepsBy φ words P (spotOf Q j) i in
         test-iff _ _
-        (λ e. and-both kept (clear (pairWalk P Q j i .hit)) (walk-kept-partner words P Q p-opens enough j i j-in i-in e) (pair-clear ∙ e))
-        (λ e. sym pair-clear ∙ and-right kept (clear (pairWalk P Q j i .hit)) e)
+        (λ e. and-both kept (clear (pairWalkBy φ P Q j i .hit)) (keeps-partner φ law words P Q p-opens enough j i j-in i-in e) (pair-clear ∙ e))
+        (λ e. sym pair-clear ∙ and-right kept (clear (pairWalkBy φ P Q j i .hit)) e)

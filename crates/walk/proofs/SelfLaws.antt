@@ -7,6 +7,7 @@
 -- Assumes nothing.
 use mathlib.Core.Path.{_≡_, refl, sym, ap, ap₂, _∙_}
 use mathlib.Core.Bool.{Bool, true, false, cond, not, _&&_, _||_}
+use mathlib.Core.Logic.{⊎-elim}
 use mathlib.Core.List.{List}
 use Prim.Native.Nat.{ℕ, zero, suc, _+_, _-_, _*_, _<_, _≤_}
 use native.Mathlib.Omega.{arith}
@@ -18,12 +19,14 @@ use lib.ListN.{length}
 use lib.Signed.{leZ}
 use borrow.Author.Tests.{eqb-false, eq-eqb, ne-eqb, ltb-true}
 use Rattle.integers.proofs.Order.{zl}
-use Rattle.integers.proofs.Bools.{and-left, and-right, and-both, test-iff}
+use Rattle.integers.proofs.Bools.{and-left, and-right, and-both, decide, test-iff}
 use Rattle.plane.specs.declared.Spot.{Spot}
 use Rattle.plane.specs.declared.Boxed.{Boxed}
 use Rattle.plane.specs.Rule.{behind, spot, sameSpot, inBox, drops, dropsBox, boxAt}
+use Rattle.plane.specs.Profile.{Profile, profileOf}
 use Rattle.plane.specs.Point.{idAt, spotAt}
 use Rattle.plane.proofs.RuleLaws.{point-box}
+use Rattle.plane.proofs.ProfileLaws.{profile-lawful}
 use Rattle.sheet.specs.Layout.{points, nodes}
 use Rattle.sheet.specs.Order.{orderOf, orderOk}
 use Rattle.sheet.specs.Nodes.{levelOf, firstOf, countOf, tableOk}
@@ -34,13 +37,13 @@ use Rattle.sheet.proofs.PointsLaws.{spot-of}
 use Rattle.sheet.proofs.TreeLaws.{child, leaf}
 use Rattle.bits.specs.Set.{kept, with, none, some}
 use Rattle.bits.proofs.SetLaws.{with-length, kept-same, kept-other, none-kept, none-length}
-use Rattle.list.specs.RingList.{unblocked, ringPair}
-use Rattle.list.specs.Terms.{alone, pairFor}
+use Rattle.list.specs.RingList.{unblocked, ringPairBy}
+use Rattle.list.specs.Terms.{aloneBy, pairFor}
 use Rattle.walk.specs.Walk.{inTurn, walk, walkAll}
-use Rattle.walk.specs.FilterWalk.{Kept, soFar, dropped, shut, consider, filterPlace, filterTake, filterVisit, filterKept, filterKeeps}
+use Rattle.walk.specs.FilterWalk.{Kept, soFar, dropped, shut, consider, filterPlace, filterTake, filterVisit, filterKept, filterKeeps, keepsBy, keepsOpened}
 use Rattle.walk.specs.RingWalk.{clear, ringWalk}
-use Rattle.walk.specs.SelfWalk.{passTake, passKept, passKeeps}
-use Rattle.walk.proofs.Meaning.{walk-kept-partner, walk-clear-iff}
+use Rattle.walk.specs.SelfWalk.{passTake, passKept, passKeeps, passKeepsBy, passOpened}
+use Rattle.walk.proofs.Meaning.{keeps-partner, walk-clear-iff}
 
 -- ---- two walks side by side: what every step keeps true of both states, the walks keep true
 
@@ -214,16 +217,25 @@ module _ (words : ℕ) (w : List ℤ) (opens : Opens w (points w) (nodes w)) (en
       go (yes e) = rw (eq-eqb i j e) (ap (kept (passKept words w j .bits)) e ∙ beside .out ∙ no-and (filterKeeps words w (spotOf w j) i))
       go (no d) = rw (ne-eqb i j d) (sym (beside .same i d) ∙ yes-and (filterKeeps words w (spotOf w j) i))
 
+  -- of any profile: j is passed over, and no more nodes are opened than the sheet has
+  pub pass-keeps-by : (φ : Profile) (i : ℕ) → passKeepsBy φ words w j i ≡ (keepsBy φ words w (spotOf w j) i && not (eqb i j))
+  unfolding passKeepsBy keepsBy
+  pass-keeps-by φ i = ⊎-elim (λ (h : φ .half ≡ true). rw h (pass-keeps i)) (λ (h : φ .half ≡ false). rw h) (decide (φ .half))
+
+  pub pass-opened-by : (φ : Profile) → passOpened φ words w j ≡ keepsOpened φ words w (spotOf w j)
+  unfolding passOpened keepsOpened
+  pass-opened-by φ = ap (λ (o : ℕ). cond (φ .half) o 0) pass-opened
+
   -- a pair of the self join is a kept position of higher id whose ring walk is clear: what a page maker may rely on
-  pub self-walked : (i : ℕ) → j < points w → i < points w
-      → pairFor alone (pointsOf w) (pointsOf w) j i ≡ (passKeeps words w j i && ltb (idAt (pointsOf w) j) (idAt (pointsOf w) i) && clear (ringWalk 0 w (spotOf w j) (spotOf w i) .hit))
-  unfolding pairFor ringPair
-  self-walked i hj hi =
+  pub self-walked : (g : Bool) (i : ℕ) → j < points w → i < points w
+      → pairFor (aloneBy g) (pointsOf w) (pointsOf w) j i ≡ (passKeepsBy (profileOf g) words w j i && ltb (idAt (pointsOf w) j) (idAt (pointsOf w) i) && clear (ringWalk (profileOf g) 0 w (spotOf w j) (spotOf w i) .hit))
+  unfolding pairFor ringPairBy
+  self-walked g i hj hi =
       let low = ltb (idAt (pointsOf w) j) (idAt (pointsOf w) i) in
-      let free = unblocked (pointsOf w) (spotAt (pointsOf w) j) (spotAt (pointsOf w) i) in
-      let keeps = passKeeps words w j i in
-      let walked = clear (ringWalk 0 w (spotOf w j) (spotOf w i) .hit) in
-      let is : walked ≡ free = walk-clear-iff 0 w opens (spotOf w j) (spotOf w i) ∙ ap₂ (unblocked (pointsOf w)) (sym (spot-of w j hj)) (sym (spot-of w i hi)) in
+      let free = unblocked (profileOf g) (pointsOf w) (spotAt (pointsOf w) j) (spotAt (pointsOf w) i) in
+      let keeps = passKeepsBy (profileOf g) words w j i in
+      let walked = clear (ringWalk (profileOf g) 0 w (spotOf w j) (spotOf w i) .hit) in
+      let is : walked ≡ free = walk-clear-iff (profileOf g) (profile-lawful g) 0 w opens (spotOf w j) (spotOf w i) ∙ ap₂ (unblocked (profileOf g) (pointsOf w)) (sym (spot-of w j hj)) (sym (spot-of w i hi)) in
       test-iff _ _
       (λ e.
       let f = and-left free free (and-right low (free && free) e) in
@@ -233,8 +245,8 @@ module _ (words : ℕ) (w : List ℤ) (opens : Opens w (points w) (nodes w)) (en
       let f = sym is ∙ and-right (keeps && low) walked e in
       and-both low (free && free) (and-right keeps low (and-left (keeps && low) walked e)) (and-both free free f f))
     where
-      is-kept : ltb (idAt (pointsOf w) j) (idAt (pointsOf w) i) ≡ true → unblocked (pointsOf w) (spotAt (pointsOf w) j) (spotAt (pointsOf w) i) ≡ true → passKeeps words w j i ≡ true
+      is-kept : ltb (idAt (pointsOf w) j) (idAt (pointsOf w) i) ≡ true → unblocked (profileOf g) (pointsOf w) (spotAt (pointsOf w) j) (spotAt (pointsOf w) i) ≡ true → passKeepsBy (profileOf g) words w j i ≡ true
       is-kept l f =
-          let ring : ringPair (pointsOf w) (pointsOf w) j i ≡ true = unfold ringPair in and-both (unblocked (pointsOf w) (spotAt (pointsOf w) j) (spotAt (pointsOf w) i)) (unblocked (pointsOf w) (spotAt (pointsOf w) j) (spotAt (pointsOf w) i)) f f in
+          let ring : ringPairBy (profileOf g) (pointsOf w) (pointsOf w) j i ≡ true = unfold ringPairBy in and-both (unblocked (profileOf g) (pointsOf w) (spotAt (pointsOf w) j) (spotAt (pointsOf w) i)) (unblocked (profileOf g) (pointsOf w) (spotAt (pointsOf w) j) (spotAt (pointsOf w) i)) f f in
           let apart : i ≡ j → ⊥ = λ e. let z = ltb-true (idAt (pointsOf w) j) (idAt (pointsOf w) i) l in let y = ap (idAt (pointsOf w)) e in omega arith in
-          pass-keeps i ∙ and-both (filterKeeps words w (spotOf w j) i) (not (eqb i j)) (walk-kept-partner words w w opens enough j i hj hi ring) (ap not (ne-eqb i j apart))
+          pass-keeps-by (profileOf g) i ∙ and-both (keepsBy (profileOf g) words w (spotOf w j) i) (not (eqb i j)) (keeps-partner (profileOf g) (profile-lawful g) words w w opens enough j i hj hi ring) (ap not (ne-eqb i j apart))

@@ -1,9 +1,10 @@
 -- The filter walk of a self join: for the point at position j, over the points of its own sheet. "The filter passes over q": position j is met and passed, never kept.
-use mathlib.Core.Bool.{Bool, cond}
+use mathlib.Core.Bool.{Bool, cond, not, _&&_}
 use mathlib.Core.List.{List}
 use Prim.Native.Nat.{ℕ}
-use lib.Dec.{eqb}
+use lib.Dec.{eqb, ltb}
 use lib.IntN.{ℤ}
+use Rattle.plane.specs.Profile.{Profile}
 use Rattle.sheet.specs.Layout.{points, nodes}
 use Rattle.sheet.specs.Order.{orderOf}
 use Rattle.sheet.specs.Places.{spotOf}
@@ -22,3 +23,11 @@ passKept words w j = walkAll w (points w) (nodes w) (filterVisit w (points w) (s
 -- position i is kept by the walk for position j
 abbrev pub passKeeps : ℕ → List ℤ → ℕ → ℕ → Bool
 passKeeps words w j i = kept (passKept words w j .bits) i
+
+-- of any profile: where the half-plane filter is not used all are kept, but for j [A6]
+unfoldable pub passKeepsBy : Profile → ℕ → List ℤ → ℕ → ℕ → Bool
+passKeepsBy f words w j i = cond (f .half) (passKeeps words w j i) (ltb i (points w) && not (eqb i j))
+
+-- [A7]
+unfoldable pub passOpened : Profile → ℕ → List ℤ → ℕ → ℕ
+passOpened f words w j = cond (f .half) (passKept words w j .opened) 0

@@ -14,7 +14,7 @@ use Rattle.integers.proofs.Bools.{and-left, and-right, and-both, test-iff}
 use Rattle.integers.specs.Bounds.{Within}
 use Rattle.integers.proofs.Order.{zl, diff, Neq, pp-neg, nn-neg, in-between}
 use Rattle.words.specs.Word.{within, num}
-use Rattle.words.specs.Range.{lastId, lastEdition, lastSize, idWord, editionWord, coordWord, idOk, editionOk, sizeOk}
+use Rattle.words.specs.Range.{lastId, lastEdition, idWord, editionWord, coordWord, idOk, editionOk}
 
 -- ---- a word and its number
 
@@ -46,10 +46,6 @@ id-make k h l = and-both (leb 1 k) (leb k lastId) (le-leb 1 k h) (le-leb k lastI
 pub edition-bounds : (k : ℕ) → editionOk k ≡ true → (1 ≤ k) × (k ≤ 1000000000)
 unfolding editionOk
 edition-bounds k e = (leb-true 1 k (and-left (leb 1 k) (leb k lastEdition) e), leb-true k lastEdition (and-right (leb 1 k) (leb k lastEdition) e))
-
-pub size-make : (k : ℕ) → k ≤ lastSize → sizeOk k ≡ true
-unfolding sizeOk
-size-make k h = le-leb k lastSize h
 
 -- a coordinate of a form is within any bound of its limit
 pub coord-in : (c z : ℤ) (n : ℕ) → c ≤ℤ pos n → coordWord c z ≡ true → Within n z

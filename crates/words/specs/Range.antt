@@ -13,10 +13,6 @@ lastId = 2000000000
 abbrev pub lastEdition : ℕ
 lastEdition = 1000000000
 
--- "Refusal 15's size limit becomes 8,000,000,000,000,000,000 for every page" [Z3, Y5]
-abbrev pub lastSize : ℕ
-lastSize = 8000000000000000000
-
 -- the word of an id, of an edition [S3]
 unfoldable pub idWord : ℤ → Bool
 idWord z = within (pos 1) (pos lastId) z
@@ -36,7 +32,3 @@ idOk k = leb 1 k && leb k lastId
 -- [N24]
 unfoldable pub editionOk : ℕ → Bool
 editionOk k = leb 1 k && leb k lastEdition
-
--- the squared diameter of a pair [Z3, Y5]
-unfoldable pub sizeOk : ℕ → Bool
-sizeOk k = leb k lastSize

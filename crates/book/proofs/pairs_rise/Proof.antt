@@ -9,7 +9,7 @@ use Rattle.book.proofs.pairs_rise.Statement.{statement}
 use Rattle.book.proofs.pairs_rise.Tie as tie
 
 abbrev Inv-loop : tie.InvT-loop
-Inv-loop n g last₀ k₀ last k = Testing last₀ (g .pairs) n last k
+Inv-loop n g last₀ k₀ last k = Testing (g .source .terms .grid) last₀ (g .pairs) n last k
 
 abbrev μ-loop : tie.MeasureT-loop
 μ-loop n g last₀ k₀ last k = n - k
@@ -18,7 +18,7 @@ long : (c : tie.Start Inv-loop μ-loop) → length (c .args .t2 .pairs) ≡ 16
 long c = let z = c .good .1 .0 in search long-of
 
 loop-holds : tie.Need-loop-holds Inv-loop μ-loop
-loop-holds c = testing-start _ _ _
+loop-holds c = testing-start _ _ _ _
 
 mul-v : tie.Need-mul-v Inv-loop μ-loop
 mul-v c = omega (arith, c .loop-test .taken, c .before .before .pre)
@@ -40,7 +40,7 @@ returns c =
     let a = c .before in
     let v = a .before .before in
     let t = v .before .before in
-    testing-stop _ _ _ _ _ (t .loop-test .taken) (t .before .before .pre) (long (t .before .before)) (t .before .loop .inv) _ (v .key-of .ensures) _ _ (a .before .is-pair .ensures) (a .is-after .ensures) (c .if1 .taken)
+    testing-stop _ _ _ _ _ _ (t .loop-test .taken) (t .before .before .pre) (long (t .before .before)) (t .before .loop .inv) _ (v .key-of .ensures) _ _ (a .before .is-pair .ensures) (a .is-after .ensures) (c .if1 .taken)
 
 add-k : tie.Need-add-k Inv-loop μ-loop
 add-k c = omega (arith, c .before .before .before .before .before .loop-test .taken)
@@ -53,10 +53,10 @@ loop-again c =
     let a = c .before in
     let v = a .before .before in
     let t = v .before .before in
-    testing-on _ _ _ _ _ (t .loop-test .taken) (t .before .before .pre) (long (t .before .before)) (t .before .loop .inv) _ (v .key-of .ensures) _ _ (a .before .is-pair .ensures) (a .is-after .ensures) (c .if1 .left)
+    testing-on _ _ _ _ _ _ (t .loop-test .taken) (t .before .before .pre) (long (t .before .before)) (t .before .loop .inv) _ (v .key-of .ensures) _ _ (a .before .is-pair .ensures) (a .is-after .ensures) (c .if1 .left)
 
 returns-2 : tie.Need-returns-2 Inv-loop μ-loop
-returns-2 c = testing-end _ _ _ _ _ (c .loop-test .left) (c .before .loop .inv)
+returns-2 c = testing-end _ _ _ _ _ _ (c .loop-test .left) (c .before .loop .inv)
 
 pub pairs-rise-spec : {M : Type 1} → statement M
 pairs-rise-spec =

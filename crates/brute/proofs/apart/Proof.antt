@@ -1,14 +1,15 @@
 -- `brute::apart` meets its contract. Assumes nothing.
 use mathlib.Core.Path.{_≡_, subst, sym, _∙_}
 use mathlib.Core.List.{List, [], _∷_}
-use Prim.Native.Nat.{ℕ, _*_}
+use Prim.Native.Nat.{ℕ, _*_, _≤_}
 use native.Mathlib.Omega.{arith}
-use lib.IntN.{ℤ, pos, natAbs, _-ℤ_, _+ℤ_, _*ℤ_}
-use mir.Syntax.{w64}
+use lib.IntN.{ℤ, pos}
 use Rattle.integers.specs.Bounds.{Within}
-use Rattle.integers.proofs.Solver.{Expr, con, _:+_, _:*_, v0, v1, v2}
-use Rattle.integers.proofs.Mach.{Each, fits, runs, eval-in}
-use Rattle.brute.proofs.Distances.{square-le}
+use Rattle.integers.proofs.Solver.{con, _:+_, _:-_, _:*_, v0, v1, v2}
+use Rattle.integers.proofs.Order.{in-up}
+use Rattle.integers.proofs.Mach.{Each, eval-in}
+use Rattle.brute.specs.Brute.{off}
+use Rattle.brute.proofs.Distances.{square-le, brute-back}
 use Rattle.brute.proofs.apart.Statement.{statement}
 use Rattle.brute.proofs.apart.Tie as tie
 
@@ -21,29 +22,27 @@ abbrev ρ : tie.Start → List ℤ
 each : (c : tie.Start) → Each (ρ c) β
 each c = (c .pre .0, (c .pre .1, (c .pre .2, tt)))
 
-abbrev twice : Expr
-twice = con (pos 2) :* v2
+said : (c : tie.After-off) → c .off .result ≡ off (c .before .args .a) (c .before .args .b) (c .before .args .z)
+said c = let s = c .before in c .off .ensures ∙ (λ i. off (brute-back (s .pre .0) i) (brute-back (s .pre .1) i) (brute-back (s .pre .2) i))
 
-said : (c : tie.After-gap) → c .gap .result ≡ natAbs (pos 2 *ℤ c .before .args .z -ℤ (c .before .args .a +ℤ c .before .args .b))
-said c = let s = c .before in c .gap .ensures .0 ∙ (λ i. natAbs (runs w64 (ρ s) β (each s) twice tt i -ℤ runs w64 (ρ s) β (each s) (v0 :+ v1) tt i))
+wide : {z : ℤ} → Within 1000000000 z → Within 2000000000 z
+wide w = in-up w tt
 
-mul-gap : tie.Need-mul-gap
-mul-gap c = fits w64 (ρ c) β (each c) twice tt
-
-add-gap : tie.Need-add-gap
-add-gap c = fits w64 (ρ c) β (each c) (v0 :+ v1) tt
-
-gap-requires : tie.Need-gap-requires
-gap-requires c κs = (
-  subst (Within 2000000000) (sym (runs w64 (ρ c) β (each c) twice tt)) (eval-in (ρ c) β (each c) twice),
-  subst (Within 2000000000) (sym (runs w64 (ρ c) β (each c) (v0 :+ v1) tt)) (eval-in (ρ c) β (each c) (v0 :+ v1)),
+off-requires : tie.Need-off-requires
+off-requires c κs = (
+  subst (Within 2000000000) (sym (brute-back (c .pre .0))) (wide (c .pre .0)),
+  subst (Within 2000000000) (sym (brute-back (c .pre .1))) (wide (c .pre .1)),
+  subst (Within 2000000000) (sym (brute-back (c .pre .2))) (wide (c .pre .2)),
 )
 
 mul-result : tie.Need-mul-result
-mul-result c = record { fits = omega (arith, square-le (c .gap .ensures .1)) }
+mul-result c =
+    let s = c .before in
+    let few : c .off .result ≤ 4000000000 = rw (said c) (eval-in (ρ s) β (each s) (con (pos 2) :* v2 :- (v0 :+ v1)) .abs) in
+    record { fits = omega (arith, square-le few) }
 
 returns : tie.Need-returns
 returns c = λ i. said c i * said c i
 
 pub apart-spec : {M : Type 1} → statement M
-apart-spec = tie.close (tie.spec mul-gap add-gap gap-requires mul-result returns)
+apart-spec = tie.close (tie.spec off-requires mul-result returns)

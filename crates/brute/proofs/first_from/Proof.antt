@@ -10,10 +10,10 @@ use Rattle.brute.proofs.first_from.Statement.{statement}
 use Rattle.brute.proofs.first_from.Tie as tie
 
 abbrev Inv-loop : tie.InvT-loop
-Inv-loop p q j i n k₀ k = (m : ℕ) → i ≤ m → m < k → pairs p q j m ≡ false
+Inv-loop grid p q j i n k₀ k = (m : ℕ) → i ≤ m → m < k → pairs grid p q j m ≡ false
 
 abbrev μ-loop : tie.MeasureT-loop
-μ-loop p q j i n k₀ k = n - k
+μ-loop grid p q j i n k₀ k = n - k
 
 loop-holds : tie.Need-loop-holds Inv-loop μ-loop
 loop-holds c = λ m h l. absurd (omega arith)
@@ -31,7 +31,7 @@ loop-less : tie.Need-loop-less Inv-loop μ-loop
 loop-less c = omega arith
 
 loop-again : tie.Need-loop-again Inv-loop μ-loop
-loop-again c = one-more (λ (m : ℕ). pairs _ _ _ m ≡ false) _ _ (c .before .before .before .loop .inv) (sym (c .before .is-pair .ensures) ∙ c .if1 .left)
+loop-again c = one-more (λ (m : ℕ). pairs _ _ _ _ m ≡ false) _ _ (c .before .before .before .loop .inv) (sym (c .before .is-pair .ensures) ∙ c .if1 .left)
 
 returns-2 : tie.Need-returns-2 Inv-loop μ-loop
 returns-2 c = record { skipped = c .before .loop .inv; is = λ h. absurd (omega arith) }

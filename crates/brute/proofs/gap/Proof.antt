@@ -1,31 +1,28 @@
 -- `brute::gap` meets its contract. Assumes nothing.
 use mathlib.Core.Path.{ap, _∙_}
 use mathlib.Core.List.{List, [], _∷_}
-use Prim.Native.Nat.{ℕ, _≤_}
-use lib.IntN.{ℤ, natAbs, _-ℤ_}
+use Prim.Native.Nat.{ℕ}
+use lib.IntN.{ℤ, natAbs}
 use mir.Syntax.{w64}
 use Rattle.integers.proofs.Solver.{_:-_, v0, v1}
 use Rattle.integers.specs.Bounds.{Within}
 use Rattle.integers.proofs.Order.{in--}
 use Rattle.integers.proofs.Mach.{Each, fits, runs, lt-is}
-use Rattle.brute.proofs.Distances.{abs-swap, less-from, not-less-from, cast-diff}
+use Rattle.integers.proofs.Differences.{abs-swap, less-from, not-less-from, cast-diff}
 use Rattle.brute.proofs.gap.Statement.{statement}
 use Rattle.brute.proofs.gap.Tie as tie
 
 abbrev In2 : ℤ → ℤ → Type 0
-In2 a b = Within 2000000000 a × Within 2000000000 b
+In2 a b = Within 4000000000 a × Within 4000000000 b
 
 abbrev β : List ℕ
-β = 2000000000 ∷ 2000000000 ∷ []
+β = 4000000000 ∷ 4000000000 ∷ []
 
 abbrev ρ : {a b : ℤ} → In2 a b → List ℤ
 ρ {a} {b} s = a ∷ b ∷ []
 
 each : {a b : ℤ} (s : In2 a b) → Each (ρ s) β
 each s = (s .0, (s .1, tt))
-
-in-size : {a b : ℤ} → In2 a b → natAbs (a -ℤ b) ≤ 4000000000
-in-size s = in-- (s .0) (s .1) .abs
 
 sub-result : tie.Need-sub-result
 sub-result c = let s = c .before .pre in fits w64 (ρ s) β (each s) (v1 :- v0) tt
@@ -38,8 +35,7 @@ cast-result c =
 returns : tie.Need-returns
 returns c =
     let s = c .before .pre in
-    let e = ap natAbs (runs w64 (ρ s) β (each s) (v1 :- v0) tt) ∙ abs-swap (c .before .args .a) (c .before .args .b) in
-    (e, rw e (in-size s))
+    ap natAbs (runs w64 (ρ s) β (each s) (v1 :- v0) tt) ∙ abs-swap (c .before .args .a) (c .before .args .b)
 
 sub-result-2 : tie.Need-sub-result-2
 sub-result-2 c = let s = c .before .pre in fits w64 (ρ s) β (each s) (v0 :- v1) tt
@@ -52,8 +48,7 @@ cast-result-2 c =
 returns-2 : tie.Need-returns-2
 returns-2 c =
     let s = c .before .pre in
-    let e = ap natAbs (runs w64 (ρ s) β (each s) (v0 :- v1) tt) in
-    (e, rw e (in-size s))
+    ap natAbs (runs w64 (ρ s) β (each s) (v0 :- v1) tt)
 
 pub gap-spec : {M : Type 1} → statement M
 gap-spec = tie.close (tie.spec sub-result cast-result returns sub-result-2 cast-result-2 returns-2)

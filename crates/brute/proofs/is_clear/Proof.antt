@@ -6,12 +6,12 @@ use Rattle.brute.specs.Brute.{clear}
 use Rattle.brute.proofs.is_clear.Statement.{statement}
 use Rattle.brute.proofs.is_clear.Tie as tie
 
-is-covered-requires : tie.Need-is-covered-requires
-is-covered-requires c κs = search needs
+is-held-requires : tie.Need-is-held-requires
+is-held-requires c κs = search needs
 
 returns : tie.Need-returns
 unfolding clear
-returns c = rw (sym (c .before .is-covered .ensures) ∙ not-true _ (c .if1 .taken))
+returns c = rw (sym (c .before .is-held .ensures) ∙ not-true _ (c .if1 .taken))
 
 is-together-requires : tie.Need-is-together-requires
 is-together-requires c κs = search needs
@@ -21,9 +21,9 @@ is-together-requires-2 c κs = search needs
 
 returns-2 : tie.Need-returns-2
 unfolding clear
-returns-2 c = rw (sym (c .before .before .before .is-covered .ensures) ∙ not-false _ (c .before .before .if1 .left), c .before .is-together .ensures, c .is-together2 .ensures)
+returns-2 c = rw (sym (c .before .before .before .is-held .ensures) ∙ not-false _ (c .before .before .if1 .left), c .before .is-together .ensures, c .is-together2 .ensures)
 
 pub is-clear-spec : {M : Type 1} → statement M
 is-clear-spec =
     tie.close
-    (tie.spec is-covered-requires returns is-together-requires is-together-requires-2 returns-2)
+    (tie.spec is-held-requires returns is-together-requires is-together-requires-2 returns-2)

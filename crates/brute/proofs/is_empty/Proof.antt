@@ -12,10 +12,10 @@ use Rattle.brute.proofs.is_empty.Statement.{statement}
 use Rattle.brute.proofs.is_empty.Tie as tie
 
 abbrev Inv-loop : tie.InvT-loop
-Inv-loop s a b n k₀ k = (k ≤ n) × (allB k (λ i. clear a b (placeAt s i)) ≡ true)
+Inv-loop grid s a b n k₀ k = (k ≤ n) × (allB k (λ i. clear grid a b (placeAt s i)) ≡ true)
 
 abbrev μ-loop : tie.MeasureT-loop
-μ-loop s a b n k₀ k = n - k
+μ-loop grid s a b n k₀ k = n - k
 
 loop-holds : tie.Need-loop-holds Inv-loop μ-loop
 loop-holds c = (search needs, all-none _)
@@ -28,8 +28,8 @@ is-clear-requires c κs = let s = c .before .before .before in (s .pre .0, (s .p
 
 -- the test of the point at k
 said : (c : tie.After-is-clear Inv-loop μ-loop) → let l = c .before .before .before in let s = l .before in
-    c .is-clear .result ≡ clear (s .args .a) (s .args .b) (placeAt (s .args .s .now) (l .loop .k))
-said c = let s = c .before .before .before .before in c .is-clear .ensures ∙ ap (clear (s .args .a) (s .args .b)) (c .before .place-at .ensures .0)
+    c .is-clear .result ≡ clear (s .args .grid) (s .args .a) (s .args .b) (placeAt (s .args .s .now) (l .loop .k))
+said c = let s = c .before .before .before .before in c .is-clear .ensures ∙ ap (clear (s .args .grid) (s .args .a) (s .args .b)) (c .before .place-at .ensures .0)
 
 returns : tie.Need-returns Inv-loop μ-loop
 unfolding empty

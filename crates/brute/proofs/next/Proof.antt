@@ -8,10 +8,10 @@ use Rattle.brute.proofs.next.Statement.{statement}
 use Rattle.brute.proofs.next.Tie as tie
 
 abbrev Inv-loop : tie.InvT-loop
-Inv-loop p q j i np nq row₀ from₀ row from = Passed p q j i row from
+Inv-loop grid p q j i np nq row₀ from₀ row from = Passed grid p q j i row from
 
 abbrev μ-loop : tie.MeasureT-loop
-μ-loop p q j i np nq row₀ from₀ row from = nq - row
+μ-loop grid p q j i np nq row₀ from₀ row from = nq - row
 
 loop-holds : tie.Need-loop-holds Inv-loop μ-loop
 loop-holds c = ((λ k l u kq lp b. absurd (omega (arith, u .1))), (λ l u. u .0 refl))
@@ -32,7 +32,7 @@ loop-less : tie.Need-loop-less Inv-loop μ-loop
 loop-less c = omega arith
 
 loop-again : tie.Need-loop-again Inv-loop μ-loop
-loop-again c = row-passed _ _ _ _ _ _ _ (c .before .before .before .loop .inv) (c .before .first-from .ensures) (c .if1 .left)
+loop-again c = row-passed _ _ _ _ _ _ _ _ (c .before .before .before .loop .inv) (c .before .first-from .ensures) (c .if1 .left)
 
 returns-2 : tie.Need-returns-2 Inv-loop μ-loop
 returns-2 c = record { here = λ h. absurd (omega arith); rows = c .before .loop .inv .0; row = λ k u h b. absurd (omega arith) }

@@ -4,10 +4,10 @@ use Rattle.compare.proofs.listed.Statement.{statement}
 use Rattle.compare.proofs.listed.Tie as tie
 
 abbrev Inv-loop : tie.InvT-loop
-Inv-loop p q ps qs seed l₀ left₀ l left = Unit {0}
+Inv-loop grid p q ps qs seed l₀ left₀ l left = Unit {0}
 
 abbrev μ-loop : tie.MeasureT-loop
-μ-loop p q ps qs seed l₀ left₀ l left = left
+μ-loop grid p q ps qs seed l₀ left₀ l left = left
 
 next-requires : tie.Need-next-requires Inv-loop μ-loop
 next-requires c κs = search needs

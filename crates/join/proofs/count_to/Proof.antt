@@ -3,7 +3,6 @@ use mathlib.Core.Logic.{⊎-elim}
 use Prim.Native.Nat.{_-_, _<_}
 use native.Mathlib.Omega.{arith}
 use lib.Dec.{ltb}
-use lib.ListN.{length}
 use borrow.Author.Tests.{ltb-true}
 use Rattle.integers.proofs.Bools.{and-left, and-right}
 use Rattle.bits.proofs.NextLaws.{from-le}
@@ -12,7 +11,7 @@ use Rattle.join.proofs.count_to.Statement.{statement}
 use Rattle.join.proofs.count_to.Tie as tie
 
 abbrev Inv-loop : tie.InvT-loop
-Inv-loop p hp q hq j t bits n count₀ i₀ count i = Counts (length bits) p q j t count i
+Inv-loop p hp q hq j t bits n count₀ i₀ count i = Counts bits p q j t count i
 
 abbrev μ-loop : tie.MeasureT-loop
 μ-loop p hp q hq j t bits n count₀ i₀ count i = hp .n - i
@@ -21,7 +20,7 @@ next-from-requires : tie.Need-next-from-requires Inv-loop μ-loop
 next-from-requires c κs = c .before .pre .3 .numbered
 
 loop-holds : tie.Need-loop-holds Inv-loop μ-loop
-loop-holds c = count-start _ _ _ _ _ _ (c .before .before .pre .4) _ (c .next-from .ensures)
+loop-holds c = count-start _ _ _ _ _ _ (c .next-from .ensures)
 
 abbrev start : tie.At-loop Inv-loop μ-loop → tie.Start Inv-loop μ-loop
 start l = l .before .before .before
@@ -60,7 +59,7 @@ loop-again c =
     let i = w .before in
     let l = i .before in
     let s = start l in
-    count-on _ _ _ _ _ _ (s .pre .4) _ _ (l .loop .inv) (omega (arith, in-p i, s .pre .3 .enough)) (in-t i) _ (w .pair-walk .ensures) _
+    count-on _ _ _ _ _ _ _ (l .loop .inv) (omega (arith, in-p i, s .pre .3 .enough)) (in-t i) _ (w .pair-walk .ensures) _
     (⊎-elim
     (λ x. one-yes _ _ _ _ (k .before .clear-after .ensures) (x .0 .taken) (x .1))
     (λ x. one-no _ _ _ _ (k .before .clear-after .ensures) (x .0 .left) (x .1))
@@ -71,7 +70,7 @@ returns : tie.Need-returns Inv-loop μ-loop
 returns c =
     let l = c .before in
     let s = start l in
-    count-end (s .pre .0) (s .pre .1) _ (s .pre .3 .enough) _ (s .pre .2) _ _ _ (l .loop .inv) (c .loop-test .left)
+    count-end (s .pre .0) (s .pre .1) _ (s .pre .2) _ (s .pre .3 .enough) (s .pre .4) _ _ _ (l .loop .inv) (c .loop-test .left)
 
 pub count-to-spec : {M : Type 1} → statement M
 count-to-spec =

@@ -1,6 +1,6 @@
 -- `join::partners_to` meets its contract: the lent words are the filter walk's. Assumes nothing.
 use Rattle.walk.proofs.FilterCode.{still-holds}
-use Rattle.join.proofs.CallLaws.{words-are, join-spot-fits}
+use Rattle.join.proofs.CallLaws.{words-filtered, join-spot-fits}
 use borrow.Author.Needs.{needs}
 use Rattle.join.proofs.partners_to.Statement.{statement}
 use Rattle.join.proofs.partners_to.Tie as tie
@@ -18,7 +18,7 @@ count-to-requires c κs =
     let k = c .before .before .before in
     let s = k .before .before .before .before in
     let long = k .filter-kept .kept .1 .1 .1 .1 .0 in
-    (s .pre .0, s .pre .1, s .pre .2, still-holds _ _ _ long (s .pre .3), words-are _ _ _ _ (k .before .before .spot-at .ensures) _ _ long (k .filter-kept .ensures .0))
+    (s .pre .0, s .pre .1, s .pre .2, still-holds _ _ _ long (s .pre .3), words-filtered _ _ _ _ (k .before .before .spot-at .ensures) _ _ long (k .filter-kept .ensures .0))
 
 same-length : tie.Need-same-length
 same-length c = search needs

@@ -23,11 +23,11 @@ returns c words =
     let a = b .before in
     walked-once (a .before .before .args .terms) _ _ words _ _ _ (a .before .if1 .taken) _ _ (a .spot-at .ensures) (b .spot-at2 .ensures) (c .ring-on .ensures)
 
-pair-walk-requires : tie.Need-pair-walk-requires
-pair-walk-requires c κs = search needs
+pair-walk-by-requires : tie.Need-pair-walk-by-requires
+pair-walk-by-requires c κs = search needs
 
 returns-2 : tie.Need-returns-2
-returns-2 c words = walked-both (c .before .before .args .terms) _ _ words _ _ _ (c .before .if1 .left) (c .pair-walk .ensures)
+returns-2 c words = walked-both (c .before .before .args .terms) _ _ words _ _ _ (c .before .if1 .left) (c .pair-walk-by .ensures)
 
 pub walked-spec : {M : Type 1} → statement M
-walked-spec = tie.close (tie.spec spot-at-requires spot-at-requires-2 ring-on-requires returns pair-walk-requires returns-2)
+walked-spec = tie.close (tie.spec spot-at-requires spot-at-requires-2 ring-on-requires returns pair-walk-by-requires returns-2)

@@ -4,6 +4,7 @@ use mathlib.Core.Logic.{⊎-elim}
 use Prim.Native.Nat.{_-_}
 use native.Mathlib.Omega.{arith}
 use Rattle.bits.proofs.NextLaws.{from-le}
+use Rattle.list.specs.Terms.{profileFor}
 use Rattle.join.specs.Threshold.{onWords}
 use Rattle.join.proofs.TurnLaws.{Tries, tries-start, tries-on, tries-stop, tries-end}
 use Rattle.join.proofs.CallLaws.{show-late, show-early, on-words, words-on}
@@ -11,7 +12,7 @@ use Rattle.join.proofs.with_kept.Statement.{statement}
 use Rattle.join.proofs.with_kept.Tie as tie
 
 abbrev Inv-loop : tie.InvT-loop
-Inv-loop p hp q hq ask j bits n key r₀ i₀ r i = Tries (onWords bits p q) (ask .key) (ask .size) 0 0 j (hp .n) r₀ r i
+Inv-loop p hp q hq ask j bits n key r₀ i₀ r i = Tries (onWords (profileFor (ask .terms)) bits p q) (ask .key) (ask .size) 0 0 j (hp .n) r₀ r i
 
 abbrev μ-loop : tie.MeasureT-loop
 μ-loop p hp q hq ask j bits n key r₀ i₀ r i = hp .n - i
@@ -20,7 +21,7 @@ next-from-requires : tie.Need-next-from-requires Inv-loop μ-loop
 next-from-requires c κs = c .before .before .pre .4 .numbered
 
 loop-holds : tie.Need-loop-holds Inv-loop μ-loop
-loop-holds c = tries-start _ _ _ _ _ _ _ _ _ (words-on _ _ _ _) (c .before .before .before .pre .4 .enough) _ (c .next-from .ensures)
+loop-holds c = tries-start _ _ _ _ _ _ _ _ _ (words-on (profileFor (c .before .before .before .args .ask .terms)) _ _ _ _) (c .before .before .before .pre .4 .enough) _ (c .next-from .ensures)
 
 returns : tie.Need-returns Inv-loop μ-loop
 returns c = tries-stop _ _ _ _ _ _ _ _ _ _ (c .if1 .taken) (c .before .before .loop .inv)
@@ -30,8 +31,8 @@ is-late-requires c κs =
     let s = c .before .before .before .before .before .before in
     (s .pre .0, s .pre .1, s .pre .2, c .before .loop-test .taken)
 
-pair-at-requires : tie.Need-pair-at-requires Inv-loop μ-loop
-pair-at-requires c κs =
+pair-by-requires : tie.Need-pair-by-requires Inv-loop μ-loop
+pair-by-requires c κs =
     let t = c .before in
     let s = t .before .before .before .before .before .before .before in
     (s .pre .0, s .pre .1, s .pre .2, t .before .before .loop-test .taken)
@@ -54,10 +55,10 @@ loop-again c =
     let t = c .before .before in
     let l = t .before .before .before in
     let s = l .before .before .before .before in
-    tries-on _ _ _ _ _ _ (on-words _ _ _) _ _ _ _ _ (words-on _ _ _ _) (s .pre .4 .enough) (l .loop .i) (t .before .before .loop-test .taken) (t .before .if1 .left) (l .loop .inv) _
+    tries-on _ _ _ _ _ _ (on-words (profileFor (s .args .ask .terms)) _ _ _) _ _ _ _ _ (words-on (profileFor (s .args .ask .terms)) _ _ _ _) (s .pre .4 .enough) (l .loop .i) (t .before .before .loop-test .taken) (t .before .if1 .left) (l .loop .inv) _
     (⊎-elim
-    (λ x. show-late _ _ _ _ _ _ _ _ (t .is-late .ensures) _ _ (x .0 .taken) _ (x .1 .ensures) (x .3 ∙ x .2 .ensures))
-    (λ x. show-early _ _ _ _ _ _ _ _ (t .is-late .ensures) _ _ (x .0 .left) (x .1))
+    (λ x. show-late (profileFor (s .args .ask .terms)) _ _ _ _ _ _ _ _ (t .is-late .ensures) _ _ (x .0 .taken) _ (x .1 .ensures) (x .3 ∙ x .2 .ensures))
+    (λ x. show-early (profileFor (s .args .ask .terms)) _ _ _ _ _ _ _ _ (t .is-late .ensures) _ _ (x .0 .left) (x .1))
     (c .before .if2 .came))
     _ (c .next-from2 .ensures)
 
@@ -74,7 +75,7 @@ with-kept-spec =
     loop-holds
     returns
     is-late-requires
-    pair-at-requires
+    pair-by-requires
     with-found-requires
     add-next-from
     next-from-requires-2

@@ -44,8 +44,8 @@ add-r c =
     let cap = tried-few _ _ (s .args .ask .size) _ _ (by-capped (s .pre .0) (s .pre .1) _ (s .pre .6) words (s .pre .4 .enough)) _ _ _ (t .try-partner .ensures words) in
     omega (arith, s .pre .5)
 
-pair-at-requires : tie.Need-pair-at-requires Inv-loop μ-loop
-pair-at-requires c κs =
+pair-by-requires : tie.Need-pair-by-requires Inv-loop μ-loop
+pair-by-requires c κs =
     let t = c .before .before .before in
     let s = t .before .before .before .before .before .before in
     (s .pre .0, s .pre .1, s .pre .2, t .before .before .loop-test .taken)
@@ -92,7 +92,7 @@ with-partners-spec =
     returns
     try-partner-requires
     add-r
-    pair-at-requires
+    pair-by-requires
     with-found-requires
     add-next-from
     next-from-requires-2

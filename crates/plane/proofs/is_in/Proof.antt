@@ -1,5 +1,5 @@
 -- `plane::is_in` meets its contract. Assumes nothing.
-use Rattle.plane.proofs.RuleLaws.{in-by}
+use Rattle.plane.proofs.TestLaws.{in-by}
 use Rattle.plane.proofs.is_in.Statement.{statement}
 use Rattle.plane.proofs.is_in.Tie as tie
 

@@ -1,5 +1,5 @@
 -- `plane::is_same` meets its contract. Assumes nothing.
-use Rattle.plane.proofs.RuleLaws.{same-by}
+use Rattle.plane.proofs.TestLaws.{same-by}
 use Rattle.plane.proofs.is_same.Statement.{statement}
 use Rattle.plane.proofs.is_same.Tie as tie
 

@@ -4,10 +4,13 @@ use Rattle.story.proofs.has_bad.Statement.{statement}
 use Rattle.story.proofs.has_bad.Tie as tie
 
 abbrev Inv-loop : tie.InvT-loop
-Inv-loop g last₀ bad₀ i₀ last bad i = i ≤ 16
+Inv-loop g most last₀ bad₀ i₀ last bad i = i ≤ 16
 
 abbrev μ-loop : tie.MeasureT-loop
-μ-loop g last₀ bad₀ i₀ last bad i = 16 - i
+μ-loop g most last₀ bad₀ i₀ last bad i = 16 - i
+
+most-of-requires : tie.Need-most-of-requires Inv-loop μ-loop
+most-of-requires c κs = search needs
 
 rank-requires : tie.Need-rank-requires Inv-loop μ-loop
 rank-requires c κs = search needs
@@ -54,6 +57,7 @@ has-bad-spec =
     (tie.spec
     Inv-loop
     μ-loop
+    most-of-requires
     rank-requires
     loop-holds
     mul-v

@@ -4,10 +4,13 @@ use Rattle.story.proofs.made_list.Statement.{statement}
 use Rattle.story.proofs.made_list.Tie as tie
 
 abbrev Inv-loop : tie.InvT-loop
-Inv-loop n step l₀ v₀ i₀ l v i = i ≤ 64
+Inv-loop n step grid most l₀ v₀ i₀ l v i = i ≤ 64
 
 abbrev μ-loop : tie.MeasureT-loop
-μ-loop n step l₀ v₀ i₀ l v i = 64 - i
+μ-loop n step grid most l₀ v₀ i₀ l v i = 64 - i
+
+most-of-requires : tie.Need-most-of-requires Inv-loop μ-loop
+most-of-requires c κs = search needs
 
 loop-holds : tie.Need-loop-holds Inv-loop μ-loop
 loop-holds c = search needs
@@ -39,6 +42,7 @@ made-list-spec =
     (tie.spec
     Inv-loop
     μ-loop
+    most-of-requires
     loop-holds
     mul-l
     array-set-from-l

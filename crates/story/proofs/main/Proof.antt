@@ -4,10 +4,10 @@ use Rattle.story.proofs.main.Statement.{statement}
 use Rattle.story.proofs.main.Tie as tie
 
 abbrev Inv-loop : tie.InvT-loop
-Inv-loop t₀ seed₀ i₀ t seed i = i ≤ 600
+Inv-loop t₀ seed₀ i₀ t seed i = i ≤ 1000
 
 abbrev μ-loop : tie.MeasureT-loop
-μ-loop t₀ seed₀ i₀ t seed i = 600 - i
+μ-loop t₀ seed₀ i₀ t seed i = 1000 - i
 
 loop-holds : tie.Need-loop-holds Inv-loop μ-loop
 loop-holds c = search needs

@@ -52,7 +52,7 @@ slice-aggregate-given c = sym (part-long _ _ (omega arith))
 given-requires : tie.Need-given-requires
 given-requires c κs =
     let o = headed-both _ _ _ (c .before .before .before .before .before .before .before .before .heads-of .ensures) (c .before .before .before .before .before .before .if1 .left) in
-    (o .p-facts, o .q-facts, size-in _ _ _ (c .before .before .before .before .asked-no .ensures) (c .before .before .before .if2 .left), part-long _ _ (c .before .if3 .left) ∙ c .before .before .words-for .ensures, of-two _ refl _ _)
+    (o .p-facts, o .q-facts, size-in _ _ _ _ _ _ (c .before .before .before .before .asked-no .ensures) (c .before .before .before .if2 .left), part-long _ _ (c .before .if3 .left) ∙ c .before .before .words-for .ensures, of-two _ refl _ _)
 
 same-length : tie.Need-same-length
 same-length c = search needs

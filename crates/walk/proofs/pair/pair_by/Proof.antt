@@ -1,4 +1,4 @@
--- `walk::pair::pair_at` meets its contract: the ids and the places are those of the points' list, and `pair-made` of `list`. Assumes nothing.
+-- `walk::pair::pair_by` meets its contract: the ids and the places are those of the points' list, and `pair-made` of `list`. Assumes nothing.
 use mathlib.Core.Path.{sym, subst, _∙_}
 use native.Mathlib.Omega.{arith}
 use borrow.Author.Needs.{needs}
@@ -6,9 +6,10 @@ use Rattle.plane.specs.Rule.{SpotIn}
 use Rattle.sheet.specs.Places.{pointsOf}
 use Rattle.sheet.proofs.PointsLaws.{spot-of}
 use Rattle.sheet.proofs.RangeLaws.{spot-in}
+use Rattle.plane.specs.Profile.{profileOf}
 use Rattle.list.proofs.RowLaws.{pair-made}
-use Rattle.walk.proofs.pair.pair_at.Statement.{statement}
-use Rattle.walk.proofs.pair.pair_at.Tie as tie
+use Rattle.walk.proofs.pair.pair_by.Statement.{statement}
+use Rattle.walk.proofs.pair.pair_by.Tie as tie
 
 spot-at-requires : tie.Need-spot-at-requires
 spot-at-requires c κs = search needs
@@ -22,8 +23,8 @@ id-at-requires c κs = search needs
 id-at-requires-2 : tie.Need-id-at-requires-2
 id-at-requires-2 c κs = search needs
 
-diameter-requires : tie.Need-diameter-requires
-diameter-requires c κs =
+size-of-requires : tie.Need-size-of-requires
+size-of-requires c κs =
     let b = c .before .before in
     let s = b .before .before in
     (subst SpotIn (sym (b .before .spot-at .ensures)) (spot-in (s .pre .1) _ (s .pre .2)), subst SpotIn (sym (b .spot-at2 .ensures)) (spot-in (s .pre .0) _ (s .pre .3)))
@@ -33,10 +34,10 @@ returns c =
     let i = c .before in
     let b = i .before .before in
     let s = b .before .before in
-    pair-made (pointsOf (s .args .p .now)) (pointsOf (s .args .q .now)) (s .args .j) (s .args .i) _ _ _ _ _ (i .before .id-at .ensures) (i .id-at2 .ensures)
+    pair-made (profileOf (s .args .grid)) (pointsOf (s .args .p .now)) (pointsOf (s .args .q .now)) (s .args .j) (s .args .i) _ _ _ _ _ (i .before .id-at .ensures) (i .id-at2 .ensures)
     (b .before .spot-at .ensures ∙ sym (spot-of _ _ (omega (arith, s .pre .1 .n-is, s .pre .2))))
     (b .spot-at2 .ensures ∙ sym (spot-of _ _ (omega (arith, s .pre .0 .n-is, s .pre .3))))
-    (c .diameter .ensures)
+    (c .size-of .ensures)
 
-pub pair-at-spec : {M : Type 1} → statement M
-pair-at-spec = tie.close (tie.spec spot-at-requires spot-at-requires-2 id-at-requires id-at-requires-2 diameter-requires returns)
+pub pair-by-spec : {M : Type 1} → statement M
+pair-by-spec = tie.close (tie.spec spot-at-requires spot-at-requires-2 id-at-requires id-at-requires-2 size-of-requires returns)
