@@ -6,15 +6,15 @@
  * What holds of every call
  *   - Every input is answered. Where an input breaks the rules, `number` says which rule: the first that applies, in the order given at each call.
  *     0 means that the call was served. The numbers are listed at the end of this file.
- *   - Read `number` first. Where it is not 0 every other field of the answer is 0 (a book that was handed in comes back as it was), and all memory that
+ *   - Read `number` first. Where it is not 0 every other field of the answer is 0 (a book or a depot that was handed in comes back as it was), and all memory that
  *     was lent is as it was.
  *   - The same input always gives the same answer. Nothing is kept between calls, nothing is allocated, no pointer is kept after a call returns.
  *   - An array goes as a pointer and a number of elements. Where the number is 0 the pointer may be null. An array behind a pointer to const is only read.
  *
  * What the caller sees to, since no call can test it
  *   - a pointer and its number describe memory that is there, aligned for its elements, and that nobody else writes during the call;
- *   - memory that a call may write (`out` of ring_pack, `slots` of ring_book_take and of ring_leaf_run, `waiting` of ring_nearest and of ring_near_filter,
- *     `bits` wherever it stands) overlaps no other array of the same call;
+ *   - memory that a call may write (`out` of ring_pack and of ring_forms, `slots` of ring_book_take, of ring_depot_take and of ring_leaf_run, `waiting` of
+ *     ring_nearest and of ring_near_filter, `bits` wherever it stands) overlaps no other array of the same call;
  *   - there is room on the stack: some 120 KB for ring_leaf_run where P has over 1,024 points, some 60 KB for ring_pack of form 2, a few KB for any other call;
  *   - a bool is 0 or 1, as C's own bool always is.
  * A negative number handed in for an unsigned one arrives as a large one, and is answered as such.
@@ -110,6 +110,25 @@ typedef struct RingBook {
     bool closed;
     RingSource source;
 } RingBook;
+
+/* An order form. Its key is all but the size: both editions, the kind (`own`), the contractor (0 or 1, or 2 for an undivided list), the profile (`grid`) and
+ * the two ids. The threshold is no part of it: a pair of the full list and the same pair of a list with a threshold are one order. The contractor is: an
+ * undivided book beside a contractor's book of the same town has two keys for one pair, and so two orders. So are the editions: see ring_depot_take. */
+typedef struct RingForm {
+    uint32_t p_edition;
+    uint32_t q_edition;
+    bool own;
+    uint32_t contractor;
+    bool grid;
+    uint32_t q;
+    uint32_t p;
+    uint64_t size;
+} RingForm;
+
+/* The state of a depot: how many forms its slots hold. Hand in what the last call handed back. */
+typedef struct RingDepot {
+    size_t held;
+} RingDepot;
 
 /* The answer of ring_open: how many words the sheet has, its points and its nodes, its edition and its form. */
 typedef struct RingHead {
@@ -211,6 +230,20 @@ typedef struct RingTaken {
     uint32_t number;
     RingBook book;
 } RingTaken;
+
+/* The answer of ring_forms: how many forms were made. */
+typedef struct RingMade {
+    uint32_t number;
+    size_t count;
+} RingMade;
+
+/* The answer of ring_depot_take: 0 with `issued` where the key is new, 0 without where the depot holds it (known); and the depot from now on, where it is
+ * known or refused as it was handed in. */
+typedef struct RingStored {
+    uint32_t number;
+    bool issued;
+    RingDepot depot;
+} RingStored;
 
 /* The answer of ring_leaf_run: how many pairs it stored, and how many nodes were opened. */
 typedef struct RingRun {
@@ -342,6 +375,25 @@ RingNext ring_book_next_key(RingBook book, const RingPair *slots, size_t slots_l
  *          16 it has more pairs than slots are left. In this order, and no slot is written. */
 RingTaken ring_book_take(RingBook book, RingPair *slots, size_t slots_len, RingPage page);
 
+/* Makes the order forms of a book: one for each pair that it holds, in their order, whether it is closed or still open.
+ * Input    the book and its slots. The slots are only read.
+ * Lent     out: room for as many forms as the book holds. They stand from the first place on; places past them are not written.
+ * Answer   how many forms were made: as many as the book holds.
+ * Refused  11 where the book holds more than there are slots, then 16 where there are fewer places than it holds; no place is written. */
+RingMade ring_forms(RingBook book, const RingPair *slots, size_t slots_len, RingForm *out, size_t out_len);
+
+/* Begins a depot: nothing held. */
+RingDepot ring_depot_begin(void);
+
+/* Hands a form to a depot. Forms may be lost, repeated or reordered: a form sent twice is one order. The slots hold the forms in the order in which each key was
+ * first taken. A new edition has new keys, so that every visit of the town is a new order under it: close the old edition's orders first.
+ * Input    the depot, and a form.
+ * Lent     slots: those of the depot. A form with a new key is put behind the held ones; no other slot is written.
+ * Answer   issued where the key is new, and the depot from now on; not issued where the depot holds the key: it is known, and nothing has changed.
+ * Refused  11 the depot holds more than there are slots; 15 an edition outside 1 to 1,000,000,000, a contractor over 2, or an id outside 1 to 2,000,000,000;
+ *          16 a new key, and no slot is left. In this order, and no slot is written. */
+RingStored ring_depot_take(RingDepot depot, RingForm *slots, size_t slots_len, RingForm form);
+
 /* The map marker of two places (ax, ay) and (bx, by): doubled, each of its numbers is exactly the sum of the two coordinates. A zero sum gives positive zero.
  * Refused  5 where a coordinate is not -1,000,000,000 to 1,000,000,000. */
 RingMarker ring_marker(int32_t ax, int32_t ay, int32_t bx, int32_t by);
@@ -370,13 +422,14 @@ RingRun ring_leaf_run(const int32_t *p, size_t p_len, const int32_t *q, size_t q
  *    8  a box is not tightest (a sheet)
  *    9  key out of range (ring_page, ring_own_page); a position not below its sheet's n (ring_point, ring_filter_walk, ring_pair_walk)
  *   10  size out of range (ring_page, ring_own_page, ring_nearest); k out of range (ring_shortest)
- *   11  held exceeds the slots (ring_book_next_key, ring_book_take)
+ *   11  held exceeds the slots (ring_book_next_key, ring_book_take, ring_forms, ring_depot_take)
  *   12  book closed (ring_book_take)
  *   13  page of other editions (ring_book_take)
  *   14  page key is not the book's next key (ring_book_take)
  *   15  over 16 pairs; an id outside 1 to 2,000,000,000; a size over 8,000,000,000,000,000,000, of the street grid over 16,000,000,000,000; pairs not
- *       ascending strictly after the key; no pair and no end mark (ring_book_take)
- *   16  more pairs than slots left (ring_book_take); more pairs than slots (ring_leaf_run)
+ *       ascending strictly after the key; no pair and no end mark (ring_book_take); a part of a form's key out of range (ring_depot_take)
+ *   16  more pairs than slots left (ring_book_take); more pairs than slots (ring_leaf_run); more held than places (ring_forms); a new key with no slot left
+ *       (ring_depot_take)
  *   17  lent output not exactly the sheet's length (ring_pack)
  *   18  point words not 3n, or order list not n long (ring_pack)
  *   19  no such leaf (ring_leaf_run)

@@ -25,7 +25,7 @@ STRUCT = re.compile(r"^#\[repr\(C\)\]\npub struct (\w+) \{\n([^}]*)\}", re.M)
 FIELD = re.compile(r"^    pub (\w+): (.*),$", re.M)
 # what a type of the source is called over C; any other has `Ring` before its name
 NAMES = {"u32": "uint32_t", "i32": "int32_t", "u64": "uint64_t", "usize": "size_t", "bool": "bool", "f64": "double", "HeadAnswer": "RingHead", "PointAnswer": "RingPoint",
-         "WalkAnswer": "RingWalked", "BookAnswer": "RingBegun", "KeyAnswer": "RingNext", "MarkAnswer": "RingMarker", "Partnered": "RingPartners"}
+         "WalkAnswer": "RingWalked", "BookAnswer": "RingBegun", "KeyAnswer": "RingNext", "MarkAnswer": "RingMarker", "StoreAnswer": "RingStored", "Partnered": "RingPartners"}
 
 
 def read(name):
@@ -38,14 +38,19 @@ def numbers(found):
     return [n for low, high in found for n in range(int(low), int(high or low) + 1)]
 
 
+def called(path):
+    """A call's name: the last of its path, with the type before it if it is a method."""
+    return re.search(r"(?:\b[A-Z]\w*::)?\w*$", path).group(0)
+
+
 def of_papers(api):
     """The numbers of each C call, in order, as the API has them of the call that it is; and the names of its parameters."""
     refused, over, named = {}, {}, {}
     for call, text in ENTRY.findall(api):
-        name = re.match(r"[\w:]*", call).group(0).split("::")[-1]
+        name = called(re.match(r"[\w:]*", call).group(0))
         parts = {what: " ".join(said.split()) for what, said in PART.findall(text)}
         if "is" in parts:
-            over[name] = parts["is"].strip("`").split("::")[-1]
+            over[name] = called(parts["is"].strip("`"))
             named[name] = re.findall(r"\w+", call)[1:]
         elif "refusals, in order" in parts:
             refused[name] = numbers(GROUND.findall(parts["refusals, in order"]))
@@ -116,7 +121,7 @@ def differences(api, header, source):
 
 def main():
     api, header = read("docs/API.md"), read("include/ring.h")
-    source = "\n".join(read("crates/%s/src/lib.rt" % crate) for crate in ("list", "book", "ring", "runs", "shortest", "nearest", "ffi"))
+    source = "\n".join(read("crates/%s/src/lib.rt" % crate) for crate in ("list", "book", "depot", "ring", "runs", "shortest", "nearest", "ffi"))
     wrong = differences(api, header, source)
     # what is left out or changed must be told: a number of the list, a call of a number, a number of a call, a parameter, its type or name, a field, its type or name
     for lost, put in ((" *   25 ", ""), ("; more pairs than slots (ring_leaf_run)", ""), (", then 21,", ""), (", uint64_t *bits, size_t bits_len)", ")"),

@@ -1,6 +1,9 @@
 /*
- * An order book over C: opens two sheets, follows the pages of their ring pairs into a book whose slots this program keeps, and prints the orders.
- * On the way the first page is lost and the second comes twice. Neither does harm: the book asks for its next key again, and refuses what it has.
+ * From two sheets to the depot's shelf, over C: opens two sheets, follows the pages of their ring pairs into a book whose slots this program keeps, prints the
+ * orders, makes a form of each, and sends the forms to a depot, which packs one gasket for each form that it calls issued.
+ * On the way the first page times out and the second comes twice. Neither does harm: the book asks for its next key again, and refuses what it has. Then one
+ * form is sent twice, one is lost and sent again, and they come in another order. That does no harm either: the form sent twice is known the second time, and
+ * no chamber gets two gaskets.
  * A page is made on words that this program lends, a bit for each pump house: RING_WORDS of their number.
  *
  *     tools/c-example        builds and runs this file, and compares what it prints with expected.txt
@@ -41,7 +44,7 @@ static RingBook follow(RingBook book, RingPair *slots, size_t room) {
         if (refused("page", asked.number)) return book;
         printf("request %d, after (%u, %u): ", turn, next.key.q, next.key.p);
         if (turn == 1) {
-            printf("lost on the way, %zu held\n", book.held);
+            printf("timed out, %zu held\n", book.held);
             continue;
         }
         RingTaken taken = ring_book_take(book, slots, room, asked.page);
@@ -65,6 +68,34 @@ static void print_order(size_t k, RingPair pair) {
     printf("order %zu: chamber %u with pump house %u, marker (%.1f, %.1f), squared distance %llu\n", k + 1, pair.q, pair.p, marker.x, marker.y, (unsigned long long)pair.size);
 }
 
+/* One form on its way to the depot. The depot from now on, and a gasket more where the form is issued. */
+static RingDepot send(RingDepot depot, RingForm *shelf, size_t room, RingForm form, const char *how, size_t *gaskets) {
+    RingStored stored = ring_depot_take(depot, shelf, room, form);
+    printf("form (%u, %u)%s: ", form.q, form.p, how);
+    if (refused("depot", stored.number)) return depot;
+    if (stored.issued) ++*gaskets;
+    printf("%s, %zu held, %zu gasket%s packed\n", stored.issued ? "issued" : "known", stored.depot.held, *gaskets, *gaskets == 1 ? "" : "s");
+    return stored.depot;
+}
+
+/* The forms of a closed book, to a depot that is begun empty: the last first, the first twice, the second lost once. How many gaskets were packed. */
+static size_t deliver(RingBook book, const RingPair *slots, size_t room) {
+    RingForm forms[8], shelf[8];
+    RingMade made = ring_forms(book, slots, room, forms, LEN(forms));
+    if (refused("forms", made.number)) return 0;
+    printf("%zu forms\n", made.count);
+    RingDepot depot = ring_depot_begin();
+    size_t gaskets = 0;
+    depot = send(depot, shelf, LEN(shelf), forms[2], "", &gaskets);
+    depot = send(depot, shelf, LEN(shelf), forms[0], "", &gaskets);
+    printf("form (%u, %u): lost on the way\n", forms[1].q, forms[1].p);
+    depot = send(depot, shelf, LEN(shelf), forms[0], ", sent twice", &gaskets);
+    depot = send(depot, shelf, LEN(shelf), forms[1], ", sent again", &gaskets);
+    for (size_t k = 0; k < depot.held; k++)
+        printf("shelf %zu: a gasket for chamber %u and pump house %u, editions %u and %u\n", k + 1, shelf[k].q, shelf[k].p, shelf[k].p_edition, shelf[k].q_edition);
+    return gaskets;
+}
+
 int main(void) {
     RingHead p = ring_open(pumps, LEN(pumps));
     RingHead q = ring_open(chambers, LEN(chambers));
@@ -80,5 +111,9 @@ int main(void) {
     RingBook book = follow(begun.book, slots, LEN(slots));
     for (size_t k = 0; k < book.held; k++) print_order(k, slots[k]);
     printf("%zu orders%s\n", book.held, book.closed ? ", and these are all" : "");
-    return book.closed ? 0 : 1;
+    if (!book.closed) return 1;
+
+    size_t gaskets = deliver(book, slots, LEN(slots));
+    printf("%zu gaskets for %zu ring pairs\n", gaskets, book.held);
+    return gaskets == book.held ? 0 : 1;
 }

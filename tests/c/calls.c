@@ -47,6 +47,10 @@ FIELD(RingShortlist, count, 8);
 FIELD(RingNear, distance, 8);
 FIELD(RingFound, count, 8);
 FIELD(RingRun, count, 8);
+FIELD(RingForm, size, 8);
+FIELD(RingForm, contractor, 4);
+FIELD(RingDepot, held, 8);
+FIELD(RingMade, count, 8);
 FIELD(RingRun, opened, 8);
 FIELD(RingPoint, x, 4);
 FIELD(RingPoint, y, 4);
@@ -60,6 +64,8 @@ STRUCT(RingRequest, 24);
 STRUCT(RingPage, 296);
 STRUCT(RingBook, 32);
 STRUCT(RingPair, 16);
+STRUCT(RingForm, 40);
+STRUCT(RingStored, 16);
 STRUCT(RingHead, 40);
 STRUCT(RingFiltered, 24);
 STRUCT(RingWalked, 32);
@@ -948,6 +954,116 @@ static void try_take(void) {
     HOLD(memcmp(room, room_was, sizeof room) == 0);
 }
 
+/* ---- order forms, between guards, and a copy */
+
+static RingForm forms[24], forms_was[24];
+static RingForm *const places = forms + 2;
+
+static RingForm some_form(void) {
+    RingForm f;
+    memset(&f, 0, sizeof f);
+    f.p_edition = 7 + (uint32_t)below(2), f.q_edition = 9, f.own = below(4) == 0, f.contractor = (uint32_t)below(3), f.grid = below(4) == 0;
+    f.q = 5 + (uint32_t)below(3), f.p = 1 + (uint32_t)below(3), f.size = below(2) ? below(100) : wild_size();
+    return f;
+}
+
+static bool same_form(const RingForm *a, const RingForm *b) {
+    return a->p_edition == b->p_edition && a->q_edition == b->q_edition && a->own == b->own && a->contractor == b->contractor && a->grid == b->grid && a->q == b->q && a->p == b->p;
+}
+
+static bool forms_kept(const RingForm *a, const RingForm *b) {
+    for (size_t k = 0; k < 24; k++)
+        if (!same_form(a + k, b + k) || a[k].size != b[k].size) return false;
+    return true;
+}
+
+static void make_forms(void) {
+    for (size_t k = 0; k < 24; k++) forms[k] = some_form();
+}
+
+/* the form of a pair of a list that is not divided, in a town that is no street grid */
+static RingForm form_of(const RingSource *s, const RingPair *v) {
+    RingForm f;
+    memset(&f, 0, sizeof f);
+    f.p_edition = s->p_edition, f.q_edition = s->q_edition, f.own = s->terms.own, f.contractor = 2, f.grid = false, f.q = v->q, f.p = v->p, f.size = v->size;
+    return f;
+}
+
+static void try_forms(void) {
+    RingBook b;
+    size_t len = make_slots(&b), out = below(3) ? below(20) : b.held < 20 ? b.held : 19;
+    make_forms();
+    memcpy(room_was, room, sizeof room), memcpy(forms_was, forms, sizeof forms);
+    uint32_t number = b.held > len ? 11 : b.held > out ? 16 : 0;
+    size_t count = number ? 0 : b.held;
+    for (size_t k = 0; k < count; k++) forms_was[2 + k] = form_of(&b.source, slots + k);
+    RingMade r = ring_forms(b, len ? slots : NULL, len, out ? places : NULL, out);
+    saw(r.number);
+    HOLD(r.number == number && r.count == count && memcmp(room, room_was, sizeof room) == 0 && forms_kept(forms, forms_was));
+}
+
+static void try_depot_begin(void) {
+    RingDepot d = ring_depot_begin();
+    saw(0);
+    HOLD(d.held == 0);
+}
+
+static bool form_ok(const RingForm *f) { return in(1, f->p_edition, 1000000000) && in(1, f->q_edition, 1000000000) && f->contractor <= 2 && id_ok(f->q) && id_ok(f->p); }
+
+/* one thing wrong with a form, or nothing */
+static void spoil_form(RingForm *f) {
+    switch (below(14)) {
+    case 0: f->p_edition = wild(); break;
+    case 1: f->q_edition = below(2) ? 0 : 1000000001; break;
+    case 2: f->contractor = wild(); break;
+    case 3: f->q = wild(); break;
+    case 4: f->p = below(2) ? 0 : 2000000001; break;
+    case 5: f->size = wild_size(); break;
+    case 6: f->own = !f->own; break;
+    case 7: f->grid = !f->grid; break;
+    }
+}
+
+static void try_depot_take(void) {
+    size_t len = below(20);
+    RingDepot d = {below(8) ? below(len + 1) : below(2) ? len + 1 + below(3) : wild_size()};
+    make_forms();
+    RingForm f = d.held && below(2) ? places[below(d.held <= len ? d.held : 20)] : some_form();
+    if (below(3) == 0) spoil_form(&f), spoil_form(&f);
+    bool known = false;
+    for (size_t k = 0; k < len && k < d.held; k++) known |= same_form(places + k, &f);
+    uint32_t number = d.held > len ? 11 : !form_ok(&f) ? 15 : !known && d.held == len ? 16 : 0;
+    bool issued = !number && !known;
+    memcpy(forms_was, forms, sizeof forms);
+    if (issued) forms_was[2 + d.held] = f;
+    RingStored r = ring_depot_take(d, len ? places : NULL, len, f);
+    saw(r.number);
+    HOLD(r.number == number && r.issued == issued && r.depot.held == d.held + (issued ? 1 : 0) && forms_kept(forms, forms_was));
+}
+
+/* ---- a depot's whole history, held to a plain list: the forms of a few pairs, lost, repeated and reordered, with slices that grow */
+
+static void try_deliveries(void) {
+    static RingForm list[64], held[64];
+    size_t many = 0, len = below(24);
+    RingDepot d = ring_depot_begin();
+    memset(held, 0, sizeof held);
+    for (int turn = 0; turn < 60; turn++) {
+        RingForm f = some_form();
+        bool known = false;
+        for (size_t k = 0; k < many; k++) known |= same_form(list + k, &f);
+        uint32_t number = !known && many == len ? 16 : 0;
+        RingStored r = ring_depot_take(d, len ? held : NULL, len, f);
+        saw(r.number);
+        HOLD(r.number == number && r.issued == (!known && !number));
+        if (!known && !number) list[many++] = f;
+        d = r.depot;
+        HOLD(d.held == many);
+        for (size_t k = 0; k < many; k++) HOLD(same_form(held + k, list + k) && held[k].size == list[k].size);
+        if (below(9) == 0 && len < 60) len += below(4);
+    }
+}
+
 static int32_t some_coordinate(void) { return below(4) ? between(-1000000000, 1000000000) : below(2) ? 1000000000 * between(-1, 1) : (int32_t)wild(); }
 
 static void try_marker(void) {
@@ -1304,7 +1420,7 @@ static void try_barren(void) {
 }
 
 int main(void) {
-    static void (*const tries[])(void) = {try_open, try_pack, try_point, try_filter, try_pair, try_page, try_own, try_partners, try_shortest, try_begin, try_next, try_take, try_marker, try_leaf, try_nearest, try_near_filter};
+    static void (*const tries[])(void) = {try_open, try_pack, try_point, try_filter, try_pair, try_page, try_own, try_partners, try_shortest, try_begin, try_next, try_take, try_forms, try_depot_begin, try_depot_take, try_marker, try_leaf, try_nearest, try_near_filter};
     size_t exports = sizeof tries / sizeof tries[0];
     for (size_t n = 0; n <= LARGEST; n++) HOLD(RING_WORDS(n) == words_for(n));
     for (size_t k = 0; k < 4; k++)
@@ -1312,6 +1428,7 @@ int main(void) {
     for (size_t k = 0; k < exports; k++)
         for (int i = 0; i < TIMES; i++) tries[k]();
     try_barren();
+    for (int i = 0; i < TIMES / 10; i++) try_deliveries();
     try_provinces();
     unsigned long unseen = 0, unnamed = 0;
     for (int k = 0; k <= LAST; k++) unseen += A_NUMBER(k) && seen[k] == 0;

@@ -1,6 +1,6 @@
 -- The calls of `view` promise what the calls of `ring`, `runs`, `shortest` and `nearest` promise of the words that the views cover:
 -- "a view handed in included, its counts read anew from its words". So each theorem of Demand1, Demand2, Demand3, Lent, Shortest and Nearest on an answer of
--- these holds of theirs. And so for a book, and for a run, whose slots are kept in an array.
+-- these holds of theirs. And so for a book, the depot, and a run, whose slots are kept in an array.
 -- Assumes nothing. [S28]
 use mathlib.Core.Bool.{Bool}
 use mathlib.Core.Path.{_≡_, ap}
@@ -29,9 +29,15 @@ use Rattle.book.specs.Rules.{takenSlots, takenArray}
 use Rattle.shortest.specs.declared.Shortlist.{Shortlist}
 use Rattle.nearest.specs.declared.Found.{Found}
 use Rattle.runs.specs.declared.Run.{Run}
+use Rattle.depot.specs.declared.Form.{Form}
+use Rattle.depot.specs.declared.MadeArray.{MadeArray}
+use Rattle.depot.specs.declared.Depot.{Depot}
+use Rattle.depot.specs.declared.StoredArray.{StoredArray}
+use Rattle.depot.specs.Forms.{formsOut, madeArray}
+use Rattle.depot.specs.Depot.{storedSlots, storedArray}
 use Rattle.runs.specs.declared.RunArray.{RunArray}
 use Rattle.runs.specs.Run as runs
-use Rattle.demands.specs.Promises.{Place, HeadAnswers, PointAnswers, FilterAnswers, RingAnswers, PageAnswers, PartnersAnswers, ShortAnswers, NextAnswers, TakeAnswers, NextArrayAnswers, TakeArrayAnswers, RunAnswers, RunArrayAnswers, ViewPoints, ViewFilters, ViewRings, ViewPages, ViewPartners, ViewRuns, ViewShortest, OpenHead, PointOpened, OwnAnswers, ViewOwnPages, NearestAnswers, NearFilterAnswers, ViewNearest, ViewNearFilters}
+use Rattle.demands.specs.Promises.{FormsAnswers, StoreAnswers, FormsArrayAnswers, StoreArrayAnswers, Place, HeadAnswers, PointAnswers, FilterAnswers, RingAnswers, PageAnswers, PartnersAnswers, ShortAnswers, NextAnswers, TakeAnswers, NextArrayAnswers, TakeArrayAnswers, RunAnswers, RunArrayAnswers, ViewPoints, ViewFilters, ViewRings, ViewPages, ViewPartners, ViewRuns, ViewShortest, OpenHead, PointOpened, OwnAnswers, ViewOwnPages, NearestAnswers, NearFilterAnswers, ViewNearest, ViewNearFilters}
 
 -- ---- through a view
 
@@ -91,6 +97,24 @@ module _ (slots : List Pair) (len : ℕ) (b : Book) (g : Page) (r : TakenArray) 
   pub take-array-slots : r .slots ≡ takenSlots b (take (lentOf 64 len) slots) g ++ drop (lentOf 64 len) slots
   unfolding takenArray
   take-array-slots = ap (λ (x : TakenArray). x .slots) (a .promised)
+
+module _ (slots : List Pair) (len : ℕ) (out : List Form) (room : ℕ) (b : Book) (r : MadeArray) (a : FormsArrayAnswers slots len out room b r) where
+  pub forms-array : FormsAnswers b (take (lentOf 64 len) slots) (take (lentOf 64 room) out) (r .made) (formsOut b (take (lentOf 64 len) slots) (take (lentOf 64 room) out))
+  unfolding madeArray
+  forms-array = (ap (λ (x : MadeArray). x .made) (a .promised), λ t. formsOut b (take (lentOf 64 len) slots) (take (lentOf 64 room) out))
+
+  pub forms-array-out : r .out ≡ formsOut b (take (lentOf 64 len) slots) (take (lentOf 64 room) out) ++ drop (lentOf 64 room) out
+  unfolding madeArray
+  forms-array-out = ap (λ (x : MadeArray). x .out) (a .promised)
+
+module _ (slots : List Form) (len : ℕ) (d : Depot) (f : Form) (r : StoredArray) (a : StoreArrayAnswers slots len d f r) where
+  pub store-array : StoreAnswers d (take (lentOf 64 len) slots) f (r .stored) (storedSlots d (take (lentOf 64 len) slots) f)
+  unfolding storedArray
+  store-array = (ap (λ (x : StoredArray). x .stored) (a .promised), λ t. storedSlots d (take (lentOf 64 len) slots) f)
+
+  pub store-array-slots : r .slots ≡ storedSlots d (take (lentOf 64 len) slots) f ++ drop (lentOf 64 len) slots
+  unfolding storedArray
+  store-array-slots = ap (λ (x : StoredArray). x .slots) (a .promised)
 
 module _ (P Q : List ℤ) (v : ℕ) (slots : List Pair) (len : ℕ) (w : List ℕ) (r : RunArray) (w′ : List ℕ) (a : RunArrayAnswers P Q v slots len w r w′) where
   pub run-array : RunAnswers P Q v (take (lentOf 256 len) slots) w (r .run) (runs.runSlots P Q v (take (lentOf 256 len) slots) (length w)) w′

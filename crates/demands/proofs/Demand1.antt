@@ -71,6 +71,14 @@ use Rattle.book.specs.declared.TakenArray.{TakenArray}
 use Rattle.list.specs.Lent.{lentOf}
 use Rattle.book.specs.Rules.{beginNo, begunNo, nextNo, nextCaseNo, takeNo, taken, takenSlots}
 use Rattle.book.proofs.Once as of-book
+use Rattle.depot.specs.declared.Form.{Form}
+use Rattle.depot.specs.declared.Made.{Made}
+use Rattle.depot.specs.declared.Depot.{Depot}
+use Rattle.depot.specs.declared.Outcome.the-variants as outcome
+use Rattle.depot.specs.declared.Stored.{Stored}
+use Rattle.depot.specs.Forms.{formsNo}
+use Rattle.depot.specs.Depot.{storeNo, outcomeNo}
+use Rattle.depot.proofs.TakeLaws as of-depot
 use Rattle.book.proofs.TakeLaws as of-take
 use Rattle.marker.specs.Mark.{markNo, numberOf, Middle, MiddleAt}
 use Rattle.marker.specs.declared.Marker.{Marker}
@@ -87,7 +95,7 @@ use Rattle.runs.specs.declared.RunArray.{RunArray}
 use Rattle.runs.specs.Run.{runNo, runRefused, runAnswer, runSlots}
 use Rattle.runs.proofs.Once as of-runs
 use Rattle.runs.proofs.Meaning as of-run
-use Rattle.demands.specs.Promises.{OpenAnswers, HeadAnswers, PointAnswers, FilterAnswers, RingAnswers, PageAnswers, ShortAnswers, PackAnswers, MarkAnswers, BeginAnswers, NextAnswers, TakeAnswers, TakeArrayAnswers, RunAnswers, RunArrayAnswers, ViewOpens, PartnersAnswers, NearestAnswers, NearFilterAnswers, OwnAnswers}
+use Rattle.demands.specs.Promises.{FormsAnswers, StoreAnswers, OpenAnswers, HeadAnswers, PointAnswers, FilterAnswers, RingAnswers, PageAnswers, ShortAnswers, PackAnswers, MarkAnswers, BeginAnswers, NextAnswers, TakeAnswers, TakeArrayAnswers, RunAnswers, RunArrayAnswers, ViewOpens, PartnersAnswers, NearestAnswers, NearFilterAnswers, OwnAnswers}
 use Rattle.demands.proofs.Alike.{take-array, take-array-slots, run-array, run-array-slots}
 
 -- the number k is one of refusal
@@ -278,6 +286,25 @@ take-array-no slots len b g r a =
       λ ne.
           (z .1 ne .0, take-array-slots slots len b g r a ∙ ap (λ (x : List Pair). x ++ drop (lentOf 64 len) slots) (z .1 ne .1) ∙ take-append-drop (lentOf 64 len) slots),
     )
+
+-- ---- making forms, 11, 16: refused, nothing is made, and every place is as it stood
+
+-- [I16]
+pub make-no : (b : Book) (slots : List Pair) (out : List Form) (r : Made) (out′ : List Form) → FormsAnswers b slots out r out′
+    → (r .number ≡ formsNo b (length slots) (length out)) × (Refuses (formsNo b (length slots) (length out)) → (r .count ≡ 0) × (out′ ≡ out))
+make-no b slots out r out′ a =
+    let e = of-depot.forms-no b slots out in
+    (ap (λ (x : Made). x .number) (a .0) ∙ e, λ ne. let z = of-depot.forms-refused b slots out (λ y. ne (sym e ∙ y)) in (ap (λ (x : Made). x .count) (a .0) ∙ z .0, a .1 ∙ z .1))
+
+-- ---- the depot's take, 11, 15, 16: refused, the depot comes back as it went in, and every slot is as it stood
+
+-- [I14, I15]
+pub store-no : (d : Depot) (slots : List Form) (f : Form) (r : Stored) (slots′ : List Form) → StoreAnswers d slots f r slots′
+    → (outcomeNo (r .outcome) ≡ storeNo d slots f) × (Refuses (storeNo d slots f) → (r .outcome ≡ outcome.Refused (storeNo d slots f)) × (r .depot ≡ d) × (slots′ ≡ slots))
+store-no d slots f r slots′ a = (
+  ap (λ (x : Stored). outcomeNo (x .outcome)) (a .0) ∙ of-depot.stored-no d slots f,
+  λ ne. let z = of-depot.not-taken d slots f ne in (ap (λ (x : Stored). x .outcome) (a .0) ∙ z .0, ap (λ (x : Stored). x .depot) (a .0) ∙ z .1, a .1 ∙ z .2),
+)
 
 -- ---- a leaf's run, 1 to 8 for P, then for Q, then 19, then 24, then 16: refused, both counts are 0, every slot is as it stood, and so is every lent word
 

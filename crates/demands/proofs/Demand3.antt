@@ -140,14 +140,14 @@ module _ (w : Editions) where
   held-prefix h = of-story.book-held-prefix worldOf (reached h)
 
   -- the ids in either place of a book's list ascend
-  pumps-rise : (s : Source) → Rising (idAt (pumpsOf w s)) (length (pumpsOf w s))
+  pub pumps-rise : (s : Source) → Rising (idAt (pumpsOf w s)) (length (pumpsOf w s))
   pumps-rise s = go (s .terms .own)
     where
       go : (k : Bool) → Rising (idAt (cond k (pointsOf (w .assets (s .«q_edition»))) (pointsOf (w .pumps (s .«p_edition»))))) (length (cond k (pointsOf (w .assets (s .«q_edition»))) (pointsOf (w .pumps (s .«p_edition»)))))
       go true = worldOf .assets-sound (s .«q_edition») .rising
       go false = worldOf .pumps-sound (s .«p_edition») .rising
 
-  chambers-rise : (s : Source) → Rising (idAt (chambersOf w s)) (length (chambersOf w s))
+  pub chambers-rise : (s : Source) → Rising (idAt (chambersOf w s)) (length (chambersOf w s))
   chambers-rise s = go (s .terms .own)
     where
       go : (k : Bool) → Rising (idAt (cond k (pointsOf (w .assets (s .«q_edition»))) (pointsOf (w .chambers (s .«q_edition»))))) (length (cond k (pointsOf (w .assets (s .«q_edition»))) (pointsOf (w .chambers (s .«q_edition»)))))

@@ -29,6 +29,12 @@ use Rattle.book.specs.declared.Begun.{Begun}
 use Rattle.book.specs.declared.Asked.{Asked}
 use Rattle.book.specs.declared.Taken.{Taken}
 use Rattle.book.specs.declared.TakenArray.{TakenArray}
+use Rattle.depot.specs.declared.Form.{Form}
+use Rattle.depot.specs.declared.Made.{Made}
+use Rattle.depot.specs.declared.MadeArray.{MadeArray}
+use Rattle.depot.specs.declared.Depot.{Depot}
+use Rattle.depot.specs.declared.Stored.{Stored}
+use Rattle.depot.specs.declared.StoredArray.{StoredArray}
 use Rattle.marker.specs.declared.Marked.{Marked}
 use Rattle.shortest.specs.declared.Shortlist.{Shortlist}
 use Rattle.nearest.specs.declared.Found.{Found}
@@ -42,10 +48,11 @@ use Rattle.ring.proofs.PartnersLaws as of-partners
 use Rattle.nearest.proofs.Meaning as of-nearest
 use Rattle.view.proofs.Once as of-view
 use Rattle.book.proofs.Once as of-book
+use Rattle.depot.proofs.TakeLaws as of-depot
 use Rattle.pack.proofs.Once as of-pack
 use Rattle.marker.proofs.Once as of-marker
 use Rattle.runs.proofs.Once as of-runs
-use Rattle.demands.specs.Promises.{OpenAnswers, HeadAnswers, PointAnswers, FilterAnswers, RingAnswers, PageAnswers, ShortAnswers, PackAnswers, MarkAnswers, BeginAnswers, NextAnswers, TakeAnswers, NextArrayAnswers, TakeArrayAnswers, RunAnswers, RunArrayAnswers, ViewOpens, ViewPoints, ViewFilters, ViewRings, ViewPages, OpenHead, PointOpened, PartnersAnswers, ViewPartners, NearestAnswers, NearFilterAnswers, OwnAnswers, ViewOwnPages, ViewRuns, ViewShortest, ViewNearest, ViewNearFilters}
+use Rattle.demands.specs.Promises.{FormsAnswers, DepotBegins, StoreAnswers, FormsArrayAnswers, StoreArrayAnswers, OpenAnswers, HeadAnswers, PointAnswers, FilterAnswers, RingAnswers, PageAnswers, ShortAnswers, PackAnswers, MarkAnswers, BeginAnswers, NextAnswers, TakeAnswers, NextArrayAnswers, TakeArrayAnswers, RunAnswers, RunArrayAnswers, ViewOpens, ViewPoints, ViewFilters, ViewRings, ViewPages, OpenHead, PointOpened, PartnersAnswers, ViewPartners, NearestAnswers, NearFilterAnswers, OwnAnswers, ViewOwnPages, ViewRuns, ViewShortest, ViewNearest, ViewNearFilters}
 
 -- ---- ring
 
@@ -116,6 +123,23 @@ next-array-once slots len b r r′ x y = of-book.book-next-array-once slots len 
 
 pub take-array-once : (slots : List Pair) (len : ℕ) (b : Book) (g : Page) (r r′ : TakenArray) → TakeArrayAnswers slots len b g r → TakeArrayAnswers slots len b g r′ → r ≡ r′
 take-array-once slots len b g r r′ x y = of-book.book-take-array-once slots len b g r r′ (x .promised) (y .promised)
+
+-- ---- the depot: one answer, and one final state of what was lent
+
+pub forms-once : (b : Book) (slots : List Pair) (out : List Form) (r r′ : Made) (t t′ : List Form) → FormsAnswers b slots out r t → FormsAnswers b slots out r′ t′ → (r ≡ r′) × (t ≡ t′)
+forms-once b slots out r r′ t t′ x y = of-depot.depot-forms-once b slots out r r′ t t′ x y
+
+pub depot-begin-once : (d d′ : Depot) → DepotBegins d → DepotBegins d′ → d ≡ d′
+depot-begin-once d d′ x y = x .promised ∙ sym (y .promised)
+
+pub store-once : (d : Depot) (slots : List Form) (f : Form) (r r′ : Stored) (t t′ : List Form) → StoreAnswers d slots f r t → StoreAnswers d slots f r′ t′ → (r ≡ r′) × (t ≡ t′)
+store-once d slots f r r′ t t′ x y = of-depot.depot-take-once d slots f r r′ t t′ x y
+
+pub forms-array-once : (slots : List Pair) (len : ℕ) (out : List Form) (room : ℕ) (b : Book) (r r′ : MadeArray) → FormsArrayAnswers slots len out room b r → FormsArrayAnswers slots len out room b r′ → r ≡ r′
+forms-array-once slots len out room b r r′ x y = of-depot.depot-forms-array-once slots len out room b r r′ (x .promised) (y .promised)
+
+pub store-array-once : (slots : List Form) (len : ℕ) (d : Depot) (f : Form) (r r′ : StoredArray) → StoreArrayAnswers slots len d f r → StoreArrayAnswers slots len d f r′ → r ≡ r′
+store-array-once slots len d f r r′ x y = of-depot.depot-take-array-once slots len d f r r′ (x .promised) (y .promised)
 
 -- ---- one run per leaf: one answer, and one final state of the slots and of the lent words
 

@@ -47,6 +47,14 @@ use Rattle.book.specs.declared.Asked.{Asked}
 use Rattle.book.specs.declared.Taken.{Taken}
 use Rattle.book.specs.Rules.{beginNo, begunNo, begunFor, nextNo, nextCaseNo, asked}
 use Rattle.book.proofs.Once as of-book
+use Rattle.depot.specs.declared.Form.{Form}
+use Rattle.depot.specs.declared.Made.{Made}
+use Rattle.depot.specs.declared.Depot.{Depot}
+use Rattle.depot.specs.declared.Outcome.{Outcome}
+use Rattle.depot.specs.declared.Outcome.the-variants as outcome
+use Rattle.depot.specs.declared.Stored.{Stored}
+use Rattle.depot.specs.Depot.{storeNo, outcomeNo, stored}
+use Rattle.depot.proofs.TakeLaws as of-depot
 use Rattle.shortest.specs.declared.Shortlist.{Shortlist}
 use Rattle.nearest.specs.declared.Found.{Found}
 use Rattle.runs.specs.declared.Run.{Run}
@@ -58,8 +66,9 @@ use Rattle.ffi.specs.declared.PointAnswer.{PointAnswer}
 use Rattle.ffi.specs.declared.WalkAnswer.{WalkAnswer}
 use Rattle.ffi.specs.declared.BookAnswer.{BookAnswer}
 use Rattle.ffi.specs.declared.KeyAnswer.{KeyAnswer}
+use Rattle.ffi.specs.declared.StoreAnswer.{StoreAnswer}
 use Rattle.ffi.specs.declared.MarkAnswer.{MarkAnswer}
-use Rattle.ffi.specs.Over.{headOver, pointOver, hitOver, walkOver, bookOver, nextOver, keyOver, markOver, markedAt}
+use Rattle.ffi.specs.Over.{headOver, pointOver, hitOver, walkOver, bookOver, nextOver, keyOver, outcomeOver, storeOver, markOver, markedAt}
 use Rattle.ffi.proofs.MarkLaws.{marked-is, marked-marks}
 use Rattle.ffi.proofs.ring_open.Reads as open-c
 use Rattle.ffi.proofs.ring_pack.Reads as pack-c
@@ -73,12 +82,15 @@ use Rattle.ffi.proofs.ring_partners.Reads as partners-c
 use Rattle.ffi.proofs.ring_nearest.Reads as nearest-c
 use Rattle.ffi.proofs.ring_near_filter.Reads as near-filter-c
 use Rattle.ffi.proofs.ring_book_begin.Reads as begin-c
+use Rattle.ffi.proofs.ring_depot_begin.Reads as depot-begin-c
 use Rattle.ffi.proofs.ring_marker.Reads as mark-c
 use Rattle.ffi.proofs.ring_book_next_key as next-c
 use Rattle.ffi.proofs.ring_book_take as take-c
+use Rattle.ffi.proofs.ring_forms as forms-c
+use Rattle.ffi.proofs.ring_depot_take as store-c
 use Rattle.ffi.proofs.ring_leaf_run as run-c
-use Rattle.demands.specs.Promises.{Place, slice, HeadAnswers, PointAnswers, FilterAnswers, RingAnswers, PageAnswers, ShortAnswers, PackAnswers, MarkAnswers, BeginAnswers, NextAnswers, TakeAnswers, RunAnswers, PartnersAnswers, NearestAnswers, NearFilterAnswers, OwnAnswers}
-use Rattle.demands.specs.OverC.{OpenC, PackC, PointC, FilterC, WalkC, PageC, ShortC, BeginC, MarkC, NextC, PartnersC, NearestC, NearFilterC, OwnC}
+use Rattle.demands.specs.Promises.{FormsAnswers, DepotBegins, StoreAnswers, Place, slice, HeadAnswers, PointAnswers, FilterAnswers, RingAnswers, PageAnswers, ShortAnswers, PackAnswers, MarkAnswers, BeginAnswers, NextAnswers, TakeAnswers, RunAnswers, PartnersAnswers, NearestAnswers, NearFilterAnswers, OwnAnswers}
+use Rattle.demands.specs.OverC.{DepotBeginC, StoreC, OpenC, PackC, PointC, FilterC, WalkC, PageC, ShortC, BeginC, MarkC, NextC, PartnersC, NearestC, NearFilterC, OwnC}
 use Rattle.demands.proofs.Once as once
 
 -- ---- every input is taken
@@ -119,16 +131,25 @@ near-filter-c-takes κs a = tt
 pub begin-c-takes : (κs : Lfts 0) (a : _) → begin-c.Asked κs a
 begin-c-takes κs a = tt
 
+pub depot-begin-c-takes : (κs : Lfts 0) (a : _) → depot-begin-c.Asked κs a
+depot-begin-c-takes κs a = tt
+
 pub mark-c-takes : (κs : Lfts 0) (a : _) → mark-c.Asked κs a
 mark-c-takes κs a = tt
 
--- the three over slots: they ask nothing, and what specs/ states is their `ensures`, word for word
+-- those over slots: they ask nothing, and what specs/ states is their `ensures`, word for word
 module _ {M : Type 1} (𝓤 : URA M) (H : Heap 𝓤) (A : Atoms 𝓤) (mem : Memory → SProp 𝓤) (run : Routine → Fun 𝓤) where
   pub next-c-takes : (κs : Lfts 1) (a : _) → next-c.clauses 𝓤 H A mem run κs a .requires tt ≡ emp 𝓤
   next-c-takes κs a = refl
 
   pub take-c-takes : (κs : Lfts 1) (a : _) → take-c.clauses 𝓤 H A mem run κs a .requires tt ≡ emp 𝓤
   take-c-takes κs a = refl
+
+  pub forms-c-takes : (κs : Lfts 2) (a : _) → forms-c.clauses 𝓤 H A mem run κs a .requires tt ≡ emp 𝓤
+  forms-c-takes κs a = refl
+
+  pub store-c-takes : (κs : Lfts 1) (a : _) → store-c.clauses 𝓤 H A mem run κs a .requires tt ≡ emp 𝓤
+  store-c-takes κs a = refl
 
   pub run-c-takes : (κs : Lfts 4) (a : _) → run-c.clauses 𝓤 H A mem run κs a .requires tt ≡ emp 𝓤
   run-c-takes κs a = refl
@@ -141,6 +162,16 @@ module _ {M : Type 1} (𝓤 : URA M) (H : Heap 𝓤) (A : Atoms 𝓤) (mem : Mem
       → take-c.ensures-1 𝓤 H κs A mem run b (slice l s) g (record { entry = b; exit = b }) (record { entry = slice l s; exit = slice l s′ }) (record { entry = g; exit = g }) r
       ≡ fact 𝓤 (TakeAnswers b s g r s′)
   take-c-says κs l b s g r s′ = refl
+
+  pub forms-c-says : (κs : Lfts 2) (l o : Place) (b : Book) (s : List Pair) (out : List Form) (r : Made) (out′ : List Form)
+      → forms-c.ensures-1 𝓤 H κs A mem run b (slice l s) (slice o out) (record { entry = b; exit = b }) (record { entry = slice l s; exit = slice l s }) (record { entry = slice o out; exit = slice o out′ }) r
+      ≡ fact 𝓤 (FormsAnswers b s out r out′)
+  forms-c-says κs l o b s out r out′ = refl
+
+  pub store-c-says : (κs : Lfts 1) (l : Place) (d : Depot) (s : List Form) (f : Form) (r : StoreAnswer) (s′ : List Form)
+      → store-c.ensures-1 𝓤 H κs A mem run d (slice l s) f (record { entry = d; exit = d }) (record { entry = slice l s; exit = slice l s′ }) (record { entry = f; exit = f }) r
+      ≡ fact 𝓤 (StoreC d s f r s′)
+  store-c-says κs l d s f r s′ = refl
 
   pub run-c-says : (κs : Lfts 4) (p-at q-at l b-at : Place) (P Q : List ℤ) (v : ℕ) (s : List Pair) (w : List ℕ) (r : Run) (s′ : List Pair) (w′ : List ℕ)
       → run-c.ensures-1 𝓤 H κs A mem run (slice p-at P) (slice q-at Q) v (slice l s) (slice b-at w)
@@ -202,6 +233,13 @@ begin-over s c r a b = a .promised ∙ ap bookOver (sym (b .promised))
 pub next-over : (b : Book) (slots : List Pair) (c : KeyAnswer) (r : Asked) → NextC b slots c → NextAnswers b slots r → c ≡ keyOver r
 next-over b slots c r x y = x ∙ ap keyOver (sym y)
 
+pub depot-begin-over : (d : Depot) → DepotBeginC d → DepotBegins d
+depot-begin-over d a = record { promised = a .promised }
+
+pub store-over : (d : Depot) (slots : List Form) (f : Form) (c : StoreAnswer) (slots′ : List Form) (r : Stored) (t : List Form)
+    → StoreC d slots f c slots′ → StoreAnswers d slots f r t → (c ≡ storeOver r) × (slots′ ≡ t)
+store-over d slots f c slots′ r t x y = (x .0 ∙ ap storeOver (sym (y .0)), x .1 ∙ sym (y .1))
+
 pub mark-over : (ax ay bx by : ℤ) (c : MarkAnswer) (r : Marked) → MarkC ax ay bx by c → MarkAnswers ax ay bx by r → c ≡ markOver r
 mark-over ax ay bx by c r a b = a .promised ∙ ap markOver (sym (marked-is ax ay bx by r (b .promised)))
 
@@ -229,6 +267,12 @@ next-number : (r : Next) (b : Book) → nextOver r b .number ≡ nextCaseNo r
 unfolding nextCaseNo
 next-number (next.After k) b = refl
 next-number (next.Refused n) b = refl
+
+store-number : (o : Outcome) (d : Depot) → outcomeOver o d .number ≡ outcomeNo o
+unfolding outcomeNo
+store-number outcome.Issued d = refl
+store-number outcome.Known d = refl
+store-number (outcome.Refused n) d = refl
 
 mark-number : (r : Marked) → markOver r .number ≡ numberOf r
 mark-number (marking.At m) = refl
@@ -262,10 +306,14 @@ pub next-c-no : (b : Book) (slots : List Pair) (c : KeyAnswer) → NextC b slots
 next-c-no b slots c a = ap (λ (x : KeyAnswer). x .number) a ∙ next-number (asked b slots .next) (asked b slots .book) ∙ of-book.book-next-no b slots
 
 -- [C2]
+pub store-c-no : (d : Depot) (slots : List Form) (f : Form) (c : StoreAnswer) (slots′ : List Form) → StoreC d slots f c slots′ → c .number ≡ storeNo d slots f
+store-c-no d slots f c slots′ a = ap (λ (x : StoreAnswer). x .number) (a .0) ∙ store-number (stored d slots f .outcome) (stored d slots f .depot) ∙ of-depot.stored-no d slots f
+
+-- [C2]
 pub mark-c-no : (ax ay bx by : ℤ) (c : MarkAnswer) → MarkC ax ay bx by c → c .number ≡ markNo ax ay bx by
 mark-c-no ax ay bx by c a = ap (λ (x : MarkAnswer). x .number) (a .promised) ∙ mark-number (markedAt ax ay bx by) ∙ marked-marks ax ay bx by .number
 
--- ---- one input, one answer, one final state. (`ring_book_take`, `ring_leaf_run`: `take-once`, `run-once` of Once)
+-- ---- one input, one answer, one final state. (`ring_book_take`, `ring_forms`, `ring_leaf_run`: `take-once`, `forms-once`, `run-once` of Once)
 
 pub open-c-once : (w : List ℤ) (r r′ : HeadAnswer) → OpenC w r → OpenC w r′ → r ≡ r′
 open-c-once w r r′ a b = a .promised ∙ sym (b .promised)
@@ -307,6 +355,12 @@ begin-c-once s r r′ a b = a .promised ∙ sym (b .promised)
 
 pub next-c-once : (b : Book) (slots : List Pair) (r r′ : KeyAnswer) → NextC b slots r → NextC b slots r′ → r ≡ r′
 next-c-once b slots r r′ x y = x ∙ sym y
+
+pub depot-begin-c-once : (d d′ : Depot) → DepotBeginC d → DepotBeginC d′ → d ≡ d′
+depot-begin-c-once d d′ x y = x .promised ∙ sym (y .promised)
+
+pub store-c-once : (d : Depot) (slots : List Form) (f : Form) (r r′ : StoreAnswer) (t t′ : List Form) → StoreC d slots f r t → StoreC d slots f r′ t′ → (r ≡ r′) × (t ≡ t′)
+store-c-once d slots f r r′ t t′ x y = (x .0 ∙ sym (y .0), x .1 ∙ sym (y .1))
 
 pub mark-c-once : (ax ay bx by : ℤ) (r r′ : MarkAnswer) → MarkC ax ay bx by r → MarkC ax ay bx by r′ → r ≡ r′
 mark-c-once ax ay bx by r r′ a b = a .promised ∙ sym (b .promised)

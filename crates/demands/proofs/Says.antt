@@ -31,6 +31,12 @@ use Rattle.book.specs.declared.Asked.{Asked}
 use Rattle.book.specs.declared.Taken.{Taken}
 use Rattle.book.proofs.Book.next_key as next-key
 use Rattle.book.proofs.Book.take as book-take
+use Rattle.depot.specs.declared.Form.{Form}
+use Rattle.depot.specs.declared.Made.{Made}
+use Rattle.depot.specs.declared.Depot.{Depot}
+use Rattle.depot.specs.declared.Stored.{Stored}
+use Rattle.depot.proofs.forms as depot-forms
+use Rattle.depot.proofs.Depot.take as depot-take
 use Rattle.shortest.specs.declared.Shortlist.{Shortlist}
 use Rattle.nearest.specs.declared.Found.{Found}
 use Rattle.runs.specs.declared.Run.{Run}
@@ -46,7 +52,7 @@ use Rattle.view.proofs.leaf_run_at as view-run
 use Rattle.view.proofs.shortest_at as view-shortest
 use Rattle.view.proofs.nearest_at as view-nearest
 use Rattle.view.proofs.near_filter_at as view-near-filter
-use Rattle.demands.specs.Promises.{Place, slice, NextAnswers, TakeAnswers, RunAnswers, ViewOpens, ViewPoints, ViewFilters, ViewRings, ViewPages, ViewPartners, ViewOwnPages, ViewRuns, ViewShortest, ViewNearest, ViewNearFilters}
+use Rattle.demands.specs.Promises.{Place, slice, NextAnswers, TakeAnswers, FormsAnswers, StoreAnswers, RunAnswers, ViewOpens, ViewPoints, ViewFilters, ViewRings, ViewPages, ViewPartners, ViewOwnPages, ViewRuns, ViewShortest, ViewNearest, ViewNearFilters}
 
 module _ {M : Type 1} (𝓤 : URA M) (H : Heap 𝓤) (A : Atoms 𝓤) (mem : Memory → SProp 𝓤) (run : Routine → Fun 𝓤) where
   pub next-key-says : (κs : Lfts 1) (l : Place) (b : Book) (s : List Pair) (r : Asked)
@@ -57,6 +63,16 @@ module _ {M : Type 1} (𝓤 : URA M) (H : Heap 𝓤) (A : Atoms 𝓤) (mem : Mem
       → book-take.ensures-1 𝓤 H κs A mem run b (slice l s) g (record { entry = b; exit = b }) (record { entry = slice l s; exit = slice l s′ }) (record { entry = g; exit = g }) r
       ≡ fact 𝓤 (TakeAnswers b s g r s′)
   take-says κs l b s g r s′ = refl
+
+  pub forms-says : (κs : Lfts 2) (l o : Place) (b : Book) (s : List Pair) (out : List Form) (r : Made) (out′ : List Form)
+      → depot-forms.ensures-1 𝓤 H κs A mem run b (slice l s) (slice o out) (record { entry = b; exit = b }) (record { entry = slice l s; exit = slice l s }) (record { entry = slice o out; exit = slice o out′ }) r
+      ≡ fact 𝓤 (FormsAnswers b s out r out′)
+  forms-says κs l o b s out r out′ = refl
+
+  pub store-says : (κs : Lfts 1) (l : Place) (d : Depot) (s : List Form) (f : Form) (r : Stored) (s′ : List Form)
+      → depot-take.ensures-1 𝓤 H κs A mem run d (slice l s) f (record { entry = d; exit = d }) (record { entry = slice l s; exit = slice l s′ }) (record { entry = f; exit = f }) r
+      ≡ fact 𝓤 (StoreAnswers d s f r s′)
+  store-says κs l d s f r s′ = refl
 
   pub run-says : (κs : Lfts 4) (p-at q-at l b-at : Place) (P Q : List ℤ) (v : ℕ) (s : List Pair) (w : List ℕ) (r : Run) (s′ : List Pair) (w′ : List ℕ)
       → leaf-run.ensures-1 𝓤 H κs A mem run (slice p-at P) (slice q-at Q) v (slice l s) (slice b-at w) (record { entry = slice p-at P; exit = slice p-at P }) (record { entry = slice q-at Q; exit = slice q-at Q }) (record { entry = v; exit = v }) (record { entry = slice l s; exit = slice l s′ }) (record { entry = slice b-at w; exit = slice b-at w′ }) r

@@ -26,11 +26,16 @@ use Rattle.marker.proofs.mark.Reads as mark
 use Rattle.book.proofs.Book.begin.Reads as begin
 use Rattle.book.proofs.next_array.Reads as next-array
 use Rattle.book.proofs.take_array.Reads as take-array
+use Rattle.depot.proofs.Depot.begin.Reads as depot-begin
+use Rattle.depot.proofs.forms_array.Reads as forms-array
+use Rattle.depot.proofs.take_array.Reads as store-array
 use Rattle.runs.proofs.run_array.Reads as run-array
 use Rattle.view.proofs.open_head.Reads as open-head
 use Rattle.view.proofs.point_opened.Reads as point-opened
 use Rattle.book.proofs.Book.next_key as next-key
 use Rattle.book.proofs.Book.take as take
+use Rattle.depot.proofs.forms as forms
+use Rattle.depot.proofs.Depot.take as store
 use Rattle.runs.proofs.leaf_run as leaf-run
 use Rattle.view.proofs.open as view-open
 use Rattle.view.proofs.point_at as view-point
@@ -92,6 +97,15 @@ next-array-takes κs a = tt
 pub take-array-takes : (κs : Lfts 0) (a : _) → take-array.Asked κs a
 take-array-takes κs a = tt
 
+pub depot-begin-takes : (κs : Lfts 0) (a : _) → depot-begin.Asked κs a
+depot-begin-takes κs a = tt
+
+pub forms-array-takes : (κs : Lfts 0) (a : _) → forms-array.Asked κs a
+forms-array-takes κs a = tt
+
+pub store-array-takes : (κs : Lfts 0) (a : _) → store-array.Asked κs a
+store-array-takes κs a = tt
+
 pub run-array-takes : (κs : Lfts 3) (a : _) → run-array.Asked κs a
 run-array-takes κs a = tt
 
@@ -107,6 +121,12 @@ module _ {M : Type 1} (𝓤 : URA M) (H : Heap 𝓤) (A : Atoms 𝓤) (mem : Mem
 
   pub take-takes : (κs : Lfts 1) (a : _) → take.clauses 𝓤 H A mem run κs a .requires tt ≡ emp 𝓤
   take-takes κs a = refl
+
+  pub forms-takes : (κs : Lfts 2) (a : _) → forms.clauses 𝓤 H A mem run κs a .requires tt ≡ emp 𝓤
+  forms-takes κs a = refl
+
+  pub store-takes : (κs : Lfts 1) (a : _) → store.clauses 𝓤 H A mem run κs a .requires tt ≡ emp 𝓤
+  store-takes κs a = refl
 
   pub leaf-run-takes : (κs : Lfts 4) (a : _) → leaf-run.clauses 𝓤 H A mem run κs a .requires tt ≡ emp 𝓤
   leaf-run-takes κs a = refl

@@ -90,7 +90,7 @@ unfolding sourceOf num documentP documentQ
 source-is = refl
 
 -- A book that is begun for editions 7 and 9, with a slot for each pair, can ask and take until it is closed, and then it holds the document's three pairs. [D6, D9]
-pub document-closed : (b : Book) × (s : List Pair) × History documentWorld b s × (b .closed ≡ true) × (b .held ≡ 3) × (take 3 s ≡ threePairs)
+pub document-closed : (b : Book) × (s : List Pair) × History documentWorld b s × (b .closed ≡ true) × (b .held ≡ 3) × (take 3 s ≡ threePairs) × (b .source ≡ documentSource)
 unfolding begunBook documentWorld
 document-closed =
     let slots : List Pair = replicate 3 none in
@@ -100,4 +100,4 @@ document-closed =
     let c = closed-all documentWorld (g .0) (m .3) in
     let l : bookList documentWorld (m .0) ≡ threePairs = ap (λ (x : Source). listFor (x .terms) (pumpsOf documentWorld x) (chambersOf documentWorld x)) (g .1) ∙ list-is in
     let n : m .0 .held ≡ 3 = c .0 ∙ ap length l in
-    (m .0, m .1, g .0, m .3, n, ap (λ (k : ℕ). take k (m .1)) (sym n) ∙ c .1 ∙ l)
+    (m .0, m .1, g .0, m .3, n, ap (λ (k : ℕ). take k (m .1)) (sym n) ∙ c .1 ∙ l, g .1)

@@ -17,13 +17,17 @@ use Rattle.ring.specs.declared.Partnered.{Partnered}
 use Rattle.nearest.specs.declared.Found.{Found}
 use Rattle.book.specs.declared.Book.{Book}
 use Rattle.book.specs.Rules.{asked}
+use Rattle.depot.specs.declared.Form.{Form}
+use Rattle.depot.specs.declared.Depot.{Depot}
+use Rattle.depot.specs.Depot.{stored, storedSlots}
 use Rattle.ffi.specs.declared.HeadAnswer.{HeadAnswer}
 use Rattle.ffi.specs.declared.PointAnswer.{PointAnswer}
 use Rattle.ffi.specs.declared.WalkAnswer.{WalkAnswer}
 use Rattle.ffi.specs.declared.BookAnswer.{BookAnswer}
 use Rattle.ffi.specs.declared.KeyAnswer.{KeyAnswer}
+use Rattle.ffi.specs.declared.StoreAnswer.{StoreAnswer}
 use Rattle.ffi.specs.declared.MarkAnswer.{MarkAnswer}
-use Rattle.ffi.specs.Over.{keyOver}
+use Rattle.ffi.specs.Over.{keyOver, storeOver}
 use Rattle.ffi.proofs.ring_open.Reads as open-c
 use Rattle.ffi.proofs.ring_pack.Reads as pack-c
 use Rattle.ffi.proofs.ring_point.Reads as point-c
@@ -36,6 +40,7 @@ use Rattle.ffi.proofs.ring_partners.Reads as partners-c
 use Rattle.ffi.proofs.ring_nearest.Reads as nearest-c
 use Rattle.ffi.proofs.ring_near_filter.Reads as near-filter-c
 use Rattle.ffi.proofs.ring_book_begin.Reads as begin-c
+use Rattle.ffi.proofs.ring_depot_begin.Reads as depot-begin-c
 use Rattle.ffi.proofs.ring_marker.Reads as mark-c
 use Rattle.demands.specs.Promises.{Place, slice}
 
@@ -141,6 +146,14 @@ pub record BeginC (source : Source) (r : BookAnswer) : Type 0 where
 -- `ring_marker(ax, ay, bx, by)` answers r [C1, D8]
 pub record MarkC (ax ay bx by : ℤ) (r : MarkAnswer) : Type 0 where
   pub promised : mark-c.Post tt (ax, (ay, (bx, (by, tt)))) r (ax, (ay, (bx, (by, tt))))
+
+-- `ring_depot_begin()` answers d [C1, D8]
+pub record DepotBeginC (d : Depot) : Type 0 where
+  pub promised : depot-begin-c.Post tt tt d tt
+
+-- `ring_depot_take(d, slots, form)` answers r, and the slots are `slots′` at its exit. `ring_forms` promises what `depot::forms` does: `FormsAnswers` of specs/Promises [C1, D8]
+abbrev pub StoreC : Depot → List Form → Form → StoreAnswer → List Form → Type 0
+StoreC d slots form r slots′ = (r ≡ storeOver (stored d slots form)) × (slots′ ≡ storedSlots d slots form)
 
 -- `ring_book_next_key(b, slots)` answers r. `ring_book_take` promises what `Book::take` does, `ring_leaf_run` what `runs::leaf_run` does: `TakeAnswers` and `RunAnswers` of specs/Promises
 -- [C1, D8]

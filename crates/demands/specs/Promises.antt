@@ -3,7 +3,7 @@
 --
 -- `Post` of a call is its `ensures`, read as a plain claim: of the lifetimes κs of what is lent, the arguments, the answer, and the arguments at exit.
 -- Words and slots that are lent are lists that stand at some place of memory, and no promise depends on the place.
--- The calls over slices of records (`Book::next_key`, `Book::take`, `runs::leaf_run`) and over views (`view::open` and its readers) have no such reading.
+-- The calls over slices of records (`Book::next_key`, `Book::take`, `depot::forms`, `Depot::take`, `runs::leaf_run`) and over views (`view::open` and its readers) have no such reading.
 -- Theirs is stated here, and proofs/Says shows that it is their `ensures`, word for word.
 use mathlib.Core.Path.{_≡_}
 use mathlib.Core.Bool.{Bool, true, false}
@@ -40,6 +40,14 @@ use Rattle.book.specs.declared.Asked.{Asked}
 use Rattle.book.specs.declared.Taken.{Taken}
 use Rattle.book.specs.declared.TakenArray.{TakenArray}
 use Rattle.book.specs.Rules.{asked, taken, takenSlots}
+use Rattle.depot.specs.declared.Form.{Form}
+use Rattle.depot.specs.declared.Made.{Made}
+use Rattle.depot.specs.declared.MadeArray.{MadeArray}
+use Rattle.depot.specs.declared.Depot.{Depot}
+use Rattle.depot.specs.declared.Stored.{Stored}
+use Rattle.depot.specs.declared.StoredArray.{StoredArray}
+use Rattle.depot.specs.Forms.{formsAnswer, formsOut}
+use Rattle.depot.specs.Depot.{stored, storedSlots}
 use Rattle.marker.specs.declared.Marked.{Marked}
 use Rattle.shortest.specs.declared.Shortlist.{Shortlist}
 use Rattle.shortest.specs.Answer.{shortAnswer, shortBits}
@@ -64,6 +72,9 @@ use Rattle.marker.proofs.mark.Reads as mark
 use Rattle.book.proofs.Book.begin.Reads as begin
 use Rattle.book.proofs.take_array.Reads as take-array
 use Rattle.book.proofs.next_array.Reads as next-array
+use Rattle.depot.proofs.Depot.begin.Reads as depot-begin
+use Rattle.depot.proofs.forms_array.Reads as forms-array
+use Rattle.depot.proofs.take_array.Reads as store-array
 use Rattle.runs.proofs.run_array.Reads as run-array
 use Rattle.view.proofs.open_head.Reads as open-head
 use Rattle.view.proofs.point_opened.Reads as point-opened
@@ -222,6 +233,28 @@ pub record NextArrayAnswers (slots : List Pair) (len : ℕ) (b : Book) (r : Aske
 -- `book::take_array(slots, len, b, page)` answers r
 pub record TakeArrayAnswers (slots : List Pair) (len : ℕ) (b : Book) (page : Page) (r : TakenArray) : Type 0 where
   pub promised : take-array.Post tt (slots, (len, (b, (page, tt)))) r (slots, (len, (b, (page, tt))))
+
+-- ---- the depot
+
+-- `depot::forms(b, slots, out)` answers r, and the places for forms are `out′` at its exit [D8]
+abbrev pub FormsAnswers : Book → List Pair → List Form → Made → List Form → Type 0
+FormsAnswers b slots out r out′ = (r ≡ formsAnswer b slots out) × (out′ ≡ formsOut b slots out)
+
+-- `Depot::begin()` answers d [D8]
+pub record DepotBegins (d : Depot) : Type 0 where
+  pub promised : depot-begin.Post tt tt d tt
+
+-- `d.take(slots, form)` answers r, and the slots are `slots′` at its exit [D8]
+abbrev pub StoreAnswers : Depot → List Form → Form → Stored → List Form → Type 0
+StoreAnswers d slots form r slots′ = (r ≡ stored d slots form) × (slots′ ≡ storedSlots d slots form)
+
+-- `depot::forms_array(slots, len, out, room, b)` answers r
+pub record FormsArrayAnswers (slots : List Pair) (len : ℕ) (out : List Form) (room : ℕ) (b : Book) (r : MadeArray) : Type 0 where
+  pub promised : forms-array.Post tt (slots, (len, (out, (room, (b, tt))))) r (slots, (len, (out, (room, (b, tt)))))
+
+-- `depot::take_array(slots, len, d, form)` answers r
+pub record StoreArrayAnswers (slots : List Form) (len : ℕ) (d : Depot) (form : Form) (r : StoredArray) : Type 0 where
+  pub promised : store-array.Post tt (slots, (len, (d, (form, tt)))) r (slots, (len, (d, (form, tt))))
 
 -- ---- one run per leaf
 

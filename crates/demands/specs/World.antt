@@ -91,7 +91,7 @@ module _ (w : Editions) where
 
   -- A book and its slots, as they can come to stand: begun; handed pages that were answered, in any order, any of them any number of times, those that it refuses too;
   -- lent another slice that holds the same pairs. Each step starts from what the step before left: "nobody else writes the book or hands in an older state of it".
-  -- [K9, D4, D5, D9]
+  -- [K9, I8, D4, D5, D9]
   pub data History : Book → List Pair → Type 0 where
     began : (s : Source) (b : Book) (slots : List Pair) → BeginAnswers s (begun.Open b) → History b slots
     took : {b : Book} {slots : List Pair} (g : Page) (r : Taken) (slots′ : List Pair) → History b slots → Answered g → TakeAnswers b slots g r slots′ → History (r .book) slots′

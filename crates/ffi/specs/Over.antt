@@ -1,8 +1,8 @@
 -- What crosses to C: of each answer that is an enum, the struct of numbers, its number of refusal first; and of a check, with what the sheet says of itself.
 -- "Every refusal gives only its number [..]. An array or number in a refused answer is all zero."
--- The answers of filter walk, page, of the question for partners, of leaf runs, of the shortest, of the nearest and of take are structs of numbers already, and
+-- The answers of filter walk, page, of the question for partners, of leaf runs, of the shortest, of the nearest, of making forms and of the book's take are structs of numbers already, and
 -- cross as they are.
-use mathlib.Core.Bool.{false}
+use mathlib.Core.Bool.{true, false}
 use mathlib.Core.List.{List}
 use Prim.Native.Nat.{ℕ}
 use lib.IntN.{ℤ, pos, _+ℤ_}
@@ -26,6 +26,10 @@ use Rattle.book.specs.declared.Begun.the-variants as begun
 use Rattle.book.specs.declared.Next.{Next}
 use Rattle.book.specs.declared.Next.the-variants as next
 use Rattle.book.specs.declared.Asked.{Asked}
+use Rattle.depot.specs.declared.Depot.{Depot}
+use Rattle.depot.specs.declared.Outcome.{Outcome}
+use Rattle.depot.specs.declared.Outcome.the-variants as outcome
+use Rattle.depot.specs.declared.Stored.{Stored}
 use Rattle.marker.specs.Half.{halfOf}
 use Rattle.marker.specs.Mark.{markNo}
 use Rattle.marker.specs.declared.Marked.{Marked}
@@ -35,6 +39,7 @@ use Rattle.ffi.specs.declared.PointAnswer.{PointAnswer}
 use Rattle.ffi.specs.declared.WalkAnswer.{WalkAnswer}
 use Rattle.ffi.specs.declared.BookAnswer.{BookAnswer}
 use Rattle.ffi.specs.declared.KeyAnswer.{KeyAnswer}
+use Rattle.ffi.specs.declared.StoreAnswer.{StoreAnswer}
 use Rattle.ffi.specs.declared.MarkAnswer.{MarkAnswer}
 
 -- a check of words: 0 with the sheet's length, counts, edition and form, or the number and zeros
@@ -74,6 +79,16 @@ nextOver (next.Refused n) b = record { number = n; key = start; book = b }
 -- [C1, C2]
 abbrev pub keyOver : Asked → KeyAnswer
 keyOver a = nextOver (a .next) (a .book)
+
+-- the depot: 0 with `issued` for a new key, 0 without for one that is known, or the number; with each the depot from now on
+abbrev pub outcomeOver : Outcome → Depot → StoreAnswer
+outcomeOver outcome.Issued d = record { number = 0; issued = true; depot = d }
+outcomeOver outcome.Known d = record { number = 0; issued = false; depot = d }
+outcomeOver (outcome.Refused n) d = record { number = n; issued = false; depot = d }
+
+-- [C1, C2]
+abbrev pub storeOver : Stored → StoreAnswer
+storeOver a = outcomeOver (a .outcome) (a .depot)
 
 -- the marker: 0 and its two numbers, or the number and positive zeros
 abbrev pub zeroFloat : Float

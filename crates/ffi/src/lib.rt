@@ -2,6 +2,9 @@
 // Every input is answered. A refused answer is its number and zeros, and what was lent is as it was. include/ring.h is the same for a C compiler.
 use book::Book;
 use book::Taken;
+use depot::Depot;
+use depot::Form;
+use depot::Made;
 use list::Key;
 use list::Page;
 use list::Pair;
@@ -23,9 +26,11 @@ ghost use Rattle.ring.specs.Own.{ownAnswer, ownBits};
 ghost use Rattle.shortest.specs.Answer.{shortAnswer, shortBits};
 ghost use Rattle.ring.specs.Partners.{partnersAnswer, partnersBits};
 ghost use Rattle.book.specs.Rules.{begunFor, asked, taken, takenSlots};
+ghost use Rattle.depot.specs.Forms.{formsAnswer, formsOut};
+ghost use Rattle.depot.specs.Depot.{begunDepot, stored, storedSlots};
 ghost use Rattle.runs.specs.Run.{runAnswer, runSlots, runBits};
 ghost use Rattle.nearest.specs.Nearest.{nearestNo, nearFilterNo, nearestAnswer, nearFiltered, nearFilteredBits, waitedBy};
-ghost use Rattle.ffi.specs.Over.{headOver, pointOver, hitOver, walkOver, bookOver, nextOver, keyOver, markOver, markedAt};
+ghost use Rattle.ffi.specs.Over.{headOver, pointOver, hitOver, walkOver, bookOver, nextOver, keyOver, outcomeOver, storeOver, markOver, markedAt};
 
 // What a check of words finds: the sheet's length, points, nodes, edition and form, or zeros.
 #[repr(C)]
@@ -72,6 +77,14 @@ pub struct KeyAnswer {
     pub number: u32,
     pub key: Key,
     pub book: Book,
+}
+
+// The depot's answer to a form: whether it was new, and the depot from now on. 0 and `issued` where the key is new, 0 alone where it is known.
+#[repr(C)]
+pub struct StoreAnswer {
+    pub number: u32,
+    pub issued: bool,
+    pub depot: Depot,
 }
 
 // The marker's answer: its two numbers, or zeros.
@@ -198,6 +211,36 @@ fn of_asked(a: book::Asked) -> KeyAnswer
     let v = a.next;
     let b = a.book;
     of_next(v, b)
+}
+
+fn of_outcome(v: depot::Outcome, d: Depot) -> StoreAnswer
+    ensures { λ r. ⌜ r ≡ outcomeOver v d ⌝ }
+{
+    match v {
+        depot::Outcome::Issued => StoreAnswer {
+            number: 0,
+            issued: true,
+            depot: d,
+        },
+        depot::Outcome::Known => StoreAnswer {
+            number: 0,
+            issued: false,
+            depot: d,
+        },
+        depot::Outcome::Refused(n) => StoreAnswer {
+            number: n,
+            issued: false,
+            depot: d,
+        },
+    }
+}
+
+fn of_stored(a: depot::Stored) -> StoreAnswer
+    ensures { λ r. ⌜ r ≡ storeOver a ⌝ }
+{
+    let v = a.outcome;
+    let d = a.depot;
+    of_outcome(v, d)
 }
 
 fn of_marked(v: marker::Marked) -> MarkAnswer
@@ -386,6 +429,30 @@ pub extern "C" fn ring_book_take(b: Book, slots: &mut [Pair], page: Page) -> Tak
     ensures { λ r. ⌜ (r ≡ taken b (now (slots .entry)) page) × (now (slots .exit) ≡ takenSlots b (now (slots .entry)) page) ⌝ }
 {
     b.take(slots, page)
+}
+
+// One order form for each held pair of a book, in the first of the lent places: 0, or 11, 16 with the places as they were.
+#[no_mangle]
+pub extern "C" fn ring_forms(b: Book, slots: &[Pair], out: &mut [Form]) -> Made
+    ensures { λ r. ⌜ (r ≡ formsAnswer b (now (slots .entry)) (now (out .entry))) × (now (out .exit) ≡ formsOut b (now (slots .entry)) (now (out .entry))) ⌝ }
+{
+    depot::forms(b, slots, out)
+}
+
+// A depot that holds nothing.
+#[no_mangle]
+pub extern "C" fn ring_depot_begin() -> Depot
+    ensures { λ r. ⌜ r ≡ begunDepot ⌝ }
+{
+    Depot::begin()
+}
+
+// A form handed to the depot: 0, issued where its key is new and known where it is held, or 11, 15, 16; the slots are as they were where it is not issued.
+#[no_mangle]
+pub extern "C" fn ring_depot_take(d: Depot, slots: &mut [Form], form: Form) -> StoreAnswer
+    ensures { λ r. ⌜ (r ≡ storeOver (stored d (now (slots .entry)) form)) × (now (slots .exit) ≡ storedSlots d (now (slots .entry)) form) ⌝ }
+{
+    of_stored(d.take(slots, form))
 }
 
 // The ring pairs of the chambers of a leaf of Q, by place, then p id, in the lent slots: 0, or 1 to 8 of P, of Q, 19, 24, 16 with all that is lent as it was.

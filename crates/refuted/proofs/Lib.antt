@@ -7,6 +7,7 @@
 --     Walk        the kept set and the two walks
 --     Pages       counts of nodes opened, numbers of refusal, a chamber's partners
 --     Book        begin, the next key, take
+--     Depot       the depot's forms: their key, taking and making them
 --     Runs        one run per leaf
 --     Nearest     nearest first: the order, the filter, the lent numbers
 --     Shortest    the shortest circles
@@ -19,6 +20,7 @@ pub mod Sheet
 pub mod Walk
 pub mod Pages
 pub mod Book
+pub mod Depot
 pub mod Runs
 pub mod Nearest
 pub mod Shortest
