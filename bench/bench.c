@@ -1,6 +1,6 @@
 /* The proved calls and their plain C twins, on the same sheets in one process. Prints a line for each measure: its name, what was measured on, how long each
-   took in nanoseconds (the best of several runs), and whether their answers agree. With an argument each is done once: the answers are compared, and the times
-   say nothing. */
+   took in nanoseconds (the best of several runs), and whether their answers agree. With `streets` only the list of the street grid is measured, against the
+   circle's on the same sheets; with another argument each call is done once: the answers are compared, and the times say nothing. */
 #include "../include/ring.h"
 #include "../tests/c/province.h"
 #include "twins.h"
@@ -100,13 +100,13 @@ static unsigned long mine_opened, theirs_opened;
 /* lent to both sides: for pages the first RING_WORDS(MOST), for runs all */
 static uint64_t bits[16 * RING_WORDS(MOST)];
 
-static unsigned long list_proved(const packed *p, const packed *q, unsigned long size)
+static unsigned long list_proved(const packed *p, const packed *q, unsigned long size, int grid)
 {
     RingKey key = {0, 0};
     unsigned long count = 0;
     mine_opened = 0;
     for (;;) {
-        RingPaged r = ring_page(p->words, p->len, q->words, q->len, (RingRequest){key, size, 0, 0}, bits, RING_WORDS(MOST));
+        RingPaged r = ring_page(p->words, p->len, q->words, q->len, (RingRequest){key, size, 0, grid}, bits, RING_WORDS(MOST));
         if (r.number) return ~0ul;
         mine_opened += r.opened;
         for (unsigned long k = 0; k < r.page.count; k++) { mine[count].q = r.page.pairs[k].q; mine[count].p = r.page.pairs[k].p; mine[count].size = r.page.pairs[k].size; count++; }
@@ -141,10 +141,10 @@ static unsigned long listing(const char *kind, int n, const packed *p, const pac
     long proved, twin, brute;
     unsigned long a = 0, b = 0, c = 0;
     int runs = n >= 1000 ? 5 : 20;
-    BEST(runs, 1, proved, a = list_proved(p, q, 16));
+    BEST(runs, 1, proved, a = list_proved(p, q, 16, 0));
     BEST(runs, 1, twin, b = list_twin(p, q, 16));
     tell("list", kind, n, proved, twin, a == b && mine_opened == theirs_opened && same(mine, theirs, a));
-    BEST(n >= 1000 ? 3 : runs, 1, brute, c = twin_brute(p->words, p->len, q->words, q->len, brutes, PAIRS));
+    BEST(n >= 1000 ? 3 : runs, 1, brute, c = twin_brute(p->words, p->len, q->words, q->len, 0, brutes, PAIRS));
     tell("list-brute", kind, n, proved, brute, a == c && same(mine, brutes, a));
     RingKey key = {a ? mine[a / 2].q : 0, a ? mine[a / 2].p : 0};
     twin_key asked = {key.q, key.p};
@@ -155,6 +155,22 @@ static unsigned long listing(const char *kind, int n, const packed *p, const pac
     for (unsigned long k = 0; k < t.count && agree; k++) agree = r.page.pairs[k].q == t.pairs[k].q && r.page.pairs[k].p == t.pairs[k].p && r.page.pairs[k].size == t.pairs[k].size;
     tell("page", kind, n, proved, twin, agree);
     return a;
+}
+
+/* The list of the street grid against the circle's on the same sheets: the time of each, then the nodes opened by each. */
+static void streets(const char *kind, int n, const packed *p, const packed *q)
+{
+    long grid, circle;
+    unsigned long a = 0, b;
+    int runs = n >= 1000 ? 3 : 10;
+    BEST(runs, 1, circle, a = list_proved(p, q, 16, 0));
+    unsigned long opened = mine_opened;
+    int agree = a != ~0ul;
+    BEST(runs, 1, grid, a = list_proved(p, q, 16, 1));
+    b = twin_brute(p->words, p->len, q->words, q->len, 1, brutes, PAIRS);
+    agree &= a == b && same(mine, brutes, a);
+    tell("streets", kind, n, grid, circle, agree);
+    tell("streets-nodes", kind, n, (long)mine_opened, (long)opened, agree);
 }
 
 /* The runs of all leaves: Q's nodes from 0 on, as long as they are leaves. */
@@ -194,8 +210,8 @@ typedef void (*maker)(int);
 
 int main(int count, char **arguments)
 {
-    (void)arguments;
-    once = count > 1;
+    int only = count > 1 && arguments[1][0] == 's';
+    once = count > 1 && !only;
     static const char *kinds[] = {"uniform", "clustered", "grid", "wide"};
     static const maker makers[] = {uniform, clustered, grid, wide};
     static const unsigned forms[] = {1, 1, 1, 2};
@@ -210,6 +226,8 @@ int main(int count, char **arguments)
                 province_tile(points, order, (size_t)n);
                 packing(side ? "packing-q" : "packing-p", kinds[k], n, side ? &q : &p, forms[k], 7 + 2 * (unsigned)side);
             }
+            if ((only || once) && forms[k] == 1) streets(kinds[k], n, &p, &q);
+            if (only) continue;
             opening(kinds[k], n, &p);
             unsigned long listed = listing(kinds[k], n, &p, &q);
             running(kinds[k], n, &p, &q, listed);

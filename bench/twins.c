@@ -406,21 +406,39 @@ twin_run_answer twin_run(const twin_word *pw, twin_size plen, const twin_word *q
     return (words <= 16 ? run_first : run_second)(&p, &q, v, slots, room, bits, words, from);
 }
 
-twin_size twin_brute(const twin_word *pw, twin_size plen, const twin_word *qw, twin_size qlen, twin_pair *out, twin_size room)
+/* the same along the streets: their distances, and no record at an end's place blocks */
+static i64 streets(spot a, spot b) { i64 x = a.x - b.x, y = a.y - b.y; return (x < 0 ? -x : x) + (y < 0 ? -y : y); }
+
+static int blocks_streets(spot a, spot b, spot z)
 {
-    sheet p = sheet_of(pw, plen), q = sheet_of(qw, qlen);
+    spot twice = {2 * z.x, 2 * z.y}, both = {a.x + b.x, a.y + b.y};
+    return streets(twice, both) <= streets(a, b) && !same(z, a) && !same(z, b);
+}
+
+static u64 size_circle(spot a, spot b) { return (u64)dot(a, a, b); }
+static u64 size_streets(spot a, spot b) { return (u64)(streets(a, b) * streets(a, b)); }
+
+static inline __attribute__((always_inline)) twin_size brute(const sheet *p, const sheet *q, twin_pair *out, twin_size room,
+                                                             int (*blocked)(spot, spot, spot), u64 (*size)(spot, spot))
+{
     twin_size count = 0;
-    for (twin_size j = 0; j < q.n; j++) {
-        spot a = spot_at(&q, j);
-        for (twin_size i = 0; i < p.n; i++) {
-            spot b = spot_at(&p, i);
+    for (twin_size j = 0; j < q->n; j++) {
+        spot a = spot_at(q, j);
+        for (twin_size i = 0; i < p->n; i++) {
+            spot b = spot_at(p, i);
             int hit = 0;
-            for (twin_size k = 0; k < q.n && !hit; k++) hit = blocks(a, b, spot_at(&q, k));
-            for (twin_size k = 0; k < p.n && !hit; k++) hit = blocks(a, b, spot_at(&p, k));
+            for (twin_size k = 0; k < q->n && !hit; k++) hit = blocked(a, b, spot_at(q, k));
+            for (twin_size k = 0; k < p->n && !hit; k++) hit = blocked(a, b, spot_at(p, k));
             if (hit) continue;
-            if (count < room) { out[count].q = (unsigned)q.w[3 * j]; out[count].p = (unsigned)p.w[3 * i]; out[count].size = (u64)dot(a, a, b); }
+            if (count < room) { out[count].q = (unsigned)q->w[3 * j]; out[count].p = (unsigned)p->w[3 * i]; out[count].size = size(a, b); }
             count++;
         }
     }
     return count;
+}
+
+twin_size twin_brute(const twin_word *pw, twin_size plen, const twin_word *qw, twin_size qlen, int grid, twin_pair *out, twin_size room)
+{
+    sheet p = sheet_of(pw, plen), q = sheet_of(qw, qlen);
+    return grid ? brute(&p, &q, out, room, blocks_streets, size_streets) : brute(&p, &q, out, room, blocks, size_circle);
 }

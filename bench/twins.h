@@ -17,6 +17,6 @@ twin_page_answer twin_page(const twin_word *p, twin_size plen, const twin_word *
 /* Checks both sheets, then gives the pairs of the chambers of leaf v of Q, by place, then p id. The words lent, 16 times as many, are zeros after it, and as they
    were where the pairs outnumber the slots. */
 twin_run_answer twin_run(const twin_word *p, twin_size plen, const twin_word *q, twin_size qlen, twin_size v, twin_pair *slots, twin_size room, twin_bits *bits, twin_size len);
-/* Every pair of the two sets by three loops, each stopped at the first blocker; the pairs into `out`, at most `room`. */
-twin_size twin_brute(const twin_word *p, twin_size plen, const twin_word *q, twin_size qlen, twin_pair *out, twin_size room);
+/* Every pair of the two sets by three loops, each stopped at the first blocker, of the circle or of the street grid; the pairs into `out`, at most `room`. */
+twin_size twin_brute(const twin_word *p, twin_size plen, const twin_word *q, twin_size qlen, int grid, twin_pair *out, twin_size room);
 #endif

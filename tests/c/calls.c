@@ -985,7 +985,7 @@ static void make_forms(void) {
 static RingForm form_of(const RingSource *s, const RingPair *v) {
     RingForm f;
     memset(&f, 0, sizeof f);
-    f.p_edition = s->p_edition, f.q_edition = s->q_edition, f.own = s->terms.own, f.contractor = 2, f.grid = false, f.q = v->q, f.p = v->p, f.size = v->size;
+    f.p_edition = s->p_edition, f.q_edition = s->q_edition, f.own = s->terms.own, f.contractor = 2, f.grid = s->terms.grid, f.q = v->q, f.p = v->p, f.size = v->size;
     return f;
 }
 
