@@ -1,8 +1,11 @@
-"""The reading held to the rules' own examples, and to itself: walks against brute force, pages against the list, a book that loses pages."""
+"""The reading held to the rules' own examples, and to itself: walks against brute force, pages against the list, a book that loses pages, two contractors of
+whom none sees the other's ids."""
 import types
 
 import reading
 import towns
+import trees
+import wrong_readings
 from chance import Chance
 
 P = [1, 0, 0, 2, 10, 0, 0, 1, 0, 1, 0, 0, 2, 0, 0, 10, 0, 17, 7, 2, 1, 7, 1]
@@ -105,6 +108,96 @@ def street_examples():
     assert reading.own_call(P[:-1] + [2], (reading.ID + 1, 0), 0, None, [], True)[0] == 29 and reading.own_call(P[:-1] + [3], (0, 0), 1, grid=True)[0] == 2
 
 
+def contractors_examples():
+    """Request 11: the listing's chambers, 5 of contractor 0 and 6 of contractor 1."""
+    whole = [(5, 1, 16), (5, 2, 36), (6, 2, 37)]
+    for contractor, owners, pairs, opened in ((0, (0, 1), whole[:2], 5), (1, (0, 1), whole[2:], 3), (0, (1, 1), [], 0), (2, (), whole, 8)):
+        number, page, count, words = reading.page_call(P, Q, (0, 0), 16, words=[7, 7], contractor=contractor, owners=owners)
+        assert (number, page.pairs, page.end, page.contractor, count, words) == (0, pairs, True, contractor, opened, [0, 7])
+    # full at the last of its own: the other's chamber follows, and the end mark is set; from a key of the other's chamber
+    assert reading.page_call(P, Q, (0, 0), 2, contractor=0, owners=(0, 1))[1].end and not reading.page_call(P, Q, (0, 0), 2)[1].end
+    assert reading.page_call(P, Q, (5, 1), 2, contractor=1, owners=(0, 1))[1].pairs == whole[2:]
+    # 27, 26, 29, 9: each with all that come after it
+    worst = (reading.ID + 1, 0), 0, reading.THRESHOLD + 1, None, [], True
+    wide = P[:-1] + [2]
+    for p, contractor, owners, number in ((wide[:-1] + [3], 3, (2,), 2), (wide, 3, (2,), 27), (wide, 0, (0,), 26), (wide, 0, (0, 1, 1), 26), (wide, 1, (0, 2), 26),
+                                          (wide, 2, (0, 1), 26), (wide, 0, (0, 1), 29), (P, 0, (0, 1), 9)):
+        assert reading.page_call(p, Q, *worst, contractor, owners)[0] == number
+    empty = reading.pack([], [], 3)
+    assert reading.page_call(P, empty, (0, 0), 16, contractor=0)[1].end and reading.page_call(P, empty, (0, 0), 16, contractor=0, owners=(0,))[0] == 26
+    assert [reading.begin((3, 3), t, own, False, contractor)[0] for t, own, contractor in ((0, False, 0), (0, False, 3), (60001, False, 3), (0, True, 2), (0, True, 1), (1, True, 1))] == [
+        0, 27, 21, 0, 27, 21]
+
+
+def contractors_divide(rng, p_words, q_words, grid):
+    """Both contractors' lists together are the undivided one, and no pair is in both; what their pages show when they are followed; so for each t."""
+    p, q = reading.Sheet(p_words), reading.Sheet(q_words)
+    owners = tuple(rng.randint(0, 1) for _ in range(q.n))
+    whole = reading.ring_list(p.points, q.points, grid)
+    for t in (0, 1, 2):
+        lists = []
+        for contractor in (0, 1):
+            key, found, end = (0, 0), [], False
+            while not end:
+                _, page, _, _ = reading.page_call(p_words, q_words, key, rng.randint(1, 16), t, whole, grid=grid, contractor=contractor, owners=owners)
+                assert page.contractor == contractor and (page.pairs or page.end)
+                found, end = found + page.pairs, page.end
+                key = reading.key_of(found[-1]) if found else key
+            lists.append(found)
+        assert sorted(lists[0] + lists[1]) == reading.list_of(whole, t) and not set(lists[0]) & set(lists[1])
+        bytes_by_id = {point[0]: byte for point, byte in zip(q.points, owners)}
+        assert all(bytes_by_id[pair[0]] == contractor for contractor in (0, 1) for pair in lists[contractor])
+
+
+def renamed(rng, q, owners, contractor):
+    """New ids for the chambers that are not the contractor's, each record keeping its place and its byte, packed anew in any order: the sheet and its bytes."""
+    own = {point[0] for point, byte in zip(q.points, owners) if byte == contractor}
+    most = rng.choice([2 * q.n + 2, 60, reading.ID])
+    free = [number for number in trees.ids(rng, min(most, 3 * q.n), most) if number not in own]
+    rng.shuffle(free)
+    rows = sorted((point if byte == contractor else (free.pop(),) + point[1:], byte) for point, byte in zip(q.points, owners))
+    points = [point for point, _ in rows]
+    return trees.sheet(points, trees.shuffled(rng, q.n), towns.tree(rng, q.n)[1], q.edition, q.form), tuple(byte for _, byte in rows)
+
+
+def handed(rules, p, q, pairs, contractor, owners, key, size, t, grid):
+    """What a contractor is handed for a request: all but the nodes opened."""
+    number, page, _, words = rules.page_call(p, q, key, size, t, pairs, [7, 7], grid, contractor, owners)
+    return number, words, page and (page.editions, page.t, page.own, page.grid, page.contractor, page.key, page.pairs, page.end)
+
+
+def unlike(rules):
+    """The first request to which a contractor is handed one thing in one run and another in a second, of which only the ids of the other's chambers differ, and with
+    them positions, trees and bytes: for every key that is an id of either run, one more, or at an end of the range. None where there is no such request."""
+    rng = Chance("blind")
+    for k in range(24):
+        places, grid, contractor = towns.STREET_PLACES[k % len(towns.STREET_PLACES)], k % 2 > 0, rng.randint(0, 1)
+        p, again = [towns.sheet(rng, places, rng.randint(1, 4), 5)[1]] * 2
+        q = towns.sheet(rng, places, rng.randint(2, 5), 6)[1]
+        houses, chambers = reading.Sheet(p), reading.Sheet(q)
+        owners = tuple(rng.choice([0, 1, 1 - contractor]) for _ in range(chambers.n))
+        # bytes that are refused are refused in both runs
+        owners = owners[:-1] + (2,) if k % 12 == 11 else owners
+        other, others = renamed(rng, chambers, owners, contractor)
+        if k % 3 == 0:
+            again = trees.sheet(houses.points, trees.shuffled(rng, houses.n), towns.tree(rng, houses.n)[1], 5)
+        lists = [rules.ring_list(houses.points, reading.Sheet(words).points, grid) for words in (q, other)]
+        ids = {point[0] + more for words in (q, other) for point in reading.Sheet(words).points for more in (0, 1)}
+        for key_q in sorted(ids | {0, reading.ID, reading.ID + 1}):
+            for key_p in [0, reading.ID] + [point[0] for point in houses.points]:
+                request = (key_q, key_p), rng.choice([1, 2, 16]), rng.choice([0, 0, 1, 2]), grid
+                if handed(rules, p, q, lists[0], contractor, owners, *request) != handed(rules, again, other, lists[1], contractor, others, *request):
+                    return k, request
+    return None
+
+
+def contractors_are_blind():
+    """"What one contractor is handed may not depend on the ids of the other's chambers": it does not, and it does in each reading of which that is said."""
+    assert unlike(reading) is None, unlike(reading)
+    for old, new in wrong_readings.UNBLIND:
+        assert unlike(wrong_readings.misread(old, new)), "the blind check lets through the reading `%s`" % new
+
+
 def streets_turned(rng):
     """Along the streets x blocks where neither of its turned coordinates, x + y and x - y, is farther from the middle than half the distance of the two."""
     for _ in range(4000):
@@ -171,18 +264,21 @@ def runs_are_the_list(p_words, q_words):
 
 
 def book_of_lost_pages(rng, pairs, t, grid):
-    """Pages lost, repeated and late, and of the other profile: the book holds the first so many pairs, and all of them once it is closed."""
-    editions = (3, 4)
-    _, book = reading.begin(editions, t, False, grid)
+    """Pages lost, repeated and late, of the other profile and of another contractor, who has another list: the book holds the first so many pairs, and all of them
+    once it is closed."""
+    editions, contractor = (3, 4), rng.randint(0, 2)
+    _, book = reading.begin(editions, t, False, grid, contractor)
     full, pairs = pairs, reading.list_of(pairs, t)
     slots, made = [(9, 9, 9)] * len(pairs), []
     for _ in range(400):
         key = reading.next_key(book, slots)[1] if rng.random() < 0.7 else reading.key_of(rng.choice(full + [reading.UNUSED]))
-        made.append(reading.page_of(full, editions, key, rng.randint(1, 16), rng.choice([t, t, t, t, t + 1]), False, grid != (rng.random() < 0.1)))
+        whose = contractor if rng.random() < 0.9 else (contractor + 1) % 3
+        listed = full if whose == contractor else full[1::2]
+        made.append(reading.page_of(listed, editions, key, rng.randint(1, 16), rng.choice([t, t, t, t, t + 1]), False, grid != (rng.random() < 0.1), whose))
         page = rng.choice(made[-3:])
         before = (book.held, book.closed, list(slots))
         number = reading.take(book, slots, page)
-        assert number in (0, 12, 30, 31, 14) and (number == 0 or before == (book.held, book.closed, slots))
+        assert number in (0, 12, 28, 30, 31, 14) and (number == 0 or before == (book.held, book.closed, slots))
         assert slots[:book.held] == pairs[:book.held] and slots[book.held:] == [(9, 9, 9)] * (len(pairs) - book.held)
         assert not book.closed or book.held == len(pairs)
     assert book.closed
@@ -196,23 +292,24 @@ def taken(rules, pairs, count, unused, grid=False):
     return number, book.held, slots[:2]
 
 
-def begun(rules, editions, t, own=False, grid=False):
-    """The number of begin, and the profile of the book."""
-    number, book = rules.begin(editions, t, own, grid)
-    return number, book.grid if book else None
+def begun(rules, editions, t, own=False, grid=False, contractor=2):
+    """The number of begin, and the profile and the contractor of the book."""
+    number, book = rules.begin(editions, t, own, grid, contractor)
+    return number, (book.grid, book.contractor) if book else None
 
 
-def taken_of(rules, editions, t, key, own=False, grid=False, of_grid=False):
-    """The number by which an empty book of editions (3, 4) and t 2, of either profile, takes a page of others."""
-    _, book = rules.begin((3, 4), 2, False, of_grid)
-    return rules.take(book, [(9, 9, 9)] * 3, rules.Page(editions, key, [(5, 1, 4)], True, t, own, grid))
+def taken_of(rules, editions, t, key, own=False, grid=False, of_grid=False, contractor=2, of_contractor=2, closed=False):
+    """The number by which an empty book of editions (3, 4) and t 2, of either profile and of a contractor, open or closed, takes a page of others."""
+    _, book = rules.begin((3, 4), 2, False, of_grid, of_contractor)
+    book.closed = closed
+    return rules.take(book, [(9, 9, 9)] * 3, rules.Page(editions, key, [(5, 1, 4)], True, t, own, grid, contractor))
 
 
-def taken_alone(rules, editions, own, closed, grid=False, of_grid=False):
+def taken_alone(rules, editions, own, closed, grid=False, of_grid=False, contractor=2):
     """The number by which a book of a self join, open or closed, takes a page."""
     _, book = rules.begin((3, 3), 0, True, of_grid)
     book.closed = closed
-    return rules.take(book, [(9, 9, 9)] * 3, rules.Page(editions, (0, 0), [(1, 5, 4)], True, 0, own, grid))
+    return rules.take(book, [(9, 9, 9)] * 3, rules.Page(editions, (0, 0), [(1, 5, 4)], True, 0, own, grid, contractor))
 
 
 PROFILES = [(grid, of_grid) for grid in (False, True) for of_grid in (False, True)]
@@ -240,6 +337,14 @@ def book():
             asked += [(taken_of, editions, t, key, own) + both for editions in ((3, 4), (3, 5)) for t in (2, 3) for key in ((0, 0), (5, 0))]
             asked += [(taken_alone, editions, own, closed) + both for editions in ((3, 3), (3, 4)) for closed in (False, True)]
         asked += [(begun, editions, t, own, True) for editions in ((3, 3), (3, 4), (0, 3)) for t in (0, 1, reading.THRESHOLD, reading.THRESHOLD + 1)]
+    # of contractors: begin, with every other number of it; a page's contractor against the book's, beside every other number
+    for own in (False, True):
+        asked += [(begun, editions, t, own, False, contractor) for editions in ((3, 3), (3, 4), (0, 3)) for t in (0, 1, reading.THRESHOLD + 1) for contractor in (0, 1, 2, 3, 2 ** 32 - 1)]
+        for of in (0, 1, 2):
+            for contractor in (0, 1, 2, 3):
+                asked += [(taken_of, editions, t, key, own) + both + (contractor, of) for both in PROFILES for editions in ((3, 4), (3, 5)) for t in (2, 3) for key in ((0, 0), (5, 0))]
+                asked += [(taken_of, (3, 4), 2, (0, 0), own, False, False, contractor, of, True)]
+        asked += [(taken_alone, (3, 3), own, closed, grid, False, contractor) for closed in (False, True) for grid in (False, True) for contractor in (0, 1)]
     asked = of_streets + asked
     lines = [ask(reading, *given) for ask, *given in asked]
     assert [line[0] for line in lines[:20]] == [0, 0, 0, 0, 15, 15, 15, 0, 15, 0, 0, 0, 0, 0, 15, 15, 15, 0, 15, 0]
@@ -249,6 +354,8 @@ def book():
 def main():
     examples()
     street_examples()
+    contractors_examples()
+    contractors_are_blind()
     book()
     one_corner_is_enough(Chance("corners"))
     streets_turned(Chance("streets"))
@@ -260,6 +367,8 @@ def main():
         nearest_are_listed(p, q)
         self_join_is_its_list(p)
         runs_are_the_list(p, q)
+        if k % 3 == 0:
+            contractors_divide(rng, p, q, k % 2 > 0)
     for count in (0, 1, 16, 40):
         keys = sorted({(rng.randint(1, 9), rng.randint(1, 40)) for _ in range(count)})
         for t in (0, 1, 2, 5, 40):

@@ -2,11 +2,12 @@
 at least t partners; and page requests of self joins, of one sheet each.
 
 A case, in words: its kind, the lengths of P's and Q's sheet, the number of requests, P's words, Q's words, and for each request the number of words lent, the
-key's q id and p id, the size, the threshold and the profile, 0 for the circle and 1 for the street grid; for each question the words lent, a q id and a t; of a
-self join the length of one sheet, 0, the number of requests, its words, and for each request the words lent, the key, the size and the profile. A negative word
-stands for the largest number that a call can be given. A line has the request, its number of refusal, the nodes opened, and the page whole: both editions, the
-threshold, the kind, the profile, the key, the number of pairs, the end mark, sixteen pairs with their sizes; or the question, its number of refusal, the count
-and the yes; then what the words hold that were marked before.
+key's q id and p id, the size, the threshold, the profile, 0 for the circle and 1 for the street grid, the contractor, the number of owner bytes, and these, a
+word each; for each question the words lent, a q id and a t; of a self join the length of one sheet, 0, the number of requests, its words, and for each request
+the words lent, the key, the size and the profile. A negative word stands for the largest number that a call can be given. A line has the request, of the owner
+bytes their number, its number of refusal, the nodes opened, and the page whole: both editions, the threshold, the contractor, the kind, the profile, the key, the
+number of pairs, the end mark, sixteen pairs with their sizes; or the question, its number of refusal, the count and the yes; then what the words hold that were
+marked before.
 """
 import collections
 
@@ -14,7 +15,7 @@ import reading
 import towns
 import trees
 from chance import Chance
-from stored import OWN, PAGES, PARTNERS, WORDS, Asked, by_turns, lent_told, marks, needed
+from stored import OWN, PAGES, PARTNERS, WORDS, Asked, by_turns, lent_told, marks, needed, whose
 
 LARGEST_ID = 2 ** 32 - 1
 LARGEST = 2 ** 64 - 1
@@ -23,15 +24,16 @@ PAST = reading.ID + 1
 
 def fields(rules, lent, number, page, opened, after):
     if number:
-        page = rules.Page((0, 0), (0, 0), [], False)
+        page = rules.Page((0, 0), (0, 0), [], False, contractor=0)
     shown = page.pairs + [rules.UNUSED] * (16 - len(page.pairs))
-    said = [page.t, int(page.own), int(page.grid)]
+    said = [page.t, page.contractor, int(page.own), int(page.grid)]
     words = [number, opened, *page.editions, *said, *page.key, len(page.pairs), int(page.end)] + [word for pair in shown for word in pair]
     return " ".join(map(str, words)) + lent_told(lent, after)
 
 
-def page_line(rules, p, q, key, size, t, grid, listed, lent):
-    return "page %d %d %d %d %d: %s" % (key + (size, t, grid, fields(rules, lent, *rules.page_call(p, q, key, size, t, listed, marks(lent), bool(grid)))))
+def page_line(rules, p, q, key, size, t, grid, contractor, owners, listed, lent):
+    answer = rules.page_call(p, q, key, size, t, listed, marks(lent), bool(grid), contractor, owners)
+    return "page %d %d %d %d %d %d %d: %s" % (key + (size, t, grid, contractor, len(owners), fields(rules, lent, *answer)))
 
 
 def own_line(rules, words, key, size, grid, listed, lent):
@@ -43,29 +45,38 @@ def partners_line(rules, p, q, q_id, t, listed, lent):
     return "partners %d %d: %d %d %d%s" % (q_id, t, number, count, enough, lent_told(lent, after))
 
 
+def answered(line):
+    """Of a line that has a page: its number, the number of pairs, and the end mark."""
+    words = line.split(": ")[1].split()
+    return int(words[0]), int(words[10]), int(words[11])
+
+
 class Pages(Asked):
     name = "pages"
     kind = PAGES
 
     def add(self, label, p, q, requests, listed=None, lent=None):
-        requests = [(n,) + request + (0,) * (5 - len(request)) for n, request in zip(lent or by_turns(p, len(requests)), requests)]
-        asked = []
-        for n, key_q, key_p, size, t, grid in requests:
-            key_q, key_p, t = (LARGEST_ID if word < 0 else word for word in (key_q, key_p, t))
-            asked.append((page_line, p, q, (key_q, key_p), LARGEST if size < 0 else size, t, grid, listed, n))
-        for line in self.put(label, p, q, requests, asked):
-            size, t, grid = map(int, line.split(":")[0].split()[3:6])
-            number, _, _, _, _, _, _, _, _, count, end = map(int, line.split(": ")[1].split()[:11])
-            self.seen[("grid", number) if grid else number] += 1
-            if not number and grid:
-                self.seen["grid end mark" if end else "grid no end mark"] += 1
-                self.seen["grid empty page"] += end and count == 0
-                self.seen["grid page of a t"] += t > 0 and count > 0
-            elif not number:
-                self.seen["end mark" if end else "no end mark"] += 1
-                self.seen["full last page"] += end and count == size
-                self.seen["empty page"] += end and count == 0
-                self.seen["page of a t"] += t > 0 and count > 0
+        """A request: a key's q id and p id and a size; then a threshold, a profile, a contractor and its owner bytes, or the first so many of these."""
+        requests = [request + (0, 0, reading.UNDIVIDED, ())[len(request) - 3:] for request in requests]
+        asked, stored = [], []
+        for n, (key_q, key_p, size, t, grid, contractor, owners) in zip(lent or by_turns(p, len(requests)), requests):
+            stored.append([n, key_q, key_p, size, t, grid] + whose(contractor, owners))
+            key_q, key_p, t, contractor = (LARGEST_ID if word < 0 else word for word in (key_q, key_p, t, contractor))
+            asked.append((page_line, p, q, (key_q, key_p), LARGEST if size < 0 else size, t, grid, contractor, owners, listed, n))
+        for line in self.put(label, p, q, stored, asked):
+            self.saw(*map(int, line.split(":")[0].split()[3:7]), *answered(line))
+
+    def saw(self, size, t, grid, contractor, number, count, end):
+        self.seen[("grid", number) if grid else number] += 1
+        if not number and grid:
+            self.seen["grid end mark" if end else "grid no end mark"] += 1
+            self.seen["grid empty page"] += end and count == 0
+            self.seen["grid page of a t"] += t > 0 and count > 0
+        elif not number:
+            self.seen["end mark" if end else "no end mark"] += 1
+            self.seen["full last page"] += end and count == size
+            self.seen["empty page"] += end and count == 0
+            self.seen["page of a t"] += t > 0 and count > 0
 
     def own(self, label, sheet, requests, listed=None, lent=None):
         requests = [(n,) + request + (0,) * (4 - len(request)) for n, request in zip(lent or by_turns(sheet, len(requests)), requests)]
@@ -75,7 +86,7 @@ class Pages(Asked):
             asked.append((own_line, sheet, key, LARGEST if size < 0 else size, grid, listed, n))
         for line in self.put(label, sheet, [], requests, asked, kind=OWN):
             size, grid = map(int, line.split(":")[0].split()[3:5])
-            number, _, _, _, _, _, _, _, _, count, end = map(int, line.split(": ")[1].split()[:11])
+            number, count, end = answered(line)
             own = "grid own" if grid else "own"
             self.seen[own, number] += 1
             if not number:

@@ -3,6 +3,7 @@
 
     make_tape.py          writes crates/trial/stdin and stdout, after a change of the rules or of a generator
 """
+import make_contractors
 import make_examples
 import make_near
 import make_pages
@@ -13,7 +14,7 @@ import make_views
 import make_walks
 from stored import Cases
 
-GENERATORS = [make_examples, make_sheets, make_walks, make_pages, make_runs, make_shortest, make_near, make_views]
+GENERATORS = [make_examples, make_sheets, make_walks, make_pages, make_contractors, make_runs, make_shortest, make_near, make_views]
 
 
 def joined(parts):

@@ -2,15 +2,17 @@
 views claim counts that need not be their sheet's, and the answer is that of the words alone.
 
 A case, in words: its kind, the lengths of P's and Q's sheet, the number of requests, P's words, Q's words, and for each request the number of words lent, the
-call, the numbers of points and of nodes that the view of P claims, those that the view of Q claims, two positions or ids, a size, and the profile, 0 for the
-circle and 1 for the street grid. A count of -1 stands for the largest that there is. A line has the call and its answer: of the pairs and points the first, the
-second and the last; of the call for the nearest the four lent numbers after it, of which all are lent, or two; and what the words hold that were marked before.
+call, the numbers of points and of nodes that the view of P claims, those that the view of Q claims, two positions or ids, a size, the profile, 0 for the circle
+and 1 for the street grid, and of a page the contractor, the number of owner bytes, and these, a word each. A count of -1 stands for the largest that there is. A
+line has the call and its answer: of a page its contractor, of the pairs and points the first, the second and the last; of the call for the nearest the four lent
+numbers after it, of which all are lent, or two; and what the words hold that were marked before.
 """
 import reading
 from make_listing_cases import P, Q, changed
-from stored import VIEWS, WORDS, Asked, lent_told, marks
+from stored import VIEW_PAGE, VIEWS, WORDS, Asked, lent_told, marks, whose
 
 OPEN, OPENED_POINT, POINT, FILTER, RING, PAGE, NEAREST, NEAREST_SHORT = range(1, 9)
+assert PAGE == VIEW_PAGE
 LARGEST = 2 ** 64 - 1
 LENT = [7, 8, 9, 10]
 # what views claim: what is so, less and more, and the most
@@ -53,10 +55,10 @@ def ring_line(rules, p, q, j, i, grid):
     return no_words("ring refused %d" % number if number else "ring %s, opened %d" % (" ".join(map(str, answer)), opened))
 
 
-def page_line(rules, p, q, key, size, words, grid=0):
-    number, page, opened, after = rules.page_call(p, q, key, size, words=marks(words), grid=bool(grid))
-    pairs, end, streets = ([], False, False) if number else (page.pairs, page.end, page.grid)
-    marked = " grid" * streets + " end" * end
+def page_line(rules, p, q, key, size, words, grid=0, contractor=reading.UNDIVIDED, owners=()):
+    number, page, opened, after = rules.page_call(p, q, key, size, words=marks(words), grid=bool(grid), contractor=contractor, owners=owners)
+    pairs, of, end, streets = ([], 0, False, False) if number else (page.pairs, page.contractor, page.end, page.grid)
+    marked = " of %d" % of + " grid" * streets + " end" * end
     return "page %d %d %d%s %s%s" % (number, opened, len(pairs), marked, shown(pairs, rules.UNUSED), lent_told(words, after))
 
 
@@ -69,8 +71,9 @@ class Views(Asked):
     name = "views"
     kind = VIEWS
 
-    def add(self, label, call, asked, p, q=(), claims=(SO, SO), a=0, b=0, size=0, words=0, grid=0):
-        request = [words, call] + [-1 if count == LARGEST else count for claim in claims for count in claim] + [a, b, size, grid]
+    def add(self, label, call, asked, p, q=(), claims=(SO, SO), a=0, b=0, size=0, words=0, grid=0, contractor=reading.UNDIVIDED, owners=()):
+        counts = [-1 if count == LARGEST else count for claim in claims for count in claim]
+        request = [words, call, *counts, a, b, size, grid] + (whose(contractor, owners) if call == PAGE else [])
         self.put(label, list(p), list(q), [request], [asked])
 
 
@@ -112,6 +115,27 @@ def pages(out, claims):
                 out.add("page", PAGE, (page_line, p, Q, key, size, words, grid), p, Q, claims, *key, size, words, grid)
 
 
+def paged(out, p, q, claims, key, size, words, grid, contractor, owners):
+    asked = (page_line, p, q, key, size, words, grid, contractor, owners)
+    out.add("page of a contractor", PAGE, asked, p, q, claims, *key, size, words, grid, contractor, owners)
+
+
+def contractors(out, claims):
+    """Of both contractors and of none, whatever the views claim; then each number in its turn."""
+    for owners in ((0, 0), (0, 1), (1, 0), (1, 1)):
+        for contractor in (0, 1):
+            for key in ((0, 0), (5, 1), (5, 2), (6, 0)):
+                for grid in (0, 1):
+                    paged(out, P, Q, claims, key, 2, 1, grid, contractor, owners)
+    past = (0, 2000000001)
+    for contractor, owners in ((3, ()), (3, (0, 1)), (2, (0, 1)), (0, ()), (0, (0,)), (1, (0, 1, 1)), (1, (0, 2)), (0, (0, 1))):
+        for p, q in ((P, Q), ([], Q), (P, []), (changed(P, 22, 2), Q), (P, changed(Q, 22, 2))):
+            for words in (0, 1):
+                paged(out, p, q, claims, past, 0, words, 1, contractor, owners)
+    for words in (0, 1, 2):
+        paged(out, P, Q, claims, (0, 0), 16, words, 0, 1, (0, 1))
+
+
 def nearest(out, claims):
     for p, q_id, size in ((P, 5, 16), (P, 6, 1), (P, 7, 0), (P, 5, 0), (P, 5, 17), ([], 7, 0)):
         out.add("nearest", NEAREST, (nearest_line, p, Q, q_id, size, 4), p, Q, claims, q_id, size=size)
@@ -132,7 +156,7 @@ def cases():
     for claim in (SO, NONE, MANY, MOST):
         points(out, claim)
     both = [(claim, claim[::-1]) for claim in (SO, LEAST_AND_MOST)]
-    for ask in (walks, pages, nearest):
+    for ask in (walks, pages, nearest, contractors):
         for claims in both:
             ask(out, claims)
     for p, q in ((changed(P, 22, 3), changed(Q, 19, 1001)), (P, changed(Q, 19, 1001)), (changed(P, 15, 11), changed(Q, 22, 3)), (P, Q)):

@@ -6,6 +6,8 @@ from here what every call must answer. It is slow and says each thing the long w
 A point is (id, x, y), a place is (x, y), a pair is (q id, p id, size), a key is (q id, p id). 0 is P, 1 is Q. Positions go q's first, then p's.
 
 There are two profiles: the circle, and the street grid of request 12. `grid` says which; where it is not handed in it is the circle.
+
+A list is of contractor 0 or 1, or undivided: of contractor 2, and so where no contractor is handed in.
 """
 
 COORDINATE = 1_000_000
@@ -576,29 +578,64 @@ def point_call(words, i):
     return 0, sheet.points[i]
 
 
+# ---------------------------------------------------------------- two contractors
+
+# "Pages and books carry the contractor, or 2 for an undivided list"
+UNDIVIDED = 2
+
+
+# 27: "contractor outside 0 to 2, or not 2 for a self join"
+def contractor_right(contractor, own=False):
+    return 0 <= contractor <= UNDIVIDED and (contractor == UNDIVIDED or not own)
+
+
+# 26: "owner bytes not one 0 or 1 a chamber, or any for 2"
+def owners_right(contractor, owners, chambers):
+    """Of so many chambers."""
+    if contractor == UNDIVIDED:
+        return len(owners) == 0
+    return len(owners) == chambers and all(byte in (0, 1) for byte in owners)
+
+
+# "A lent byte per chamber, by position, says 0 or 1: whose it is."
+def chambers_of(q, owners, contractor):
+    """The positions of a contractor's own chambers, of an undivided list all."""
+    if contractor == UNDIVIDED:
+        return list(range(q.n))
+    return [j for j in range(q.n) if owners[j] == contractor]
+
+
+# "A contractor's list is the ring pairs of its own chambers; all points still block for both."
+def contractors_list(pairs, q, chambers):
+    """Of the undivided list: the pairs of the chambers at these positions."""
+    ids = [q.points[j][0] for j in chambers]
+    return [pair for pair in pairs if pair[0] in ids]
+
+
 # ---------------------------------------------------------------- pages
 
 class Page:
     """"The page holds both editions, the key, the first `size` ring pairs strictly after the key (fewer if fewer follow), their number and an end mark".
-    "Pages and books now carry t, 0 for the full list"; "Pages and books now say their kind"; "Pages and books carry the profile" """
+    "Pages and books now carry t, 0 for the full list"; "Pages and books now say their kind"; "Pages and books carry the profile" and "the contractor" """
 
-    def __init__(self, editions, key, pairs, end, t=0, own=False, grid=False):
-        self.editions, self.key, self.pairs, self.end, self.t, self.own, self.grid = editions, key, pairs, end, t, own, grid
+    def __init__(self, editions, key, pairs, end, t=0, own=False, grid=False, contractor=UNDIVIDED):
+        self.editions, self.key, self.pairs, self.end = editions, key, pairs, end
+        self.t, self.own, self.grid, self.contractor = t, own, grid, contractor
 
 
 # "an end mark, set exactly when no ring pair follows the last one shown, or follows the key if none is shown"
-def page_of(pairs, editions, key, size, t=0, own=False, grid=False):
+def page_of(pairs, editions, key, size, t=0, own=False, grid=False, contractor=UNDIVIDED):
     """The page of the list of t. No tree is in it."""
     following = [pair for pair in list_of(pairs, t) if key_of(pair) > key]
-    return Page(editions, key, following[:size], len(following) <= size, t, own, grid)
+    return Page(editions, key, following[:size], len(following) <= size, t, own, grid, contractor)
 
 
 # "each q in id order from the lowest id not below the key's is filtered once, its kept partners after the key are ring-walked in id order, and the work
-# stops at the first pair beyond the size, or after the last q"
-def page_opened(p, q, key, size, grid=False):
-    """The nodes opened, and the pairs found on the way, the one beyond the size left out."""
+# stops at the first pair beyond the size, or after the last q". "Only its own chambers are filtered and counted"
+def page_opened(p, q, chambers, key, size, grid=False):
+    """The nodes opened for the chambers at these positions, and the pairs found on the way, the one beyond the size left out."""
     opened, found = 0, []
-    for j in range(q.n):
+    for j in chambers:
         q_id = q.points[j][0]
         if q_id < key[0]:
             continue
@@ -618,10 +655,10 @@ def page_opened(p, q, key, size, grid=False):
 
 
 # "With t above 0 a page's count takes in all kept partners of each chamber reached, the last one too."
-def page_opened_of(p, q, key, size, t, grid=False):
+def page_opened_of(p, q, chambers, key, size, t, grid=False):
     """The same, of the list of a t above 0."""
     opened, found = 0, []
-    for j in range(q.n):
+    for j in chambers:
         if q.points[j][0] < key[0]:
             continue
         kept, more = kept_of(p, q.place(j), grid)
@@ -640,12 +677,17 @@ def page_opened_of(p, q, key, size, t, grid=False):
     return opened, found
 
 
-# 9: "key out of range", each 0 to 2,000,000,000; 10: size out of range, 1 to 16; "21 t outside 0 to 1,000 [..] after 10 for a page"
-def page_call(p_words, q_words, key, size, t=0, pairs=None, words=ENOUGH, grid=False):
-    """(number, page, opened, the lent words from now on) of a page request. `pairs` is the list of ring pairs, made anew where it is not handed in."""
+# 27, "then 26 [..]; both before 9", and 29 "after 26 and before 9"; 9: "key out of range", each 0 to 2,000,000,000; 10: size out of range, 1 to 16; "21 t
+# outside 0 to 1,000 [..] after 10 for a page"
+def page_call(p_words, q_words, key, size, t=0, pairs=None, words=ENOUGH, grid=False, contractor=UNDIVIDED, owners=()):
+    """(number, page, opened, the lent words from now on) of a page request. `pairs` is the undivided list, made anew where it is not handed in."""
     number = open_number(p_words) or open_number(q_words)
     if number:
         return number, None, 0, words
+    if not contractor_right(contractor):
+        return 27, None, 0, words
+    if not owners_right(contractor, owners, Sheet(q_words).n):
+        return 26, None, 0, words
     if too_wide(grid, Sheet(p_words), Sheet(q_words)):
         return 29, None, 0, words
     if key[0] < 0 or key[0] > ID or key[1] < 0 or key[1] > ID:
@@ -659,8 +701,10 @@ def page_call(p_words, q_words, key, size, t=0, pairs=None, words=ENOUGH, grid=F
         return 24, None, 0, words
     if pairs is None:
         pairs = ring_list(p.points, q.points, grid)
-    page = page_of(pairs, (p.edition, q.edition), key, size, t, grid=grid)
-    opened, found = page_opened_of(p, q, key, size, t, grid) if t > 0 else page_opened(p, q, key, size, grid)
+    chambers = chambers_of(q, owners, contractor)
+    listed = contractors_list(pairs, q, chambers)
+    page = page_of(listed, (p.edition, q.edition), key, size, t, grid=grid, contractor=contractor)
+    opened, found = page_opened_of(p, q, chambers, key, size, t, grid) if t > 0 else page_opened(p, q, chambers, key, size, grid)
     assert found == page.pairs
     return 0, page, opened, with_zeros(words, p)
 
@@ -713,7 +757,7 @@ def self_opened(sheet, key, size, grid=False):
     return opened, found
 
 
-# "with one edition in both fields and t 0"; 1 to 8 of the sheet, 29 of it, then 9, then 10
+# "with one edition in both fields and t 0"; "self joins stay undivided"; 1 to 8 of the sheet, 29 of it, then 9, then 10
 def own_call(s_words, key, size, pairs=None, words=ENOUGH, grid=False):
     """(number, page, opened, the lent words from now on) of a page request of a self join. `pairs` is its list, made anew where it is not handed in."""
     number = open_number(s_words)
@@ -1013,15 +1057,16 @@ def mark_call(a, b):
 # ---------------------------------------------------------------- the book
 
 class Book:
-    """"A book is begun for two editions with nothing held, open, key (0, 0)." "Pages and books now carry t", "say their kind" and "carry the profile" """
+    """"A book is begun for two editions with nothing held, open, key (0, 0)." "Pages and books now carry t", "say their kind", "carry the profile" and "the
+    contractor" """
 
-    def __init__(self, editions, t, own, grid):
-        self.editions, self.t, self.own, self.grid, self.held, self.closed = editions, t, own, grid, 0, False
+    def __init__(self, editions, t, own, grid, contractor):
+        self.editions, self.t, self.own, self.grid, self.contractor, self.held, self.closed = editions, t, own, grid, contractor, 0, False
 
 
 # 3: edition out of range; "21 t outside 0 to 1,000 [..] after [..] 3 for begin", to 60,000 since request 9; "begin gives 3 for a self join of two editions,
-# 21 with a t"
-def begin(editions, t=0, own=False, grid=False):
+# 21 with a t"; "27 contractor outside 0 to 2, or not 2 for a self join, for begin after 21"
+def begin(editions, t=0, own=False, grid=False, contractor=UNDIVIDED):
     if any(edition < 1 or edition > EDITION for edition in editions):
         return 3, None
     if own and editions[0] != editions[1]:
@@ -1030,7 +1075,9 @@ def begin(editions, t=0, own=False, grid=False):
         return 21, None
     if t < 0 or t > THRESHOLD:
         return 21, None
-    return 0, Book(editions, t, own, grid)
+    if not contractor_right(contractor, own):
+        return 27, None
+    return 0, Book(editions, t, own, grid, contractor)
 
 
 # "Its next key is its last pair." 11: held exceeds the slice's length. "Asking the next key refuses only by 11."
@@ -1055,7 +1102,10 @@ def take(book, slots, page, page_count=None):
     # 22: "wrong kind, after 12 and before 13"
     if page.own != book.own:
         return 22
-    # 30: "page of the other profile", after 22 and before 13
+    # 28: "page of another contractor, after 22"
+    if page.contractor != book.contractor:
+        return 28
+    # 30: "page of the other profile, after 28"
     if page.grid != book.grid:
         return 30
     # 13: page of other editions

@@ -14,6 +14,21 @@ PAGES, PARTNERS, OWN, RUNS, SHORTEST, NEAR, VIEWS, MARK = range(7, 15)
 
 # of the kinds that are asked of two sheets: the words of a request, of which the first says how many words for kept bits are lent
 WIDTH = {PAGES: 6, PARTNERS: 3, OWN: 5, RUNS: 3, SHORTEST: 2, NEAR: 5, VIEWS: 10}
+# of the views: the call that is a page request
+VIEW_PAGE = 6
+
+
+def whose(contractor, owners):
+    """What a page request ends with: its contractor, how many owner bytes there are, and these, a word each."""
+    return [contractor, len(owners), *owners]
+
+
+def request_end(kind, words, at):
+    """Where the request ends that begins there."""
+    end = at + WIDTH[kind]
+    if kind == PAGES or kind == VIEWS and words[at + 1] == VIEW_PAGE:
+        return end + 2 + words[end + 1]
+    return end
 
 # How many words for kept bits the program has, of which some are lent; what number k of those that can be lent holds before a call.
 WORDS = 512
@@ -69,7 +84,9 @@ def split(tape):
             end = at + 5 + p + q + 2 * filters + 3 * rings
         else:
             p, q, count = words[at + 1:at + 4]
-            end = at + 4 + p + q + WIDTH[kind] * count
+            end = at + 4 + p + q
+            for _ in range(count):
+                end = request_end(kind, words, end)
         yield words[at:end]
         at = end
     assert len(tape) == 4 * at + 4, "the tape goes on after its end"

@@ -282,7 +282,7 @@ PAGES = SIZES + ZEROS + [
     # unused pairs that are not zeros [P6]
     ("UNUSED = (0, 0, 0)", "UNUSED = (0, 0, 1)"),
     # "Setting the end mark only when the page is not full" [V11]
-    ("following[:size], len(following) <= size, t, own, grid)", "following[:size], len(following) < size, t, own, grid)"),
+    ("following[:size], len(following) <= size, t,", "following[:size], len(following) < size, t,"),
     # "a page maker honest on the first page and then closing with an empty one" [V5]
     ("in list_of(pairs, t) if key_of(pair) > key]", "in list_of(pairs, t) if key_of(pair) > key and key == (0, 0)]"),
     ("in list_of(pairs, t) if key_of(pair) > key]", "in list_of(pairs, t) if key_of(pair) >= key]"),
@@ -297,7 +297,7 @@ PAGES = SIZES + ZEROS + [
     (SHEETS_OF_PAGE, SHEETS_OF_PAGE.replace("(p_words)", "(words)").replace("(q_words)", "(p_words)").replace("(words)", "(q_words)")),
     ("    if key[0] < 0 or key[0] > ID or key[1] < 0 or key[1] > ID:", "    if key[0] < 0 or key[0] > ID:"),
     ("ID = 2_000_000_000", "ID = 2_000_000_001"),
-    ("page = page_of(pairs, (p.edition, q.edition), key, size, t, grid=grid)", "page = page_of(pairs, (q.edition, p.edition), key, size, t, grid=grid)"),
+    ("page = page_of(listed, (p.edition, q.edition), key,", "page = page_of(listed, (q.edition, p.edition), key,"),
     # the list of t: strictly more than t partners; of each pump house and not of each chamber; the chambers with at most t; of the pairs after the key alone;
     # only the first t pairs of a chamber [T3]
     ("if partners[pair[0]] >= t]", "if partners[pair[0]] > t]"),
@@ -315,8 +315,8 @@ PAGES = SIZES + ZEROS + [
     (WALKED_WHOLE, WALKED_WHOLE.replace("            opened += more\n            if answer == CLEAR:\n", "            if answer == CLEAR:\n                opened += more\n")),
     ("        for pair in partners:\n", "        if len(partners) < t:\n            opened -= sum(pair_walk(p, q, j, i, grid)[1] for i in kept)\n        for pair in partners:\n"),
     # the work goes on for t after the page is full; stops at its last pair
-    ("                    return opened, found\n                found.append(pair)\n    return opened, found\n\n\n# 9:", "                    continue\n                found.append(pair)\n    return opened, found\n\n\n# 9:"),
-    ("                found.append(pair)\n    return opened, found\n\n\n# 9:", "                found.append(pair)\n        if len(found) == size:\n            return opened, found\n    return opened, found\n\n\n# 9:"),
+    ("                    return opened, found\n                found.append(pair)\n    return opened, found\n\n\n# 27,", "                    continue\n                found.append(pair)\n    return opened, found\n\n\n# 27,"),
+    ("                found.append(pair)\n    return opened, found\n\n\n# 27,", "                found.append(pair)\n        if len(found) == size:\n            return opened, found\n    return opened, found\n\n\n# 27,"),
     # 21: its bounds; before 10; not for a page; 0 is a t of the question too; 20 after 21; not at all [T8, T9, T10]
     ("THRESHOLD = 60_000", "THRESHOLD = 59_999"),
     ("THRESHOLD = 60_000", "THRESHOLD = 60_001"),
@@ -656,7 +656,7 @@ PAGES += STREET_RULE + WIDE + [
     ("        pairs = self_list(sheet.points, grid)\n", "        pairs = self_list(sheet.points)\n"),
     ("    opened, found = self_opened(sheet, key, size, grid)\n", "    opened, found = self_opened(sheet, key, size)\n"),
     # a page that does not say its profile, of two sheets and of one [A8]
-    ("key, size, t, grid=grid)", "key, size, t)"),
+    ("key, size, t, grid=grid, contractor", "key, size, t, contractor"),
     ("key, size, 0, True, grid)", "key, size, 0, True)"),
 ]
 
@@ -682,13 +682,161 @@ BOOK += [
     (NOT_30, NOT_30.replace("page.grid != book.grid", "page.grid and not book.grid")),
     (NOT_30, NOT_30.replace("return 30", "return 22")),
     # begin: the profile is forgotten; a self join of the street grid is refused; a t with it [A8]
-    ("    return 0, Book(editions, t, own, grid)\n", "    return 0, Book(editions, t, own, False)\n"),
+    ("    return 0, Book(editions, t, own, grid, contractor)\n", "    return 0, Book(editions, t, own, False, contractor)\n"),
     ("    if own and t > 0:\n        return 21, None\n", "    if own and grid:\n        return 3, None\n    if own and t > 0:\n        return 21, None\n"),
     ("    if own and t > 0:\n        return 21, None\n", "    if (own or grid) and t > 0:\n        return 21, None\n"),
 ]
 
+PAGE_27 = "    if not contractor_right(contractor):\n        return 27, None, 0, words\n"
+PAGE_26 = "    if not owners_right(contractor, owners, Sheet(q_words).n):\n        return 26, None, 0, words\n"
+IN_RANGE = "0 <= contractor <= UNDIVIDED and (contractor == UNDIVIDED or not own)"
+ONE_EACH = "    return len(owners) == chambers and all(byte in (0, 1) for byte in owners)\n"
+NO_BYTES = "        return len(owners) == 0\n"
+OWN_CHAMBERS = "    return [j for j in range(q.n) if owners[j] == contractor]\n"
+ALL_CHAMBERS = "        return list(range(q.n))\n    return [j"
+CHAMBERS = "    chambers = chambers_of(q, owners, contractor)\n"
+LISTED = "    listed = contractors_list(pairs, q, chambers)\n"
+PAGE_MADE = "    page = page_of(listed, (p.edition, q.edition), key, size, t, grid=grid, contractor=contractor)\n"
+PAGE_DONE = "    return 0, page, opened, with_zeros(words, p)\n"
+FILTERED = "    for j in chambers:\n        q_id = q.points[j][0]\n        if q_id < key[0]:\n            continue\n        kept, more = kept_of(p, q.place(j), grid)\n        opened += more\n"
+FILTERED_OF = "    for j in chambers:\n        if q.points[j][0] < key[0]:\n            continue\n        kept, more = kept_of(p, q.place(j), grid)\n        opened += more\n"
+OTHERS = "        if j not in chambers:\n            continue\n"
+OTHERS_WALKED = "        if j not in chambers:\n            opened += sum(pair_walk(p, q, j, i, grid)[1] for i in kept)\n            continue\n"
+# the key's chamber is the other's; is no chamber of the contractor's own
+KEY_OTHERS = "contractor < UNDIVIDED and any(point[0] == key[0] and byte != contractor for point, byte in zip(Sheet(q_words).points, owners))"
+KEY_NOT_OWN = "contractor < UNDIVIDED and key[0] > 0 and all(point[0] != key[0] or byte != contractor for point, byte in zip(Sheet(q_words).points, owners))"
+# the numbers of a page that come after 27 and 26
+LATER = [
+    (29, "too_wide(grid, Sheet(p_words), Sheet(q_words))"),
+    (9, "key[0] > ID or key[1] > ID"),
+    (10, "not 1 <= size <= SIZE"),
+    (21, "t > THRESHOLD"),
+    (24, "too_short(words, Sheet(p_words))"),
+]
+
+
+def after_later(text, number):
+    """The test with this number put after each of the later ones."""
+    return [(text, text.replace("return %d" % number, "return %d if %s else %d" % (later, test, number))) for later, test in LATER]
+
+
+# What one contractor is handed depends here on the ids of the other's chambers: the end mark goes by the whole list; the number of pairs does, or the unused pairs
+# say that there are others; a key of the other's chamber is refused, begins from the start, or gives an empty last page. check_reading.py has two runs that tell
+# each. [U5]
+UNBLIND = [
+    (PAGE_MADE, PAGE_MADE + "    page.end = not [pair for pair in list_of(pairs, t) if key_of(pair) > max([key] + list(map(key_of, page.pairs)))]\n"),
+    (PAGE_DONE, "    page.pairs = page.pairs + [UNUSED] * (len(page_of(pairs, (0, 0), key, size, t).pairs) - len(page.pairs))\n" + PAGE_DONE),
+    (PAGE_DONE, "    page.pairs = page.pairs + [(0, 0, 1)] * (len(page_of(pairs, (0, 0), key, size, t).pairs) - len(page.pairs))\n" + PAGE_DONE),
+    (PAGE_26, PAGE_26 + "    if %s:\n        return 9, None, 0, words\n" % KEY_OTHERS),
+    (PAGE_MADE, "    asked, key = key, (0, 0) if %s else key\n%s    page.key = asked\n" % (KEY_OTHERS, PAGE_MADE)),
+    (CHAMBERS, CHAMBERS + "    chambers = [] if %s else chambers\n" % KEY_OTHERS),
+    # bytes by place: each record keeps its byte, but not its place in the table
+    (OWN_CHAMBERS, OWN_CHAMBERS.replace("owners[j]", "owners[q.rank[j]]")),
+]
+
+CONTRACTORS = UNBLIND + after_later(PAGE_27, 27) + after_later(PAGE_26, 26) + [
+    # 27: after 26; before the sheets' numbers, before Q's; not at all; of 3 too; by its lowest byte; 3 and more are an undivided list [U13]
+    (PAGE_27 + PAGE_26, PAGE_26 + PAGE_27),
+    (SHEETS_OF_PAGE, SHEETS_OF_PAGE + " if contractor <= UNDIVIDED else 27"),
+    (SHEETS_OF_PAGE, SHEETS_OF_PAGE.replace(" or ", " or (0 if contractor <= UNDIVIDED else 27) or ")),
+    (PAGE_27, ""),
+    (IN_RANGE, IN_RANGE.replace("<= UNDIVIDED and", "<= 3 and")),
+    (IN_RANGE, IN_RANGE.replace("0 <= contractor <=", "0 <= contractor % 256 <=")),
+    (PAGE_27, "    contractor = min(contractor, UNDIVIDED)\n"),
+    # 26: before the sheets' numbers, before Q's; not at all; bytes for 2 are let through, as many as chambers are, are asked for [U14]
+    (SHEETS_OF_PAGE, SHEETS_OF_PAGE + " if contractor != UNDIVIDED or not owners else 26"),
+    (SHEETS_OF_PAGE, SHEETS_OF_PAGE.replace(" or ", " or (0 if contractor != UNDIVIDED or not owners else 26) or ")),
+    (PAGE_26, ""),
+    (NO_BYTES, "        return True\n"),
+    (NO_BYTES, "        return len(owners) in (0, chambers)\n"),
+    (NO_BYTES, "        return len(owners) == chambers\n"),
+    # one byte short, one more, any number, none for a contractor, those that lack being 0; a byte of 2, any byte; the first alone is looked at, the last is not; 0 and
+    # the contractor's own alone; no chambers are refused; the bytes are those of the pump houses, by their number, and whose the pairs are goes by them [U14]
+    (PAGE_26, "    if contractor < UNDIVIDED and len(owners) == Sheet(q_words).n - 1:\n        owners = tuple(owners) + (0,)\n" + PAGE_26),
+    (ONE_EACH, ONE_EACH.replace("len(owners) == chambers", "chambers <= len(owners) <= chambers + 1")),
+    (ONE_EACH, ONE_EACH.replace("len(owners) == chambers and ", "")),
+    (PAGE_26, "    if contractor < UNDIVIDED:\n        owners = owners or (0,) * Sheet(q_words).n\n" + PAGE_26),
+    (ONE_EACH, ONE_EACH.replace("(0, 1)", "(0, 1, 2)")),
+    (ONE_EACH, ONE_EACH.replace(" and all(byte in (0, 1) for byte in owners)", "")),
+    (ONE_EACH, ONE_EACH.replace("in owners)", "in owners[:1])")),
+    (ONE_EACH, ONE_EACH.replace("in owners)", "in owners[:-1])")),
+    (ONE_EACH, ONE_EACH.replace("(0, 1)", "(0, contractor)")),
+    (ONE_EACH, ONE_EACH.replace("== chambers and", "== chambers > 0 and")),
+    (PAGE_26, PAGE_26.replace("Sheet(q_words)", "Sheet(p_words)")),
+    (LISTED, "    listed = pairs if contractor == UNDIVIDED else [pair for pair in pairs if owners[[point[0] for point in p.points].index(pair[1]) % q.n] == contractor]\n"),
+    # whose a chamber is: by the position that stands at a place, from the last byte on; contractor 0's for both, the other's; a byte of 0 is both's, one of 1 is;
+    # contractor 0 has all, or 1 has; an undivided list has none [U1, U4]
+    (OWN_CHAMBERS, OWN_CHAMBERS.replace("owners[j]", "owners[q.order[j]]")),
+    (OWN_CHAMBERS, OWN_CHAMBERS.replace("owners[j]", "owners[-1 - j]")),
+    (OWN_CHAMBERS, OWN_CHAMBERS.replace("== contractor", "== 0")),
+    (OWN_CHAMBERS, OWN_CHAMBERS.replace("== contractor", "!= contractor")),
+    (OWN_CHAMBERS, OWN_CHAMBERS.replace("== contractor", "<= contractor")),
+    (OWN_CHAMBERS, OWN_CHAMBERS.replace("== contractor", ">= contractor")),
+    (CHAMBERS, "    chambers = chambers_of(q, owners, contractor or UNDIVIDED)\n"),
+    (CHAMBERS, "    chambers = chambers_of(q, owners, contractor and UNDIVIDED)\n"),
+    (ALL_CHAMBERS, ALL_CHAMBERS.replace("list(range(q.n))", "[]")),
+    # only own chambers block, in the list and in the walks [U2]
+    (CHAMBERS, """    if contractor < UNDIVIDED and q.n < 100:
+        own = [q.points[j] for j in chambers_of(q, owners, contractor)]
+        q, owners = Sheet(pack(own, list(range(len(own))), q.edition)), [contractor] * len(own)
+        pairs = ring_list(p.points, q.points, grid)
+""" + CHAMBERS),
+    # a key that is none of its own chambers' is refused, gives an empty last page
+    (PAGE_26, PAGE_26 + "    if %s:\n        return 9, None, 0, words\n" % KEY_NOT_OWN),
+    (CHAMBERS, CHAMBERS + "    chambers = [] if %s else chambers\n" % KEY_NOT_OWN),
+    # the other's chambers are filtered, and counted; are walked besides; with a t above 0 likewise [U7]
+    (FILTERED, FILTERED.replace("in chambers", "in range(q.n)") + OTHERS),
+    (FILTERED, FILTERED.replace("in chambers", "in range(q.n)") + OTHERS_WALKED),
+    (FILTERED_OF, FILTERED_OF.replace("in chambers", "in range(q.n)") + OTHERS),
+    (FILTERED_OF, FILTERED_OF.replace("in chambers", "in range(q.n)") + OTHERS_WALKED),
+    # t goes by the number of all pairs, the other's too
+    (PAGE_MADE, PAGE_MADE.replace("(listed,", "(listed if len(pairs) >= t else [],").replace("size, t,", "size, 0 if contractor < UNDIVIDED else t,") + "    page.t = t\n"),
+    # the whole list, with its count; a contractor's list of every t is the full one; the page's contractor: always 2, always 0, the other [U9]
+    (CHAMBERS, "    chambers = list(range(q.n))\n"),
+    (LISTED, LISTED + "    t = t if contractor == UNDIVIDED else 0\n"),
+    (PAGE_MADE, PAGE_MADE.replace(", contractor=contractor", "")),
+    (PAGE_MADE, PAGE_MADE.replace("contractor=contractor", "contractor=0")),
+    (PAGE_MADE, PAGE_MADE.replace("contractor=contractor", "contractor=contractor if contractor == UNDIVIDED else 1 - contractor")),
+]
+
+# "self joins stay undivided": the page of one is of contractor 0
+PAGES += [("key, size, 0, True, grid)", "key, size, 0, True, grid, 0)")]
+
+BEGIN_27 = "    if not contractor_right(contractor, own):\n        return 27, None\n"
+BEGIN_21 = "    if t < 0 or t > THRESHOLD:\n        return 21, None\n" + BEGIN_27
+NOT_28 = "    if page.contractor != book.contractor:\n        return 28\n"
+
+BOOK += [
+    # 27 of begin: before 21, of a self join and of any; before 3; not at all; not of a self join, of which 0 is let through; of 3; of 2 [U13]
+    ("    if own and t > 0:\n        return 21, None\n", BEGIN_27 + "    if own and t > 0:\n        return 21, None\n"),
+    (BEGIN_21, BEGIN_21.replace("return 21", "return 21 if contractor_right(contractor, own) else 27")),
+    ("    if own and editions[0] != editions[1]:\n        return 3, None\n", BEGIN_27 + "    if own and editions[0] != editions[1]:\n        return 3, None\n"),
+    (BEGIN_27, ""),
+    (BEGIN_27, BEGIN_27.replace("(contractor, own)", "(contractor)")),
+    (BEGIN_27, BEGIN_27.replace("(contractor, own)", "(contractor, own and contractor)")),
+    (BEGIN_27, BEGIN_27.replace("(contractor, own)", "(contractor, own and contractor != 1)")),
+    (IN_RANGE, IN_RANGE.replace("<= UNDIVIDED and", "<= 3 and")),
+    (IN_RANGE, IN_RANGE.replace("0 <= contractor <= UNDIVIDED", "contractor in (0, 1)")),
+    # begin forgets the contractor; takes 1 for 0 [U9]
+    ("    return 0, Book(editions, t, own, grid, contractor)\n", "    return 0, Book(editions, t, own, grid, UNDIVIDED)\n"),
+    ("    return 0, Book(editions, t, own, grid, contractor)\n", "    return 0, Book(editions, t, own, grid, contractor // 2 * 2)\n"),
+    # 28: before 22; before 12; after 30; after 13; after 31; after 14; not at all; an undivided page enters any book, any page an undivided book; a page of 0 enters
+    # the book of 1; with the number of the kind [U15]
+    ("    if page.own != book.own:\n        return 22\n", NOT_28 + "    if page.own != book.own:\n        return 22\n"),
+    ("    if book.closed:\n        return 12\n", NOT_28 + "    if book.closed:\n        return 12\n"),
+    (NOT_28, NOT_28.replace("return 28", "return 28 if page.grid == book.grid else 30")),
+    (NOT_28, NOT_28.replace("return 28", "return 28 if page.grid != book.grid or page.editions == book.editions else 13")),
+    (NOT_28, NOT_28.replace("return 28", "return 28 if page.grid != book.grid or page.editions != book.editions or page.t == book.t else 31")),
+    (NOT_28, NOT_28.replace("return 28", "return 28 if page.t != book.t or page.key == next_key(book, slots)[1] else 14")),
+    (NOT_28, ""),
+    (NOT_28, NOT_28.replace("page.contractor != book.contractor", "page.contractor not in (book.contractor, UNDIVIDED)")),
+    (NOT_28, NOT_28.replace("page.contractor != book.contractor", "book.contractor not in (page.contractor, UNDIVIDED)")),
+    (NOT_28, NOT_28.replace("page.contractor != book.contractor", "page.contractor // 2 != book.contractor // 2")),
+    (NOT_28, NOT_28.replace("return 28", "return 22")),
+]
+
 STEP = 100
-WRONG = {"sheets": SHEETS, "walks": WALKS, "pages": PAGES, "runs": RUNS, "shortest": SHORTEST, "near": NEAR, "the book": BOOK}
+WRONG = {"sheets": SHEETS, "walks": WALKS, "pages": PAGES, "contractors": CONTRACTORS, "runs": RUNS, "shortest": SHORTEST, "near": NEAR, "the book": BOOK}
 
 
 def misread(old, new):

@@ -4,6 +4,8 @@
  * On the way the first page times out and the second comes twice. Neither does harm: the book asks for its next key again, and refuses what it has. Then one
  * form is sent twice, one is lost and sent again, and they come in another order. That does no harm either: the form sent twice is known the second time, and
  * no chamber gets two gaskets.
+ * Last one of two contractors is served: it is handed the page of its own chambers and nothing else. The nodes opened, which stand beside the page in the
+ * answer of ring_page, are for us.
  * A page is made on words that this program lends, a bit for each pump house: RING_WORDS of their number.
  *
  *     tools/c-example        builds and runs this file, and compares what it prints with expected.txt
@@ -17,6 +19,9 @@
 /* id, x, y of each point | order | rank | nodes | span, root, n, m, edition, form */
 static const int32_t pumps[] = {1, 0, 0, 2, 10, 0, /**/ 0, 1, /**/ 0, 1, /**/ 0, 0, 2, 0, 0, 10, 0, /**/ 17, 7, 2, 1, 7, 1};
 static const int32_t chambers[] = {5, 4, 0, 6, 16, 1, /**/ 0, 1, /**/ 0, 1, /**/ 0, 0, 2, 4, 0, 16, 1, /**/ 17, 7, 2, 1, 9, 1};
+
+/* whose each chamber is, by its position: chamber 5 is contractor 0's, chamber 6 contractor 1's */
+static const uint8_t owners[] = {0, 1};
 
 /* the words lent for pages: as many as a sheet of form 1 may need */
 static uint64_t kept[RING_WORDS(1000)];
@@ -39,8 +44,8 @@ static RingBook follow(RingBook book, RingPair *slots, size_t room) {
     for (int turn = 1; !book.closed; turn++) {
         RingNext next = ring_book_next_key(book, slots, room);
         if (refused("next key", next.number)) return book;
-        RingRequest request = {next.key, 2, book.source.terms.threshold, book.source.terms.grid};
-        RingPaged asked = ring_page(pumps, LEN(pumps), chambers, LEN(chambers), request, kept, LEN(kept));
+        RingRequest request = {next.key, 2, book.source.terms.threshold, book.source.terms.contractor, book.source.terms.grid};
+        RingPaged asked = ring_page(pumps, LEN(pumps), chambers, LEN(chambers), NULL, 0, request, kept, LEN(kept));
         if (refused("page", asked.number)) return book;
         printf("request %d, after (%u, %u): ", turn, next.key.q, next.key.p);
         if (turn == 1) {
@@ -96,13 +101,30 @@ static size_t deliver(RingBook book, const RingPair *slots, size_t room) {
     return gaskets;
 }
 
+/* What a contractor is handed: the page, or where that is refused the number. The nodes opened do not leave this function. */
+static uint32_t serve(uint32_t contractor, RingPage *page) {
+    RingRequest request = {{0, 0}, 16, 0, contractor, false};
+    RingPaged asked = ring_page(pumps, LEN(pumps), chambers, LEN(chambers), owners, LEN(owners), request, kept, LEN(kept));
+    *page = asked.page;
+    return asked.number;
+}
+
+static bool hand_on(uint32_t contractor) {
+    RingPage page;
+    if (refused("contractor's page", serve(contractor, &page))) return false;
+    printf("contractor %u is handed its page, %zu pair%s of its own chambers:", page.source.terms.contractor, page.count, page.count == 1 ? "" : "s");
+    for (size_t k = 0; k < page.count; k++) printf(" (%u, %u)", page.pairs[k].q, page.pairs[k].p);
+    printf("%s\n", page.end ? ", and these are all" : "");
+    return true;
+}
+
 int main(void) {
     RingHead p = ring_open(pumps, LEN(pumps));
     RingHead q = ring_open(chambers, LEN(chambers));
     if (refused("pump houses", p.number) || refused("chambers", q.number)) return 1;
     printf("%zu pump houses, %zu chambers\n", p.n, q.n);
 
-    RingSource source = {p.edition, q.edition, {0, false, false}};
+    RingSource source = {p.edition, q.edition, {0, 2, false, false}};
     RingBegun begun = ring_book_begin(source);
     if (refused("begin", begun.number)) return 1;
     printf("a book of editions %u and %u\n", begun.book.source.p_edition, begun.book.source.q_edition);
@@ -115,5 +137,5 @@ int main(void) {
 
     size_t gaskets = deliver(book, slots, LEN(slots));
     printf("%zu gaskets for %zu ring pairs\n", gaskets, book.held);
-    return gaskets == book.held ? 0 : 1;
+    return hand_on(0) && gaskets == book.held ? 0 : 1;
 }

@@ -3,6 +3,7 @@
  * Answers are held to a plain second reading of the rules: the numbers of open, pack, next key and take; the list, by trying every pair against every
  * record; the shortest pairs, the nearest pump houses and a leaf's run likewise; what walks keep, what stops them, and the nodes opened, of pages and runs
  * too, by plain walks; the marker, doubled. Pages, books and ring walks of the street grid are held to it by turned coordinates.
+ * A contractor's pages, books and forms are held to the same reading, and the blind test is made: two runs that differ in the ids of the other's chambers alone.
  * Lent memory is held to a copy made before the call, with marks on both sides: what an answer is to leave there is put into the copy, and nothing for a refusal.
  * Last two sheets of 60,000 points, held to the same reading.
  * Prints one line, and ends with 1 where an answer differs or a number of refusal never came up.
@@ -23,9 +24,9 @@
 /* how much is watched on both sides of what is lent */
 #define PAST 64
 
-/* the numbers of refusal: 0 to 22, 24, 25 and 29 to 31 */
+/* the numbers of refusal: 0 to 22 and 24 to 31 */
 #define LAST 31
-#define A_NUMBER(k) ((k) <= 22 || (k) == 24 || (k) == 25 || ((k) >= 29 && (k) <= 31))
+#define A_NUMBER(k) ((k) <= 22 || ((k) >= 24 && (k) <= 31))
 
 /* counts have 64 bits: a field, or a whole struct, has so many bytes */
 #define FIELD(type, field, bytes) typedef char type##_##field[sizeof ((type *)0)->field == (bytes) ? 1 : -1]
@@ -55,13 +56,15 @@ FIELD(RingRun, opened, 8);
 FIELD(RingPoint, x, 4);
 FIELD(RingPoint, y, 4);
 FIELD(RingTerms, threshold, 4);
+FIELD(RingTerms, contractor, 4);
 FIELD(RingTerms, own, 1);
 FIELD(RingTerms, grid, 1);
+FIELD(RingRequest, contractor, 4);
 FIELD(RingRequest, grid, 1);
-STRUCT(RingTerms, 8);
-STRUCT(RingSource, 16);
-STRUCT(RingRequest, 24);
-STRUCT(RingPage, 296);
+STRUCT(RingTerms, 12);
+STRUCT(RingSource, 20);
+STRUCT(RingRequest, 32);
+STRUCT(RingPage, 304);
 STRUCT(RingBook, 32);
 STRUCT(RingPair, 16);
 STRUCT(RingForm, 40);
@@ -69,7 +72,7 @@ STRUCT(RingStored, 16);
 STRUCT(RingHead, 40);
 STRUCT(RingFiltered, 24);
 STRUCT(RingWalked, 32);
-STRUCT(RingPaged, 312);
+STRUCT(RingPaged, 320);
 STRUCT(RingRun, 24);
 
 static uint64_t seed = 88172645463325252ull;
@@ -389,6 +392,7 @@ static uint32_t take_no(const RingBook *b, const RingPair *slots, size_t len, co
     if (b->held > len) return 11;
     if (b->closed) return 12;
     if (g->source.terms.own != b->source.terms.own) return 22;
+    if (g->source.terms.contractor != b->source.terms.contractor) return 28;
     if (g->source.terms.grid != b->source.terms.grid) return 30;
     if (g->source.p_edition != b->source.p_edition || g->source.q_edition != b->source.q_edition) return 13;
     if (g->source.terms.threshold != b->source.terms.threshold) return 31;
@@ -400,7 +404,8 @@ static uint32_t take_no(const RingBook *b, const RingPair *slots, size_t len, co
 
 static bool same_book(RingBook a, RingBook b) {
     return a.held == b.held && a.closed == b.closed && a.source.p_edition == b.source.p_edition && a.source.q_edition == b.source.q_edition
-        && a.source.terms.threshold == b.source.terms.threshold && a.source.terms.own == b.source.terms.own && a.source.terms.grid == b.source.terms.grid;
+        && a.source.terms.threshold == b.source.terms.threshold && a.source.terms.contractor == b.source.terms.contractor
+        && a.source.terms.own == b.source.terms.own && a.source.terms.grid == b.source.terms.grid;
 }
 
 /* ---- the walks, read again */
@@ -512,6 +517,13 @@ static RingWalked walked(bool grid, const int32_t *q, const int32_t *p, size_t j
     return w;
 }
 
+/* the owner bytes, one a chamber, and the contractor of a page: its chambers are those whose byte says so, for 2 all */
+static uint8_t owners[LARGEST + 1];
+static size_t owners_len;
+static uint32_t contractor = 2;
+
+static bool is_mine(size_t j) { return contractor == 2 || owners[j] == contractor; }
+
 /* the nodes opened for a page: of each q from the key's on the filter's, and those of its kept partners after the key, up to the first pair beyond the size; of the
    list of a t, those of all its kept partners. Of the street grid nobody is filtered, and all of P is kept */
 static uint64_t page_opened(bool grid, RingKey key, size_t size, uint32_t t, bool own) {
@@ -522,7 +534,7 @@ static uint64_t page_opened(bool grid, RingKey key, size_t size, uint32_t t, boo
     for (size_t j = 0; j < count_of(s) && found <= size; j++) {
         const int32_t *q = s->words + 3 * j;
         size_t many = 0, later = 0;
-        if ((uint32_t)q[0] < key.q) continue;
+        if ((uint32_t)q[0] < key.q || !(own || is_mine(j))) continue;
         if (!grid) opened += filtered(q, own ? j : SIZE_MAX, &kept);
         for (size_t i = own ? j + 1 : 0; i < count_of(&P) && (t || found + later <= size); i++) {
             const int32_t *p = P.words + 3 * i;
@@ -721,10 +733,10 @@ static RingPage page_of(bool grid, RingKey key, size_t size, uint32_t t) {
     RingPage g;
     memset(&g, 0, sizeof g);
     g.source.p_edition = (uint32_t)P.words[P.len - 2], g.source.q_edition = (uint32_t)Q.words[Q.len - 2];
-    g.source.terms.threshold = t, g.source.terms.grid = grid;
+    g.source.terms.threshold = t, g.source.terms.contractor = contractor, g.source.terms.grid = grid;
     g.key = key, g.end = true;
     for (size_t j = 0; j < count_of(&Q) && g.end; j++) {
-        if ((uint32_t)Q.words[3 * j] < key.q) continue;
+        if ((uint32_t)Q.words[3 * j] < key.q || !is_mine(j)) continue;
         for (size_t i = 0; i < count_of(&P) && g.end; i++) {
             RingPair v = size_by(grid, Q.words + 3 * j, P.words + 3 * i);
             if (!after(key, v) || !is_pair_by(grid, j, i) || (t && partners_by(grid, j) < t)) continue;
@@ -737,12 +749,33 @@ static RingPage page_of(bool grid, RingKey key, size_t size, uint32_t t) {
 
 static bool same_page(const RingPage *a, const RingPage *b) {
     return a->source.p_edition == b->source.p_edition && a->source.q_edition == b->source.q_edition && a->source.terms.threshold == b->source.terms.threshold
-        && a->source.terms.own == b->source.terms.own && a->source.terms.grid == b->source.terms.grid && a->key.q == b->key.q && a->key.p == b->key.p
+        && a->source.terms.contractor == b->source.terms.contractor && a->source.terms.own == b->source.terms.own && a->source.terms.grid == b->source.terms.grid && a->key.q == b->key.q && a->key.p == b->key.p
         && a->count == b->count && a->end == b->end && memcmp(a->pairs, b->pairs, sizeof a->pairs) == 0;
 }
 
 /* a threshold: few, or anything */
 static uint32_t some_threshold(void) { return below(3) == 0 ? 0 : below(6) ? (uint32_t)below(6) : below(2) ? 59999 + (uint32_t)below(3) : wild(); }
+
+static uint32_t some_contractor(void) { return below(8) ? (uint32_t)below(3) : wild(); }
+
+/* an owner for each of so many chambers: either, or all of one */
+static void divide(size_t n) {
+    size_t way = below(8);
+    for (size_t k = 0; k < n; k++) owners[k] = (uint8_t)(way < 2 ? way : below(2));
+}
+
+/* a contractor and owner bytes, one 0 or 1 a chamber or, for 2, none; or they are spoilt */
+static uint32_t some_owners(uint32_t number) {
+    contractor = some_contractor();
+    size_t n = number && number != 29 ? below(4) : count_of(&Q);
+    divide(n + 1);
+    owners_len = contractor == 2 ? 0 : n;
+    bool bad = below(12) == 0;
+    if (bad && contractor != 2 && n && below(2)) owners[below(n)] = (uint8_t)(2 + below(254));
+    else if (bad) owners_len = owners_len && below(2) ? owners_len - 1 : owners_len + 1;
+    if (number && number != 29) return number;
+    return contractor > 2 ? 27 : bad ? 26 : number;
+}
 
 static void try_page(void) {
     uint32_t t = some_threshold();
@@ -751,25 +784,27 @@ static void try_page(void) {
     RingKey key = {0, 0};
     RingPage expected;
     uint32_t number = two_sheets_of(grid, 14, &j, &i);
+    number = some_owners(number);
     if (!number && j < count_of(&Q) && i < count_of(&P)) key.q = (uint32_t)Q.words[3 * j] + (uint32_t)below(2), key.p = (uint32_t)P.words[3 * i];
     if (below(6) == 0) key.q = wild();
     if (below(6) == 0) key.p = wild();
     if (!number) number = key.q > 2000000000 || key.p > 2000000000 ? 9 : size < 1 || size > 16 ? 10 : t > 60000 ? 21 : 0;
     number = lend(number, 1);
     if (!number) leave(1, NULL);
-    RingPaged r = ring_page(at(&P), P.len, at(&Q), Q.len, (RingRequest){key, size, t, grid}, bits(), words_len);
+    RingPaged r = ring_page(at(&P), P.len, at(&Q), Q.len, owners_len ? owners : NULL, owners_len, (RingRequest){key, size, t, contractor, grid}, bits(), words_len);
     saw(r.number), hold_saved(), hold_lent();
     HOLD(r.number == number && r.opened == (number ? 0 : page_opened(grid, key, size, t, false)));
     if (r.number) memset(&expected, 0, sizeof expected);
     else expected = page_of(grid, key, size, t);
     HOLD(same_page(&r.page, &expected));
+    contractor = 2;
 }
 
 /* the page of P's self join, by trying every two records: no other stands in their circle, or between them along the streets */
 static RingPage own_of(bool grid, RingKey key, size_t size) {
     RingPage g;
     memset(&g, 0, sizeof g);
-    g.source.p_edition = g.source.q_edition = (uint32_t)P.words[P.len - 2], g.source.terms.own = true, g.source.terms.grid = grid;
+    g.source.p_edition = g.source.q_edition = (uint32_t)P.words[P.len - 2], g.source.terms.contractor = 2, g.source.terms.own = true, g.source.terms.grid = grid;
     g.key = key, g.end = true;
     for (size_t j = 0; j < count_of(&P) && g.end; j++) {
         if ((uint32_t)P.words[3 * j] < key.q) continue;
@@ -861,10 +896,10 @@ static void try_partners(void) {
 static uint32_t some_edition(void) { return below(2) ? 1 + (uint32_t)below(1000000000) : wild(); }
 
 static void try_begin(void) {
-    RingSource s = {some_edition(), some_edition(), {some_threshold(), below(2), below(2)}}, none = {0, 0, {0, false, false}};
+    RingSource s = {some_edition(), some_edition(), {some_threshold(), some_contractor(), below(2), below(2)}}, none = {0, 0, {0, 0, false, false}};
     if (below(2)) s.q_edition = s.p_edition;
     bool ok = in(1, s.p_edition, 1000000000) && in(1, s.q_edition, 1000000000) && !(s.terms.own && s.p_edition != s.q_edition);
-    uint32_t number = !ok ? 3 : s.terms.threshold > (s.terms.own ? 0 : 60000) ? 21 : 0;
+    uint32_t number = !ok ? 3 : s.terms.threshold > (s.terms.own ? 0 : 60000) ? 21 : s.terms.contractor > 2 || (s.terms.own && s.terms.contractor != 2) ? 27 : 0;
     RingBook begun = {0, false, number ? none : s};
     RingBegun r = ring_book_begin(s);
     saw(r.number);
@@ -883,7 +918,7 @@ static size_t make_slots(RingBook *b) {
         if (room[k].q == room[k - 1].q && room[k].p <= room[k - 1].p) room[k].p = room[k - 1].p + 1;
     b->held = below(8) ? below(len + 1) : below(2) ? len + 1 + below(3) : wild_size();
     b->closed = below(9) == 0;
-    b->source.p_edition = some_edition(), b->source.q_edition = some_edition(), b->source.terms.threshold = some_threshold();
+    b->source.p_edition = some_edition(), b->source.q_edition = some_edition(), b->source.terms.threshold = some_threshold(), b->source.terms.contractor = some_contractor();
     b->source.terms.own = below(2), b->source.terms.grid = below(2);
     return len;
 }
@@ -934,6 +969,7 @@ static void spoil_page(RingPage *g) {
     case 14: g->source.terms.own = !g->source.terms.own; break;
     case 15: g->source.terms.grid = !g->source.terms.grid; break;
     case 16: g->pairs[below(3)].size = most_size(!g->source.terms.grid); break;
+    case 17: g->source.terms.contractor = some_contractor(); break;
     }
 }
 
@@ -981,11 +1017,11 @@ static void make_forms(void) {
     for (size_t k = 0; k < 24; k++) forms[k] = some_form();
 }
 
-/* the form of a pair of a list that is not divided, in a town that is no street grid */
+/* the form of a pair of a list: it says the list's contractor and profile */
 static RingForm form_of(const RingSource *s, const RingPair *v) {
     RingForm f;
     memset(&f, 0, sizeof f);
-    f.p_edition = s->p_edition, f.q_edition = s->q_edition, f.own = s->terms.own, f.contractor = 2, f.grid = s->terms.grid, f.q = v->q, f.p = v->p, f.size = v->size;
+    f.p_edition = s->p_edition, f.q_edition = s->q_edition, f.own = s->terms.own, f.contractor = s->terms.contractor, f.grid = s->terms.grid, f.q = v->q, f.p = v->p, f.size = v->size;
     return f;
 }
 
@@ -1062,6 +1098,141 @@ static void try_deliveries(void) {
         for (size_t k = 0; k < many; k++) HOLD(same_form(held + k, list + k) && held[k].size == list[k].size);
         if (below(9) == 0 && len < 60) len += below(4);
     }
+}
+
+/* ---- two contractors: a book for each and an undivided one, each fed by its own pages and refused the others', and the forms of all three to one depot */
+
+/* the pairs of the contractor's list of t, by trying every pair; how many */
+static size_t list_of(bool grid, uint32_t t, RingPair *pairs) {
+    size_t count = 0;
+    for (size_t j = 0; j < count_of(&Q); j++)
+        for (size_t i = 0; i < count_of(&P); i++)
+            if (is_mine(j) && is_pair_by(grid, j, i) && partners_by(grid, j) >= t) pairs[count++] = size_by(grid, Q.words + 3 * j, P.words + 3 * i);
+    return count;
+}
+
+static RingPaged page_for(uint32_t whose, RingKey key, size_t size, uint32_t t, bool grid) {
+    lend_words(words_for(count_of(&P))), leave(1, NULL);
+    RingPaged r = ring_page(P.words, P.len, Q.words, Q.len, whose == 2 ? NULL : owners, whose == 2 ? 0 : count_of(&Q), (RingRequest){key, size, t, whose, grid}, bits(), words_len);
+    saw(r.number), hold_saved(), hold_lent();
+    HOLD(r.number == 0 && r.page.source.terms.contractor == whose);
+    return r;
+}
+
+/* the contractor's book, followed to its end: a page of another's is refused by 28, and changes nothing */
+static RingBook book_for(RingPair *pairs, size_t len, uint32_t t, bool grid) {
+    RingBegun b = ring_book_begin((RingSource){(uint32_t)P.words[P.len - 2], (uint32_t)Q.words[Q.len - 2], {t, contractor, false, grid}});
+    saw(b.number);
+    HOLD(b.number == 0);
+    for (int turn = 0; turn < 400 && !b.book.closed; turn++) {
+        RingNext next = ring_book_next_key(b.book, pairs, len);
+        uint32_t whose = below(3) ? contractor : (contractor + 1 + (uint32_t)below(2)) % 3;
+        RingTaken r = ring_book_take(b.book, pairs, len, page_for(whose, next.key, 1 + below(16), t, grid).page);
+        saw(next.number), saw(r.number);
+        HOLD(next.number == 0 && r.number == (whose == contractor ? 0 : 28));
+        if (r.number) HOLD(same_book(r.book, b.book));
+        b.book = r.book;
+    }
+    return b.book;
+}
+
+static void try_contractors(void) {
+    static RingPair pairs[64], due[64];
+    static RingForm made[64], held[3 * 64];
+    bool grid = below(2);
+    uint32_t t = below(2) ? 0 : 1 + (uint32_t)below(3);
+    size_t total[3], many = 0;
+    RingDepot d = ring_depot_begin();
+    make_narrow(&P, below(9)), make_narrow(&Q, below(9)), save();
+    divide(count_of(&Q));
+    for (contractor = 0; contractor < 3; contractor++) {
+        RingBook b = book_for(pairs, 64, t, grid);
+        size_t count = total[contractor] = list_of(grid, t, due);
+        HOLD(b.closed && b.held == count && memcmp(pairs, due, count * sizeof due[0]) == 0);
+        RingMade m = ring_forms(b, pairs, 64, made, 64);
+        saw(m.number);
+        HOLD(m.number == 0 && m.count == count);
+        for (size_t k = 0; k < 2 * count; k++) {
+            RingForm f = form_of(&b.source, due + k % count);
+            HOLD(same_form(made + k % count, &f) && made[k % count].size == f.size && f.contractor == contractor);
+            RingStored r = ring_depot_take(d, held, 3 * 64, made[k % count]);
+            saw(r.number);
+            HOLD(r.number == 0 && r.issued == (k < count));
+            d = r.depot, many += k < count;
+        }
+        HOLD(d.held == many);
+    }
+    HOLD(total[0] + total[1] == total[2]);
+    contractor = 2;
+}
+
+/* ---- the blind test: two runs that differ in the ids of the other's chambers alone, both sheets packed anew. What a contractor is handed, the page or the number, is the same, and so
+   are the lent words. The nodes opened are not handed on */
+
+static int32_t second_rooms[2][MOST], renamed[3 * MANY];
+static Sheet second_p = {second_rooms[0], NULL, 0}, second_q = {second_rooms[1], NULL, 0};
+static uint8_t moved[MANY];
+static unsigned long blind_named, blind_moved;
+
+static int32_t some_id(void) { return below(3) == 0 ? 1 + (int32_t)below(60) : below(2) ? 2000000000 - (int32_t)below(60) : 1 + (int32_t)below(2000000000); }
+
+static size_t with_id(const int32_t *points, size_t n, uint32_t id) {
+    size_t k = 0;
+    while (k < n && (uint32_t)points[3 * k] != id) k++;
+    return k;
+}
+
+/* the chambers with new ids for those that are not the contractor's, by their ids, each with its place and its owner */
+static void rename_others(void) {
+    size_t n = count_of(&Q);
+    memcpy(renamed, Q.words, 3 * n * sizeof renamed[0]), memcpy(moved, owners, n);
+    for (size_t k = 0; k < n; k++) {
+        int32_t id = some_id();
+        while (with_id(renamed, n, (uint32_t)id) < n) id = some_id();
+        if (owners[k] != contractor) renamed[3 * k] = id;
+    }
+    for (size_t k = 1; k < n; k++)
+        for (size_t h = k; h && renamed[3 * h] < renamed[3 * h - 3]; h--) {
+            int32_t record[3];
+            uint8_t owner = moved[h];
+            memcpy(record, renamed + 3 * h, sizeof record), memcpy(renamed + 3 * h, renamed + 3 * h - 3, sizeof record), memcpy(renamed + 3 * h - 3, record, sizeof record);
+            moved[h] = moved[h - 1], moved[h - 1] = owner;
+        }
+}
+
+/* a sheet of the form and edition of another, of these points, in an order of its own */
+static void pack_anew(Sheet *s, const Sheet *old, const int32_t *points) {
+    size_t n = count_of(old);
+    s->len = length_for(n);
+    make_order(points, some_order, n);
+    HOLD(ring_pack((uint32_t)old->words[old->len - 1], n, points, 3 * n, some_order, n, (uint32_t)old->words[old->len - 2], s->words, s->len) == 0);
+}
+
+static void try_blind(void) {
+    static uint64_t words_before[16 * 938 + 40 + 2 * PAST];
+    size_t j, i, size = below(12) ? 1 + below(16) : below(2) ? 0 : 17;
+    bool grid = below(2);
+    uint32_t number = two_sheets_of(grid, 14, &j, &i), t = some_threshold();
+    RingKey key = {below(4) ? 0 : wild(), below(4) ? 0 : wild()};
+    if (number && number != 29) return;
+    size_t n = count_of(&Q);
+    contractor = (uint32_t)below(2);
+    divide(n), owners_len = n;
+    if (n && below(20) == 0) owners[below(n)] = 2;
+    rename_others(), pack_anew(&second_q, &Q, renamed), pack_anew(&second_p, &P, P.words);
+    if (n && below(2)) key.q = (uint32_t)(below(3) ? Q.words : renamed)[3 * below(n)] + (uint32_t)(below(4) == 0);
+    if (count_of(&P) && below(2)) key.p = (uint32_t)P.words[3 * below(count_of(&P))];
+    RingRequest request = {key, size, t, contractor, grid};
+    lend(0, 1);
+    memcpy(words_before, words, sizeof words);
+    RingPaged one = ring_page(at(&P), P.len, at(&Q), Q.len, n ? owners : NULL, n, request, bits(), words_len);
+    memcpy(words_due, words, sizeof words), memcpy(words, words_before, sizeof words);
+    RingPaged two = ring_page(at(&second_p), second_p.len, at(&second_q), second_q.len, n ? moved : NULL, n, request, bits(), words_len);
+    saw(one.number), saw(two.number), hold_saved(), hold_lent();
+    HOLD(one.number == two.number && same_page(&one.page, &two.page));
+    size_t k = with_id(Q.words, n, key.q);
+    blind_named += !one.number && k < n && !is_mine(k), blind_moved += memcmp(owners, moved, n) != 0;
+    contractor = 2;
 }
 
 static int32_t some_coordinate(void) { return below(4) ? between(-1000000000, 1000000000) : below(2) ? 1000000000 * between(-1, 1) : (int32_t)wild(); }
@@ -1289,7 +1460,7 @@ static void province_page(RingKey key, size_t size, bool own, size_t len) {
         lend_words(len);
         if (!number) leave(1, NULL), expected = own ? own_of(false, key, size) : page_of(false, key, size, 0);
         RingPaged r = own ? ring_own_page(P.words, P.len, key, size, grid, bits(), len)
-                          : ring_page(P.words, P.len, Q.words, Q.len, (RingRequest){key, size, 0, grid}, bits(), len);
+                          : ring_page(P.words, P.len, Q.words, Q.len, NULL, 0, (RingRequest){key, size, 0, 2, grid}, bits(), len);
         saw(r.number), hold_saved(), hold_lent();
         HOLD(r.number == number && r.opened == (number ? 0 : page_opened(false, key, size, 0, own)));
         HOLD(same_page(&r.page, &expected));
@@ -1410,9 +1581,9 @@ static void try_barren(void) {
     save();
     for (int grid = 0; grid < 2; grid++) {
         lend_words(3), leave(1, NULL);
-        RingPaged r = ring_page(P.words, P.len, Q.words, Q.len, (RingRequest){start, 16, 0, grid}, bits(), 3);
-        RingBegun b = ring_book_begin((RingSource){7, 9, {0, false, grid}});
-        RingTaken other = ring_book_take((RingBook){0, false, {7, 9, {0, false, !grid}}}, room, 1, r.page), t = ring_book_take(b.book, room, 1, r.page);
+        RingPaged r = ring_page(P.words, P.len, Q.words, Q.len, NULL, 0, (RingRequest){start, 16, 0, 2, grid}, bits(), 3);
+        RingBegun b = ring_book_begin((RingSource){7, 9, {0, 2, false, grid}});
+        RingTaken other = ring_book_take((RingBook){0, false, {7, 9, {0, 2, false, !grid}}}, room, 1, r.page), t = ring_book_take(b.book, room, 1, r.page);
         saw(r.number), saw(b.number), saw(other.number), saw(t.number), hold_saved(), hold_lent();
         HOLD(r.number == 0 && r.page.end && r.page.count == (grid ? 0 : 1) && r.page.source.terms.grid == grid);
         HOLD(b.number == 0 && other.number == 30 && t.number == 0 && t.book.closed && t.book.held == r.page.count && t.book.source.terms.grid == grid);
@@ -1428,7 +1599,9 @@ int main(void) {
     for (size_t k = 0; k < exports; k++)
         for (int i = 0; i < TIMES; i++) tries[k]();
     try_barren();
-    for (int i = 0; i < TIMES / 10; i++) try_deliveries();
+    for (int i = 0; i < TIMES / 10; i++) try_deliveries(), try_contractors();
+    for (int i = 0; i < TIMES; i++) try_blind();
+    HOLD(blind_named && blind_moved);
     try_provinces();
     unsigned long unseen = 0, unnamed = 0;
     for (int k = 0; k <= LAST; k++) unseen += A_NUMBER(k) && seen[k] == 0;

@@ -1,7 +1,11 @@
-// Histories of a depot, played through `forms` and `take` on slices of many lengths: forms of three books lost, repeated and reordered, in depots that are full or lent too few slots,
+// Histories of a depot, played through `forms` and `take` on slices of many lengths: forms of six books lost, repeated and reordered, in depots that are full or lent too few slots,
 // forms that differ in one part of the key or in the size alone, and two faults together. After each call the outcome, the state and every slot are held to a plain list and to a
 // second reading of the rules.
 use book::Book;
+use chance::drawn;
+use chance::line;
+use chance::mixed;
+use chance::one_more;
 use depot::Depot;
 use depot::Form;
 use depot::Outcome;
@@ -13,6 +17,9 @@ const HISTORIES: u64 = 500;
 
 const CALLS: u64 = 60;
 
+// The books of a history.
+const BOOKS: usize = 6;
+
 // How often each outcome was answered, how many forms were made and how often making was refused, and how many calls went otherwise than they should.
 struct Tally {
     issued: u64,
@@ -23,11 +30,8 @@ struct Tally {
     wrong: u64,
 }
 
-// One history: the forms of three books, the slots and how many are lent, the depot, the plain list beside it, and the generator's state.
+// One history: how many pairs each book holds, the slots and how many are lent, the depot, the plain list beside it, and the generator's state.
 struct Game {
-    first: [Form; 64],
-    other: [Form; 64],
-    least: [Form; 64],
     n: usize,
     slots: [Form; 64],
     len: usize,
@@ -36,26 +40,6 @@ struct Game {
     many: usize,
     seed: u64,
     tally: Tally,
-}
-
-// ---- numbers drawn
-
-fn mixed(x: u64) -> u64 {
-    let a = x ^ (x << 13);
-    let b = a ^ (a >> 7);
-    b ^ (b << 17)
-}
-
-// A number below n, 0 where n is 0.
-fn drawn(seed: u64, n: usize) -> usize {
-    if n == 0 {
-        return 0;
-    }
-    (seed >> 11) as usize % n
-}
-
-fn one_more(n: u64) -> u64 {
-    std::num::wrapping_add_u64(n, 1)
 }
 
 // ---- the books' pairs
@@ -147,25 +131,12 @@ fn has_key(l: [Form; 64], many: usize, f: Form) -> bool {
     found
 }
 
-// Whether the first forms are those of the plain list.
-fn is_plain(slots: [Form; 64], l: [Form; 64], many: usize) -> bool {
+// Whether two rows of forms are the same from `from` up to `to`.
+fn is_same(old: [Form; 64], new: [Form; 64], from: usize, to: usize) -> bool {
     let mut good = true;
     let mut i: usize = 0;
     while i < 64 {
-        if i < many {
-            good = good & is_form(slots[i], l[i]);
-        }
-        i += 1;
-    }
-    good
-}
-
-// Whether every form from `from` on is as it was.
-fn is_kept(old: [Form; 64], new: [Form; 64], from: usize) -> bool {
-    let mut good = true;
-    let mut i: usize = 0;
-    while i < 64 {
-        if from <= i {
+        if (from <= i) & (i < to) {
             good = good & is_form(old[i], new[i]);
         }
         i += 1;
@@ -179,6 +150,8 @@ fn is_made(f: Form, s: Source, v: Pair) -> bool {
     (f.p_edition == s.p_edition)
         & (f.q_edition == s.q_edition)
         & !(f.own ^ s.terms.own)
+        & (f.contractor == s.terms.contractor)
+        & !(f.grid ^ s.terms.grid)
         & (f.q == v.q)
         & (f.p == v.p)
         & (f.size == v.size)
@@ -236,7 +209,7 @@ fn made_forms(b: Book, pairs: [Pair; 64], len: usize, room: usize, tally: Tally)
     let good = (m.number == number)
         & (m.count == count)
         & are_made(after, source, pairs, count)
-        & is_kept(out, after, count);
+        & is_same(out, after, count, 64);
     with_made(tally, m.number, good)
 }
 
@@ -246,20 +219,82 @@ fn forms_of(b: Book, pairs: [Pair; 64]) -> [Form; 64] {
     r.out
 }
 
-fn book_of(held: usize, closed: bool, q_edition: u32, own: bool, threshold: u32) -> Book {
+// ---- the books
+
+fn contractor_of(way: usize) -> u32 {
+    if way == 3 {
+        return 0;
+    }
+    if way == 4 {
+        return 1;
+    }
+    2
+}
+
+// The books by number: 0 undivided, 1 a self join, 2 undivided with a threshold, 3 and 4 a contractor's each, 5 undivided along the streets. All but the self join hold the same pairs
+// of the same editions: the keys of 0, 3 and 4 differ in the contractor alone, those of 0 and 5 in the profile alone, and those of 0 and 2 are the same.
+fn book_of(way: usize, held: usize, closed: bool) -> Book {
+    let own = way == 1;
     Book {
         held: held,
         closed: closed,
         source: Source {
             p_edition: 7,
-            q_edition: q_edition,
+            q_edition: if own { 7 } else { 9 },
             terms: Terms {
-                threshold: threshold,
+                threshold: if way == 2 { 3 } else { 0 },
+                contractor: contractor_of(way),
                 own: own,
-                grid: false,
+                grid: way == 5,
             },
         },
     }
+}
+
+fn pairs_of(way: usize) -> [Pair; 64] {
+    if way == 1 {
+        return made_pairs(2);
+    }
+    made_pairs(4)
+}
+
+// How many slots or places are lent to a book that holds n: just as many, all, or any number.
+fn some_len(n: usize, seed: u64) -> usize {
+    let way = drawn(seed, 3);
+    if way == 0 {
+        return n;
+    }
+    if way == 1 {
+        return 64;
+    }
+    drawn(mixed(seed), 65)
+}
+
+// The forms of one of the books, of up to 30 pairs.
+fn made_some(way: usize, seed: u64, tally: Tally) -> Tally {
+    let a = mixed(seed);
+    let b = mixed(a);
+    let n = std::num::wrapping_add_usize(drawn(seed, 30), 1);
+    made_forms(
+        book_of(way, n, drawn(b, 2) == 0),
+        pairs_of(way),
+        some_len(n, a),
+        some_len(n, b),
+        tally,
+    )
+}
+
+// The forms of each of the books.
+fn all_made(seed: u64, tally: Tally) -> Tally {
+    let mut t = tally;
+    let mut x = seed;
+    let mut way: usize = 0;
+    while way < BOOKS {
+        x = mixed(x);
+        t = made_some(way, x, t);
+        way += 1;
+    }
+    t
 }
 
 // ---- a form handed in
@@ -335,16 +370,10 @@ fn called(g: Game, lent: usize, f: Form) -> Game {
     }
     let good = (told == due)
         & (e.held == more)
-        & is_plain(after, list, more)
-        & is_kept(slots, after, more);
+        & is_same(after, list, 0, more)
+        & is_same(slots, after, more, 64);
     let tally = counted(g.tally, told, good);
-    let first = g.first;
-    let other = g.other;
-    let least = g.least;
     Game {
-        first: first,
-        other: other,
-        least: least,
         n: g.n,
         slots: after,
         len: g.len,
@@ -358,23 +387,15 @@ fn called(g: Game, lent: usize, f: Form) -> Game {
 
 // ---- forms of each kind
 
-// One of the forms of the three books: of the first, of the self join, or of the first with a t.
+// One of the forms of the books.
 fn some_form(g: Game) -> Form {
-    let first = g.first;
-    let other = g.other;
-    let least = g.least;
     let i = drawn(g.seed, g.n);
-    let way = drawn(mixed(g.seed), 3);
+    let way = drawn(mixed(g.seed), BOOKS);
+    let forms = forms_of(book_of(way, g.n, true), pairs_of(way));
     if 64 <= i {
         return blank();
     }
-    if way == 0 {
-        return first[i];
-    }
-    if way == 1 {
-        return other[i];
-    }
-    least[i]
+    forms[i]
 }
 
 // The form with one part of its key other, or its size.
@@ -470,26 +491,13 @@ fn stepped(g: Game) -> Game {
 // ---- a history
 
 fn opened(seed: u64, tally: Tally) -> Game {
-    let n = std::num::wrapping_add_usize(drawn(seed, 30), 1);
-    let pairs = made_pairs(4);
-    let few = made_pairs(2);
-    let open = drawn(seed, 2) == 0;
-    let a = book_of(n, !open, 9, false, 0);
-    let b = book_of(n, true, 7, true, 0);
-    let c = book_of(n, true, 9, false, 3);
-    let t0 = made_forms(a, pairs, 64, drawn(mixed(seed), 65), tally);
-    let t1 = made_forms(b, few, drawn(mixed(mixed(seed)), 65), drawn(seed, 65), t0);
-    let t2 = made_forms(c, pairs, n, n, t1);
     let d = Depot::begin();
-    let mut t = t2;
+    let mut t = all_made(seed, tally);
     if d.held != 0 {
         t.wrong = one_more(t.wrong);
     }
     Game {
-        first: forms_of(a, pairs),
-        other: forms_of(b, few),
-        least: forms_of(c, pairs),
-        n: n,
+        n: std::num::wrapping_add_usize(drawn(seed, 12), 1),
         slots: [blank(); 64],
         len: drawn(mixed(seed), 49),
         depot: d,
@@ -511,13 +519,6 @@ fn played(seed: u64, tally: Tally) -> Game {
 }
 
 // ---- what is written
-
-fn line(name: &[u8], n: u64) {
-    io::write_all(libc::STDOUT_FILENO, name);
-    io::write_all(libc::STDOUT_FILENO, b" ");
-    io::print_decimal(libc::STDOUT_FILENO, n);
-    io::write_all(libc::STDOUT_FILENO, b"\n");
-}
 
 // All that was counted.
 fn report(t: Tally) {

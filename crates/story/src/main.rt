@@ -1,8 +1,12 @@
-// Histories of a book of either profile, played through `take` and `next_key` on slices of many lengths: pages early, late, repeated, of another kind, profile, edition, threshold and key, and
-// broken by hand. After each call the number, the state, every slot and the next key are held to a plain list and to a second reading of the rules.
+// Histories of a book of either profile, of a contractor or undivided, played through `take` and `next_key` on slices of many lengths: pages early, late, repeated, of another kind,
+// contractor, profile, edition, threshold and key, and broken by hand. After each call the number, the state, every slot and the next key are held to a plain list and to a second reading of the rules.
 use book::Begun;
 use book::Book;
 use book::Next;
+use chance::drawn;
+use chance::line;
+use chance::mixed;
+use chance::one_more;
 use list::Key;
 use list::Page;
 use list::Pair;
@@ -33,23 +37,27 @@ struct Game {
     tally: Tally,
 }
 
-// ---- numbers drawn
-
-fn mixed(x: u64) -> u64 {
-    let a = x ^ (x << 13);
-    let b = a ^ (a >> 7);
-    b ^ (b << 17)
-}
-
-// A number below n, 0 where n is 0.
-fn drawn(seed: u64, n: usize) -> usize {
-    if n == 0 {
-        return 0;
-    }
-    (seed >> 11) as usize % n
-}
-
 // ---- the list and its pages
+
+fn source_of(
+    p_edition: u32,
+    q_edition: u32,
+    threshold: u32,
+    contractor: u32,
+    own: bool,
+    grid: bool,
+) -> Source {
+    Source {
+        p_edition: p_edition,
+        q_edition: q_edition,
+        terms: Terms {
+            threshold: threshold,
+            contractor: contractor,
+            own: own,
+            grid: grid,
+        },
+    }
+}
 
 // The largest size of a pair of the circle, and of the street grid.
 fn most_of(grid: bool) -> u64 {
@@ -197,8 +205,16 @@ fn is_profile(a: Source, b: Source) -> bool {
     !(a.terms.grid ^ b.terms.grid)
 }
 
+fn is_contractor(a: Source, b: Source) -> bool {
+    a.terms.contractor == b.terms.contractor
+}
+
 fn is_source(a: Source, b: Source) -> bool {
-    is_kind(a, b) & is_profile(a, b) & is_edition(a, b) & (a.terms.threshold == b.terms.threshold)
+    is_kind(a, b)
+        & is_contractor(a, b)
+        & is_profile(a, b)
+        & is_edition(a, b)
+        & (a.terms.threshold == b.terms.threshold)
 }
 
 // The number of refusal, read from the rules a second time.
@@ -215,6 +231,9 @@ fn expected(b: Book, len: usize, last: Key, g: Page) -> u32 {
     }
     if !is_kind(own, other) {
         return 22;
+    }
+    if !is_contractor(own, other) {
+        return 28;
     }
     if !is_profile(own, other) {
         return 30;
@@ -243,25 +262,12 @@ fn is_pair(a: Pair, b: Pair) -> bool {
     (a.q == b.q) & (a.p == b.p) & (a.size == b.size)
 }
 
-// Whether the first `held` slots are the list's first pairs.
-fn is_prefix(slots: [Pair; 64], l: [Pair; 64], held: usize) -> bool {
+// Whether two rows of slots are the same from `from` up to `to`.
+fn is_same(old: [Pair; 64], new: [Pair; 64], from: usize, to: usize) -> bool {
     let mut good = true;
     let mut i: usize = 0;
     while i < 64 {
-        if i < held {
-            good = good & is_pair(slots[i], l[i]);
-        }
-        i += 1;
-    }
-    good
-}
-
-// Whether every slot but those from `from` up to `to` is as it was.
-fn is_kept(old: [Pair; 64], new: [Pair; 64], from: usize, to: usize) -> bool {
-    let mut good = true;
-    let mut i: usize = 0;
-    while i < 64 {
-        if (i < from) | (to <= i) {
+        if (from <= i) & (i < to) {
             good = good & is_pair(old[i], new[i]);
         }
         i += 1;
@@ -307,16 +313,16 @@ fn counted(t: Tally, number: u32, good: bool, closes: bool, full: bool) -> Tally
     let mut u = t;
     let i = number as usize;
     if i < 32 {
-        u.counts[i] = std::num::wrapping_add_u64(u.counts[i], 1);
+        u.counts[i] = one_more(u.counts[i]);
     }
     if !good {
-        u.wrong = std::num::wrapping_add_u64(u.wrong, 1);
+        u.wrong = one_more(u.wrong);
     }
     if closes {
-        u.closed = std::num::wrapping_add_u64(u.closed, 1);
+        u.closed = one_more(u.closed);
     }
     if closes & full {
-        u.full = std::num::wrapping_add_u64(u.full, 1);
+        u.full = one_more(u.full);
     }
     u
 }
@@ -332,8 +338,9 @@ fn called(g: Game, lent: usize, page: Page) -> Game {
     let after = r.slots;
     let c = t.book;
     let told = (t.number == number) & is_on(b, c, number, page);
-    let stands = is_kept(slots, after, b.held, c.held) & is_prefix(after, l, c.held);
-    let good = told & stands & is_next(after, lent, c);
+    let kept = is_same(slots, after, 0, b.held) & is_same(slots, after, c.held, 64);
+    let stands = is_same(after, l, 0, c.held);
+    let good = told & kept & stands & is_next(after, lent, c);
     let tally = counted(
         g.tally,
         t.number,
@@ -386,89 +393,45 @@ fn other_page(g: Game) -> Page {
     )
 }
 
-fn of_others(g: Page) -> Page {
-    let mut h = g;
-    let others = Source {
-        p_edition: 8,
-        q_edition: 9,
-        terms: Terms {
-            threshold: 1,
-            own: g.source.terms.own,
-            grid: g.source.terms.grid,
-        },
-    };
-    h.source = others;
-    h
+// One of the other two of 0, 1 and 2: the next, or the one after it.
+fn another(contractor: u32, step: u32) -> u32 {
+    (contractor % 3 + step % 3) % 3
 }
 
-// A page of the other kind, of other editions, and of either profile.
-fn of_kind(g: Page, grid: bool) -> Page {
-    let mut h = g;
-    let source = g.source;
-    let other = Source {
-        p_edition: 8,
-        q_edition: 8,
-        terms: Terms {
-            threshold: 0,
-            own: !source.terms.own,
-            grid: grid,
-        },
-    };
-    h.source = other;
-    h
-}
-
-// A page of the other profile, and of this P's edition.
-fn of_profile(g: Page, p_edition: u32) -> Page {
-    let mut h = g;
-    let source = g.source;
-    let other = Source {
-        p_edition: p_edition,
-        q_edition: 9,
-        terms: Terms {
-            threshold: source.terms.threshold,
-            own: source.terms.own,
-            grid: !source.terms.grid,
-        },
-    };
-    h.source = other;
-    h
-}
-
-// A page of the same editions, and of a threshold that no book here has.
-fn of_another(g: Page) -> Page {
-    let mut h = g;
-    let another = Source {
-        p_edition: 7,
-        q_edition: 9,
-        terms: Terms {
-            threshold: 3,
-            own: g.source.terms.own,
-            grid: g.source.terms.grid,
-        },
-    };
-    h.source = another;
-    h
-}
-
-// A page of another list, in one of seven ways.
-fn of_other_list(g: Page, way: usize) -> Page {
+// Another list, in one of eight ways: of the other kind, also with the rest other; of another contractor, alone and with another profile and edition; of the other profile, alone and
+// with another edition; of another edition and threshold; of a threshold that no book here has.
+fn other_source(s: Source, way: usize) -> Source {
+    let t = s.terms;
+    let c = t.contractor;
     if way == 0 {
-        return of_kind(g, false);
+        return source_of(8, 8, 0, another(c, 1), !t.own, !t.grid);
     }
     if way == 1 {
-        return of_kind(g, true);
+        return source_of(8, 8, 0, 2, !t.own, t.grid);
     }
     if way == 2 {
-        return of_profile(g, 7);
+        return source_of(7, 9, t.threshold, another(c, 1), t.own, t.grid);
     }
     if way == 3 {
-        return of_profile(g, 8);
+        return source_of(8, 9, t.threshold, another(c, 2), t.own, !t.grid);
     }
     if way == 4 {
-        return of_others(g);
+        return source_of(7, 9, t.threshold, c, t.own, !t.grid);
     }
-    of_another(g)
+    if way == 5 {
+        return source_of(8, 9, t.threshold, c, t.own, !t.grid);
+    }
+    if way == 6 {
+        return source_of(8, 9, 1, c, t.own, t.grid);
+    }
+    source_of(7, 9, 3, c, t.own, t.grid)
+}
+
+fn of_other_list(g: Page, way: usize) -> Page {
+    let mut h = g;
+    let other = other_source(g.source, way);
+    h.source = other;
+    h
 }
 
 // A page that shows pairs and hides the end mark.
@@ -615,63 +578,31 @@ fn some_threshold(seed: u64) -> u32 {
     60000
 }
 
+// Whether a book is begun of a self join that is undivided, and the first number that applies is given else: 3, then 21, then 27.
+fn is_begin(grid: bool) -> bool {
+    let whole = source_of(7, 7, 0, 2, true, grid);
+    is_book(begun(whole), 0, false, whole)
+        & is_refused(source_of(1000000001, 9, 60001, 3, false, grid), 3)
+        & is_refused(source_of(7, 9, 60001, 3, false, grid), 21)
+        & is_refused(source_of(7, 9, 0, 3, false, grid), 27)
+        & is_refused(source_of(7, 9, 1, 0, true, grid), 3)
+        & is_refused(source_of(7, 7, 1, 0, true, grid), 21)
+        & is_refused(source_of(7, 7, 0, 0, true, grid), 27)
+        & is_refused(source_of(7, 7, 0, 1, true, grid), 27)
+        & is_refused(source_of(7, 7, 0, 3, true, grid), 27)
+}
+
 fn opened(seed: u64, tally: Tally) -> Game {
     let n = drawn(seed, 61);
     let grid = drawn(mixed(seed) >> 9, 2) == 1;
-    let source = Source {
-        p_edition: 7,
-        q_edition: 9,
-        terms: Terms {
-            threshold: some_threshold(mixed(seed)),
-            own: false,
-            grid: grid,
-        },
-    };
+    let threshold = some_threshold(mixed(seed));
+    let contractor = drawn(mixed(seed) >> 5, 3) as u32;
+    let source = source_of(7, 9, threshold, contractor, false, grid);
     let b = begun(source);
-    let none = Source {
-        p_edition: 1000000001,
-        q_edition: 9,
-        terms: Terms {
-            threshold: 60001,
-            own: false,
-            grid: grid,
-        },
-    };
-    let over = Source {
-        p_edition: 7,
-        q_edition: 9,
-        terms: Terms {
-            threshold: 60001,
-            own: false,
-            grid: grid,
-        },
-    };
-    let two = Source {
-        p_edition: 7,
-        q_edition: 9,
-        terms: Terms {
-            threshold: 1,
-            own: true,
-            grid: grid,
-        },
-    };
-    let least = Source {
-        p_edition: 7,
-        q_edition: 7,
-        terms: Terms {
-            threshold: 1,
-            own: true,
-            grid: grid,
-        },
-    };
-    let good = is_book(b, 0, false, source)
-        & is_refused(none, 3)
-        & is_refused(over, 21)
-        & is_refused(two, 3)
-        & is_refused(least, 21);
+    let good = is_book(b, 0, false, source) & is_begin(grid);
     let mut t = tally;
     if !good {
-        t.wrong = std::num::wrapping_add_u64(t.wrong, 1);
+        t.wrong = one_more(t.wrong);
     }
     Game {
         list: made_list(n, 4, grid),
@@ -701,13 +632,6 @@ fn played(seed: u64, tally: Tally) -> Game {
 
 // ---- what is written
 
-fn line(name: &[u8], n: u64) {
-    io::write_all(libc::STDOUT_FILENO, name);
-    io::write_all(libc::STDOUT_FILENO, b" ");
-    io::print_decimal(libc::STDOUT_FILENO, n);
-    io::write_all(libc::STDOUT_FILENO, b"\n");
-}
-
 // All that was counted.
 fn report(t: Tally) {
     line(b"histories", HISTORIES);
@@ -715,6 +639,7 @@ fn report(t: Tally) {
     line(b"refused 11", t.counts[11]);
     line(b"refused 12", t.counts[12]);
     line(b"refused 22", t.counts[22]);
+    line(b"refused 28", t.counts[28]);
     line(b"refused 30", t.counts[30]);
     line(b"refused 13", t.counts[13]);
     line(b"refused 31", t.counts[31]);

@@ -92,6 +92,22 @@ pub fn next_mark() -> bool {
     next_count() > 0
 }
 
+// The next word as a byte, 255 for one beyond.
+fn next_byte() -> u8 {
+    next_up_to(255) as u8
+}
+
+// The next n words go to the first n places of `out`, as bytes.
+pub fn fill_bytes(out: &mut [u8], n: usize)
+    requires { ⌜ n ≤ length (now out) ⌝ }
+{
+    let mut i = 0;
+    while i < n {
+        out[i] = next_byte();
+        i += 1;
+    }
+}
+
 // The next n words go to the first n places of `out`. The others stay as they were.
 pub fn fill(out: &mut [i32], n: usize)
     requires { ⌜ n ≤ length (now out) ⌝ }

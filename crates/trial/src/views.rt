@@ -55,6 +55,8 @@ fn show_walk(w: Walked) {
 
 fn show_pairs(g: Page) {
     say::number(g.count as u64);
+    say::say(b" of");
+    say::number(g.source.terms.contractor as u64);
     if g.source.terms.grid {
         say::say(b" grid");
     }
@@ -163,10 +165,11 @@ fn page_through(
     q: &[i32],
     nq: usize,
     mq: usize,
+    owners: &[u8],
     request: Request,
     bits: &mut [u64],
 ) -> Paged
-    ensures { λ r. ⌜ (r ≡ pageAnswer (now (p .entry)) (now (q .entry)) request (length (now (bits .entry)))) × (now (bits .exit) ≡ pageBits (now (p .entry)) (now (q .entry)) request (now (bits .entry))) ⌝ }
+    ensures { λ r. ⌜ (r ≡ pageAnswer (now (p .entry)) (now (q .entry)) (now (owners .entry)) request (length (now (bits .entry)))) × (now (bits .exit) ≡ pageBits (now (p .entry)) (now (q .entry)) (now (owners .entry)) request (now (bits .entry))) ⌝ }
 {
     view::page_at(
         Sheet {
@@ -179,6 +182,7 @@ fn page_through(
             n: nq,
             m: mq,
         },
+        owners,
         request,
         bits,
     )
@@ -246,6 +250,33 @@ fn ask_short(
     show_waiting(waiting);
 }
 
+// A page from a key: its contractor, how many owner bytes there are, and these.
+fn ask_page(
+    p: &[i32],
+    np: usize,
+    mp: usize,
+    q: &[i32],
+    nq: usize,
+    mq: usize,
+    key: Key,
+    size: usize,
+    grid: bool,
+    bits: &mut [u64],
+) {
+    let contractor = tape::next_id();
+    let n = tape::next_up_to(crate::pages::OWNERS);
+    let mut owners = [0u8; crate::pages::OWNERS];
+    tape::fill_bytes(&mut owners, n);
+    let request = Request {
+        key: key,
+        size: size,
+        threshold: 0,
+        contractor: contractor,
+        grid: grid,
+    };
+    show_page(page_through(p, np, mp, q, nq, mq, &owners[..n], request, bits));
+}
+
 // Which call, the counts that the views of P and of Q claim, two positions or ids, a size, and a profile. A call that does not take one of these reads it all the same.
 pub fn view_case(p: &[i32], q: &[i32], bits: &mut [u64]) {
     let call = tape::next_count();
@@ -269,13 +300,7 @@ pub fn view_case(p: &[i32], q: &[i32], bits: &mut [u64]) {
         show_walk(ring_walk_through(p, np, mp, q, nq, mq, a as usize, b as usize, grid));
     } else if call == 6 {
         let key = Key { q: a, p: b };
-        let request = Request {
-            key: key,
-            size: size,
-            threshold: 0,
-            grid: grid,
-        };
-        show_page(page_through(p, np, mp, q, nq, mq, request, bits));
+        ask_page(p, np, mp, q, nq, mq, key, size, grid, bits);
     } else if call == 7 {
         ask_near(p, np, mp, q, nq, mq, a, size);
     } else {

@@ -5,10 +5,10 @@ use Rattle.compare.proofs.all_large.Statement.{statement}
 use Rattle.compare.proofs.all_large.Tie as tie
 
 abbrev Inv-loop : tie.InvT-loop
-Inv-loop grid seed u₀ x₀ k₀ u x k = k ≤ 7
+Inv-loop kinds seed u₀ x₀ k₀ u x k = k ≤ 7
 
 abbrev μ-loop : tie.MeasureT-loop
-μ-loop grid seed u₀ x₀ k₀ u x k = 7 - k
+μ-loop kinds seed u₀ x₀ k₀ u x k = 7 - k
 
 loop-holds : tie.Need-loop-holds Inv-loop μ-loop
 loop-holds c = search needs

@@ -26,8 +26,8 @@ slice-aggregate-packed-2 c = search needs
 packed-requires-2 : tie.Need-packed-requires-2
 packed-requires-2 c κs = search needs
 
-wrapping-add-u64-requires : tie.Need-wrapping-add-u64-requires
-wrapping-add-u64-requires c κs = search needs
+one-more-requires : tie.Need-one-more-requires
+one-more-requires c κs = search needs
 
 returns : tie.Need-returns
 returns c = search needs
@@ -35,20 +35,17 @@ returns c = search needs
 array-share-prefix-ps : tie.Need-array-share-prefix-ps
 array-share-prefix-ps c = search needs
 
-slice-aggregate-listed : tie.Need-slice-aggregate-listed
-slice-aggregate-listed c = sym (length-take-le _ _ (search needs))
+slice-aggregate-all-listed : tie.Need-slice-aggregate-all-listed
+slice-aggregate-all-listed c = sym (length-take-le _ _ (search needs))
 
 array-share-prefix-qs : tie.Need-array-share-prefix-qs
 array-share-prefix-qs c = search needs
 
-slice-aggregate-listed-2 : tie.Need-slice-aggregate-listed-2
-slice-aggregate-listed-2 c = sym (length-take-le _ _ (search needs))
+slice-aggregate-all-listed-2 : tie.Need-slice-aggregate-all-listed-2
+slice-aggregate-all-listed-2 c = sym (length-take-le _ _ (search needs))
 
-listed-requires : tie.Need-listed-requires
-listed-requires c κs = search needs
-
-counted-requires : tie.Need-counted-requires
-counted-requires c κs = search needs
+all-listed-requires : tie.Need-all-listed-requires
+all-listed-requires c κs = search needs
 
 returns-2 : tie.Need-returns-2
 returns-2 c = search needs
@@ -64,12 +61,11 @@ compared-spec =
     mixed-requires
     slice-aggregate-packed-2
     packed-requires-2
-    wrapping-add-u64-requires
+    one-more-requires
     returns
     array-share-prefix-ps
-    slice-aggregate-listed
+    slice-aggregate-all-listed
     array-share-prefix-qs
-    slice-aggregate-listed-2
-    listed-requires
-    counted-requires
+    slice-aggregate-all-listed-2
+    all-listed-requires
     returns-2)

@@ -4,13 +4,13 @@ use Rattle.compare.proofs.listed.Statement.{statement}
 use Rattle.compare.proofs.listed.Tie as tie
 
 abbrev Inv-loop : tie.InvT-loop
-Inv-loop grid p q ps qs seed l₀ left₀ l left = Unit {0}
+Inv-loop grid p q owners contractor ps qs seed l₀ left₀ l left = Unit {0}
 
 abbrev μ-loop : tie.MeasureT-loop
-μ-loop grid p q ps qs seed l₀ left₀ l left = left
+μ-loop grid p q owners contractor ps qs seed l₀ left₀ l left = left
 
-next-requires : tie.Need-next-requires Inv-loop μ-loop
-next-requires c κs = search needs
+next-mine-requires : tie.Need-next-mine-requires Inv-loop μ-loop
+next-mine-requires c κs = search needs
 
 loop-holds : tie.Need-loop-holds Inv-loop μ-loop
 loop-holds c = search needs
@@ -39,7 +39,7 @@ listed-spec =
     (tie.spec
     Inv-loop
     μ-loop
-    next-requires
+    next-mine-requires
     loop-holds
     returns
     next-page-requires

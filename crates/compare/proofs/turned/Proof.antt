@@ -5,10 +5,10 @@ use Rattle.compare.proofs.turned.Statement.{statement}
 use Rattle.compare.proofs.turned.Tie as tie
 
 abbrev Inv-loop : tie.InvT-loop
-Inv-loop p q size pairs u₀ k₀ u k = k ≤ 16
+Inv-loop p q owners size pairs u₀ k₀ u k = k ≤ 16
 
 abbrev μ-loop : tie.MeasureT-loop
-μ-loop p q size pairs u₀ k₀ u k = 16 - k
+μ-loop p q owners size pairs u₀ k₀ u k = 16 - k
 
 loop-holds : tie.Need-loop-holds Inv-loop μ-loop
 loop-holds c = search needs
