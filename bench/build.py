@@ -7,16 +7,7 @@ TOP = os.path.dirname(os.path.dirname(os.path.abspath(__file__)))
 sys.path.insert(0, os.path.join(TOP, "tools"))
 import kit
 
-TARGET = "x86_64-unknown-linux-gnu"
-
-
-def archive():
-    """The archive of the proved calls; proved and built first where a crate has changed since."""
-    made = os.path.join(TOP, "target", "staticlib", "libffi.a")
-    if not os.path.exists(made) or kit.changed_since(made):
-        print("building the archive of the proved calls", file=sys.stderr, flush=True)
-        subprocess.run(["rt", "staticlib", "ffi"], cwd=TOP, check=True, stdout=subprocess.DEVNULL)
-    return made
+archive = kit.archive
 
 
 def program(name, sources, words=()):
@@ -27,14 +18,12 @@ def program(name, sources, words=()):
     objects = []
     for source in sources:
         made = os.path.join(work, "%s-%s.o" % (name, source))
-        compiler = [os.path.join(tools, "bin", "clang"), "--target=" + TARGET, "-O2", "-fPIC", "-I", os.path.join(TOP, "tests", "c", "std")]
+        compiler = [os.path.join(tools, "bin", "clang"), "--target=" + kit.TARGET, "-O2", "-fPIC", "-I", os.path.join(TOP, "tests", "c", "std")]
         subprocess.run(compiler + list(words) + ["-c", os.path.join(TOP, "bench", source + ".c"), "-o", made], check=True)
         objects.append(made)
     link = os.path.join(os.path.dirname(tools), "bin", "rattle-link")
     made = os.path.join(work, name)
-    done = subprocess.run([link, "--target", TARGET, "--toolchain", tools, "-o", made] + objects + [archive()], capture_output=True, text=True)
-    if done.returncode:
-        sys.exit(done.stdout + done.stderr)
+    kit.ran([link, "--target", kit.TARGET, "--toolchain", tools, "-o", made] + objects + [archive()], "%s is not linked: see above" % name)
     return made
 
 

@@ -1,11 +1,12 @@
 /*
  * ring.h: every call of the pairing service, for C (C99 and later) and C++.
  *
- * Link with the archive that `rt staticlib ffi` writes, target/staticlib/libffi.a (x86-64 Linux).
+ * `tools/library DIR` writes what to link with, for x86-64 Linux: libring.a, libring.so, this header and ring.pc. docs/GUIDE.md has the lines that compile, and the
+ * life of a book.
  *
  * What holds of every call
  *   - Every input is answered. Where an input breaks the rules, `number` says which rule: the first that applies, in the order given at each call.
- *     0 means that the call was served. The numbers are listed at the end of this file.
+ *     0 means that the call was served. RING_REFUSALS names the numbers; which call gives which stands at the end of this file.
  *   - Read `number` first. Where it is not 0 every other field of the answer is 0 (a book or a depot that was handed in comes back as it was), and all memory that
  *     was lent is as it was.
  *   - The same input always gives the same answer. Nothing is kept between calls, nothing is allocated, no pointer is kept after a call returns.
@@ -53,6 +54,63 @@
 #ifdef __cplusplus
 extern "C" {
 #endif
+
+/* The version of this header and of the archive. The first number goes up where a struct, a call's arguments or the lists themselves change, so that callers are
+ * compiled anew; the second where something is added. docs/GUIDE.md says what each changed for a caller. */
+#define RING_VERSION_MAJOR 10
+#define RING_VERSION_MINOR 0
+#define RING_VERSION_PATCH 0
+#define RING_VERSION "10.0.0"
+
+/* The numbers of refusal: X(number, name, reason in words). The reason says what may be wrong whichever call gave the number; the list at the end of this file
+ * says it call by call. 23 is given by no call. */
+#define RING_REFUSALS(X) \
+    X(1, RING_FEW_WORDS, "it has fewer than 6 words, so no trailer") \
+    X(2, RING_BAD_FORM, "its form number is not 1 or 2") \
+    X(3, RING_BAD_COUNTS, "its number of points, of nodes or its edition is out of range, or a self join is of two editions") \
+    X(4, RING_BAD_LENGTH, "its span, its root word or its length does not fit its numbers of points and nodes") \
+    X(5, RING_BAD_POINT, "an id or a coordinate breaks its rule: ids ascend strictly from 1 to 2,000,000,000, coordinates are -1,000,000 to 1,000,000, " \
+                         "of form 2 -1,000,000,000 to 1,000,000,000") \
+    X(6, RING_BAD_ORDER, "its order and rank are not each other's inverse on 0 to n-1") \
+    X(7, RING_BAD_NODE, "a node's level, first or count is wrong, or it has points and no nodes, or nodes and no points") \
+    X(8, RING_BAD_BOX, "a box is not the tightest one around the points below it") \
+    X(9, RING_BAD_PLACE, "a position is not below its sheet's number of points, or an id of the key is over 2,000,000,000") \
+    X(10, RING_BAD_SIZE, "the size, or k, is not 1 to 16") \
+    X(11, RING_BAD_HELD, "more is held than there are slots") \
+    X(12, RING_BOOK_CLOSED, "the book is closed") \
+    X(13, RING_OTHER_EDITION, "the page is of other editions than the book") \
+    X(14, RING_OTHER_KEY, "the page's key is not the book's next key: the page was taken already, or one before it is missing") \
+    X(15, RING_BAD_PART, "a number of the page or the form is out of range, or the page's pairs do not ascend after its key, or it has no pair and no end mark") \
+    X(16, RING_NO_ROOM, "there are fewer slots or places than are needed") \
+    X(17, RING_BAD_OUTPUT, "the words lent for the sheet are not exactly as many as it has") \
+    X(18, RING_BAD_INPUT, "the point words are not three for each point, or the order is not one word for each") \
+    X(19, RING_NO_LEAF, "the chambers' sheet has no such leaf") \
+    X(20, RING_NO_ID, "no chamber, or no record of the sheet, has this id") \
+    X(21, RING_BAD_THRESHOLD, "the threshold is over 60,000, or 0 where one is asked for, or above 0 for a self join") \
+    X(22, RING_OTHER_KIND, "the page is of the other kind: of two sheets, or of a self join") \
+    X(24, RING_FEW_BITS, "fewer 64-bit words are lent than the points need") \
+    X(25, RING_FEW_NUMBERS, "fewer numbers are lent than P has points and nodes") \
+    X(26, RING_BAD_OWNERS, "the owner bytes are not one 0 or 1 for each chamber, or there are some for an undivided list") \
+    X(27, RING_BAD_CONTRACTOR, "the contractor is not 0, 1 or 2, or not 2 for a self join") \
+    X(28, RING_OTHER_CONTRACTOR, "the page is of another contractor") \
+    X(29, RING_WIDE_GRID, "the street grid is asked for, and a sheet is of form 2") \
+    X(30, RING_OTHER_PROFILE, "the page is of the other profile: the circle, or the street grid") \
+    X(31, RING_OTHER_THRESHOLD, "the page is of another threshold")
+
+#define RING_NAMED(number, name, reason) name = number,
+enum { RING_SERVED = 0, RING_REFUSALS(RING_NAMED) RING_LAST_REFUSAL = 31 };
+#undef RING_NAMED
+
+/* The reason of a number of refusal, in words; of 0 "served", of a number that no call gives "no number of refusal". */
+#define RING_REASONED(number, name, reason) case number: return reason;
+static inline const char *ring_reason(uint32_t number) {
+    switch (number) {
+    case RING_SERVED: return "served";
+    RING_REFUSALS(RING_REASONED)
+    default: return "no number of refusal";
+    }
+}
+#undef RING_REASONED
 
 /* How many 64-bit words hold a bit for each of n positions. */
 #define RING_WORDS(n) (((size_t)(n) + 63) / 64)
@@ -151,6 +209,12 @@ typedef struct RingPoint {
     int32_t x;
     int32_t y;
 } RingPoint;
+
+/* The answer of ring_position. */
+typedef struct RingPlaced {
+    uint32_t number;
+    size_t position;
+} RingPlaced;
 
 /* The answer of ring_filter_walk and ring_near_filter, beside the kept set in the lent words, where position i of P is kept if bit i % 64, counted from the
  * lowest, of bits[i / 64] is set: `count` is how many bits are set, `opened` how many nodes were opened. */
@@ -269,11 +333,15 @@ typedef struct RingMarker {
  * Refused  1, 2, 3, 4, 5, 6, 7, 8, in this order: 3 and 5 by the limits of the sheet's own form. */
 RingHead ring_open(const int32_t *words, size_t len);
 
+/* How many words a packed sheet of n points has, to be lent to ring_pack: 5n + 7m + 6, where m is how many nodes of 16 it takes. 0 where n is over 60,000, which
+ * no form has: no sheet has 0 words. */
+size_t ring_sheet_len(size_t n);
+
 /* Packs a sheet of n points.
  * Input    the form, 1 or 2; n; 3n words of points (id, x, y; ids ascending), the position that stands at each of n places, and an edition. points and order
  *          are only read.
- * Lent     out: exactly as many words as the sheet has, 5n + 7m + 6, where m is how many nodes of 16 it takes (n = 16: 1, n = 17: 3, n = 1,000: 68,
- *          n = 60,000: 4,001).
+ * Lent     out: exactly as many words as the sheet has, ring_sheet_len(n): 5n + 7m + 6, where m is how many nodes of 16 it takes (n = 16: 1, n = 17: 3,
+ *          n = 1,000: 68, n = 60,000: 4,001).
  * Answer   0, and out is the sheet: ring_open takes it, and it has these points and this form.
  * Refused  18, 2, 3, 5, 6, 17, in this order: 3 and 5 by the limits of the form. out is as it was then. */
 uint32_t ring_pack(uint32_t form, size_t n, const int32_t *points, size_t points_len, const int32_t *order, size_t order_len, uint32_t edition, int32_t *out,
@@ -284,6 +352,12 @@ uint32_t ring_pack(uint32_t form, size_t n, const int32_t *points, size_t points
  * Answer   its id, x and y.
  * Refused  1 to 8 as ring_open does, then 9 where the position is not below n. */
 RingPoint ring_point(const int32_t *words, size_t len, size_t position);
+
+/* The position of the record with an id, in a sheet of pump houses or of chambers: what the point reader and both walks are asked for.
+ * Input    a sheet's words, and an id. The words are only read.
+ * Answer   its position.
+ * Refused  1 to 8 as ring_open does, then 20 where no record of the sheet has the id. */
+RingPlaced ring_position(const int32_t *words, size_t len, uint32_t id);
 
 /* The filter walk: which points of P may be ring partners of the chamber at position j of Q. Every ring partner is among them.
  * Input    both sheets, and a position of Q. The sheets' words are only read.
@@ -443,7 +517,7 @@ RingRun ring_leaf_run(const int32_t *p, size_t p_len, const int32_t *q, size_t q
  *   17  lent output not exactly the sheet's length (ring_pack)
  *   18  point words not 3n, or order list not n long (ring_pack)
  *   19  no such leaf (ring_leaf_run)
- *   20  unknown q id (ring_partners, ring_nearest, ring_near_filter)
+ *   20  unknown q id (ring_partners, ring_nearest, ring_near_filter); unknown id (ring_position)
  *   21  threshold outside 0 to 60,000 (ring_page, ring_partners, ring_book_begin), or 0 (ring_partners), or above 0 for a self join (ring_book_begin)
  *   22  page of the other kind (ring_book_take)
  *   24  fewer words lent than the points need (ring_filter_walk, ring_page, ring_own_page, ring_partners, ring_shortest, ring_near_filter), or than

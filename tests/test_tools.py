@@ -1,18 +1,15 @@
 #!/usr/bin/env python3
-"""Tests of tools/sheet and tools/draw, and of what is stored of the town.
+"""Tests of what is stored of the town, and of the proved programs `packing` and `opening`.
 
-    tests/test_tools.py            the tools over the plain reading of the rules in place of the two proved programs: nothing is built
-    tests/test_tools.py --whole    the tools over the proved programs, which are built first; these held to the reading on odd inputs; and ./list
+    tests/test_tools.py            what is stored of the town, against the plain reading of the rules: nothing is built
+    tests/test_tools.py --whole    besides, the two programs, which are built first, held to the reading on odd inputs
 
-The tests are the same either way, and the second has more of them.
+What `./list`, `./ring`, the package and the library do is tried in tests/door.
 """
-import contextlib
 import importlib.machinery
 import importlib.util
-import io
 import os
 import struct
-import subprocess
 import sys
 import tempfile
 import unittest
@@ -23,19 +20,20 @@ TOWN = os.path.join(TOP, "examples", "town")
 sys.dont_write_bytecode = True
 sys.path[:0] = [HERE, os.path.join(TOP, "tools")]
 
+import kit
 import make_listing_cases
 import reading
 
 
-def tool(name):
-    """A program of tools/ as a module."""
+def program(name):
+    """A program in Python as a module."""
     loader = importlib.machinery.SourceFileLoader(os.path.basename(name), os.path.join(TOP, name))
     module = importlib.util.module_from_spec(importlib.util.spec_from_loader(loader.name, loader))
     loader.exec_module(module)
     return module
 
 
-sheet, draw, town = tool("tools/sheet"), tool("tools/draw"), tool("examples/town/make")
+town = program("examples/town/make")
 MADE = {"pumps": 7, "chambers": 9}
 
 
@@ -78,125 +76,6 @@ def read_programs(name, given):
     return {"packing": packing, "opening": opening}[name](given)
 
 
-# ---------------------------------------------------------------- the tools
-
-def called(module, *words):
-    """The exit status, what is printed, and what is said, of a tool's main."""
-    out, said = io.StringIO(), io.StringIO()
-    before = sys.argv
-    sys.argv = [module.__name__] + list(words)
-    try:
-        with contextlib.redirect_stdout(out), contextlib.redirect_stderr(said):
-            try:
-                status = module.main()
-            except SystemExit as end:
-                status = end.code
-    finally:
-        sys.argv = before
-    return status, out.getvalue(), said.getvalue()
-
-
-class Folder(unittest.TestCase):
-    def setUp(self):
-        folder = tempfile.TemporaryDirectory()
-        self.addCleanup(folder.cleanup)
-        self.folder = folder.name
-
-    def file(self, name, content):
-        path = os.path.join(self.folder, name)
-        with open(path, "wb") as f:
-            f.write(content if isinstance(content, bytes) else content.encode())
-        return path
-
-
-class FromCsv(Folder):
-    def there_and_back(self, text, edition=5, form=1):
-        source, out = self.file("a.csv", text), os.path.join(self.folder, "a.sheet")
-        status, told, said = called(sheet, "make", source, "--edition", str(edition), "--out", out)
-        self.assertEqual((status, said), (0, ""))
-        self.assertIn("edition %d, form %d" % (edition, form), told)
-        with open(out, "rb") as f:
-            self.assertEqual(unpacked(f.read())[-1], form)
-        self.assertIn("edition %d, form %d" % (edition, form), called(sheet, "why", out)[1])
-        status, told, said = called(sheet, "csv", out)
-        self.assertEqual((status, said), (0, ""))
-        return told
-
-    def test_same_rows_come_back(self):
-        for name in MADE:
-            text = stored(name + ".csv").decode()
-            self.assertEqual(self.there_and_back(text), text)
-
-    def test_unsorted_rows_come_back_by_id(self):
-        text = stored("chambers.csv").decode()
-        head, *rows = text.split("\n")[:-1]
-        mixed = [rows[47 * k % len(rows)] for k in range(len(rows))]
-        self.assertNotEqual(mixed, rows)
-        self.assertEqual(self.there_and_back("\n".join([head] + mixed) + "\n"), text)
-
-    def test_header_and_line_ends_are_free(self):
-        want = "id,x,y\n1,-1000000,1000000\n2000000000,0,-7\n"
-        for text in ("1,-1000000,1000000\n2000000000,0,-7", "id,x,y\r\n2000000000,0,-7\r\n1,-1000000,1000000\r\n", "ID, X, Y\n\n 1 , -1000000,+1000000\n2000000000,0,-7\n",
-                     "\ufeffid,x,y\n1,-1000000,1000000\n2000000000,0,-7\n"):
-            self.assertEqual(self.there_and_back(text), want)
-
-    def test_no_rows_and_a_thousand(self):
-        self.assertEqual(self.there_and_back("id,x,y\n"), "id,x,y\n")
-        text = "id,x,y\n" + "".join("%d,%d,%d\n" % (3 * k + 1, k % 31 - 15, k * k % 1999) for k in range(1000))
-        self.assertEqual(self.there_and_back(text, 1_000_000_000), text)
-
-    def test_form_2_where_the_points_need_it(self):
-        text = "id,x,y\n" + "".join("%d,%d,%d\n" % (3 * k + 1, k % 31 - 15, k * k % 1999) for k in range(1001))
-        self.assertEqual(self.there_and_back(text, form=2), text)
-        for row in ("1,1000001,0", "1,0,-1000001", "1,-1000000000,1000000000"):
-            self.assertEqual(self.there_and_back("id,x,y\n%s\n2,5,5\n" % row, form=2), "id,x,y\n%s\n2,5,5\n" % row)
-        # bytes that a refusal begins with
-        self.assertEqual(self.there_and_back("id,x,y\n1969645938,6579571,0\n", form=2), "id,x,y\n1969645938,6579571,0\n")
-
-    def test_faults_are_told_with_their_line(self):
-        long = "".join("%d,0,0\n" % k for k in range(1, 60_002))
-        for text, told in [
-            ("id,x,y\n1,2,3\n4,5,6\n1,7,8\n", "line 4: the id 1 stands in line 2 already"),
-            ("1,2,3\n0,5,6\n", "line 2: the id 0 is not from 1 to 2000000000"),
-            ("1,2,3\n2000000001,5,6\n", "line 2: the id 2000000001 is not from 1 to 2000000000"),
-            ("1,1000000001,3\n", "line 1: the x 1000000001 is not from -1000000000 to 1000000000"),
-            ("id,x,y\n\n1,3,-1000000001\n", "line 3: the y -1000000001 is not from -1000000000 to 1000000000"),
-            ("id,x,y\n1,two,3\n", "line 2: the x 'two' is no whole number"),
-            ("1,2.5,3\n", "line 1: the x '2.5' is no whole number"),
-            ("1,1_000,3\n", "line 1: the x '1_000' is no whole number"),
-            ("1,2,\n", "line 1: the y '' is no whole number"),
-            ("1,2,3\nid,x,y\n", "line 2: the id 'id' is no whole number"),
-            ("1,2,3\n4,5\n", "line 2: 2 fields where id,x,y are three"),
-            ("1,2,3,4\n", "line 1: 4 fields where id,x,y are three"),
-            (long, "line 60001: over 60000 rows"),
-            ("id,x,y\n" + long, "line 60002: over 60000 rows"),
-        ]:
-            source, out = self.file("a.csv", text), os.path.join(self.folder, "none.sheet")
-            status, printed, said = called(sheet, "make", source, "--edition", "1", "--out", out)
-            self.assertEqual((status, printed, said), (1, "", "tools/sheet: %s: %s\n" % (source, told)))
-            self.assertFalse(os.path.exists(out))
-
-    def test_editions_and_files_are_told(self):
-        source, out = self.file("a.csv", "1,2,3\n"), os.path.join(self.folder, "none.sheet")
-        for edition in ("0", "-4", "1000000001"):
-            status, _, said = called(sheet, "make", source, "--edition", edition, "--out", out)
-            self.assertEqual((status, said), (1, "tools/sheet: the edition %s is not from 1 to 1000000000\n" % edition))
-        status, _, said = called(sheet, "make", source + "x", "--edition", "1", "--out", out)
-        self.assertEqual(status, 1)
-        self.assertIn("No such file", said)
-        self.assertFalse(os.path.exists(out))
-
-    def test_order_has_each_position_once_in_tiles(self):
-        rows = sheet.rows_of(stored("chambers.csv").decode())
-        order = sheet.tiled(rows)
-        self.assertEqual(sorted(order), list(range(len(rows))))
-        deep = 16 * 3
-        for start in range(0, len(order), deep):
-            tile = order[start:start + deep]
-            self.assertEqual(tile, sorted(tile, key=lambda i: (rows[i][2], rows[i][1], i)))
-            self.assertTrue(all(rows[i][1] <= rows[k][1] for i in tile for k in order[start + deep:]))
-
-
 def damaged():
     """Sheets that do not open, by the number that they are refused by."""
     words = unpacked(stored("pumps.sheet"))
@@ -214,64 +93,19 @@ def damaged():
     ]
 
 
-class Why(Folder):
-    def test_it_opens(self):
-        for name, edition in MADE.items():
-            status, told, said = called(sheet, "why", os.path.join(TOWN, name + ".sheet"))
-            self.assertEqual((status, said), (0, ""))
-            self.assertTrue(told.endswith("points, %d nodes, edition %d, form 1\n" % (unpacked(stored(name + ".sheet"))[-3], edition)))
-
-    def test_each_number_in_words(self):
-        self.assertEqual({number for number, _ in damaged()}, set(sheet.WHY))
-        for number, words in damaged():
-            path = self.file("bad.sheet", packed(words))
-            status, told, said = called(sheet, "why", path)
-            self.assertEqual((status, told, said), (1, "%s is refused by %d: %s\n" % (path, number, sheet.WHY[number]), ""))
-            status, told, said = called(sheet, "csv", path)
-            self.assertEqual((status, told, said), (1, "", "tools/sheet: %s is refused by %d: %s\n" % (path, number, sheet.WHY[number])))
-
-    def test_no_words(self):
-        for data in (b"abc", bytes(1_872_028)):
-            path = self.file("bad.sheet", data)
-            status, told, _ = called(sheet, "why", path)
-            self.assertEqual((status, told), (1, "%s is refused: a sheet is a number of 4-byte words, and at most 1,872,024 bytes\n" % path))
-
-
-class Town(Folder):
+class Town(unittest.TestCase):
     def test_made_anew(self):
-        town.write(os.path.join(self.folder, "pumps.csv"), town.town()[0], 101, 1)
-        town.write(os.path.join(self.folder, "chambers.csv"), town.town()[1], 1001, 3)
-        for name, edition in MADE.items():
-            out = os.path.join(self.folder, name + ".sheet")
-            with open(os.path.join(self.folder, name + ".csv"), "rb") as f:
-                self.assertEqual(f.read(), stored(name + ".csv"))
-            self.assertEqual(called(sheet, "make", os.path.join(TOWN, name + ".csv"), "--edition", str(edition), "--out", out)[0], 0)
-            with open(out, "rb") as f:
-                self.assertEqual(f.read(), stored(name + ".sheet"))
+        with tempfile.TemporaryDirectory() as folder:
+            pumps, chambers = (os.path.join(folder, name + ".csv") for name in MADE)
+            town.write(pumps, town.town()[0], 101, 1)
+            town.write(chambers, town.town()[1], 1001, 3)
+            for path in (pumps, chambers):
+                with open(path, "rb") as f:
+                    self.assertEqual(f.read(), stored(os.path.basename(path)))
 
     def test_listing(self):
         lines = make_listing_cases.lines_of(unpacked(stored("pumps.sheet")), unpacked(stored("chambers.sheet")))
         self.assertEqual(stored("listing.txt").decode(), "\n".join(lines) + "\n")
-
-    def test_picture(self):
-        names = [os.path.join(TOWN, name) for name in ("pumps.sheet", "chambers.sheet", "listing.txt")]
-        status, told, _ = called(draw, *names)
-        self.assertEqual((status, told), (0, stored("town.svg").decode()))
-        lines = stored("listing.txt").decode().split("\n")
-        other = self.file("other.txt", "\n".join(lines[1:-2] + ["end %d" % (len(lines) - 3), ""]))
-        self.assertNotEqual(called(draw, names[0], names[1], other)[1], stored("town.svg").decode())
-
-    def test_what_is_no_listing(self):
-        names = [os.path.join(TOWN, name) for name in ("pumps.sheet", "chambers.sheet")]
-        for text, told in [
-            ("refused q 4\n", "the listing says 'refused q 4'"), ("", "the listing has no last line 'end N'"), ("end 1\n", "line 1: the listing ends with 1 pairs and shows 0"),
-            ("1 2 3 4\nend 0\n", "line 1 is no line of a listing: 1 2 3 4"), ("1 2 3 4 x\nend 1\n", "line 1 is no line of a listing: 1 2 3 4 x"),
-            ("end 0\nend 0\n", "line 2 is no line of a listing: end 0"), ("1 2 3 4 5\nend 1\n", "the listing pairs 1 with 2, and the sheets do not have both"),
-        ]:
-            status, printed, _ = called(draw, *names, self.file("listing.txt", text))
-            self.assertEqual((status, printed), ("tools/draw: " + told, ""))
-        status, _, _ = called(draw, self.file("p.sheet", b"abc"), names[1], os.path.join(TOWN, "listing.txt"))
-        self.assertIn("is no sheet: 3 bytes", status)
 
 
 # ---------------------------------------------------------------- the proved programs
@@ -329,44 +163,34 @@ class Whole(unittest.TestCase):
     def test_programs_and_the_reading_agree(self):
         for given in odd_inputs():
             for name in ("packing", "opening"):
-                self.assertEqual(sheet.kit.run(name, given), read_programs(name, given), "%s on %d bytes" % (name, len(given)))
+                self.assertEqual(kit.run(name, given), read_programs(name, given), "%s on %d bytes" % (name, len(given)))
 
     def test_largest_sheets(self):
         words = province(3_750)
         n = words[-4]
         given = packed([2, n, 9] + words[:4 * n])
-        made = sheet.kit.run("packing", given)
+        made = kit.run("packing", given)
         self.assertEqual(made, packed(words))
-        self.assertEqual(sheet.kit.run("opening", made), b"opens 60000 4001 9 2\n")
-        self.assertEqual(sheet.kit.run("opening", packed(words[:-1] + [1])), b"refused 3\n")
+        self.assertEqual(kit.run("opening", made), b"opens 60000 4001 9 2\n")
+        self.assertEqual(kit.run("opening", packed(words[:-1] + [1])), b"refused 3\n")
         words = province(22_498)
         self.assertEqual(len(words), 468_006)
-        self.assertEqual(sheet.kit.run("opening", packed(words)), b"opens 60000 24000 9 2\n")
+        self.assertEqual(kit.run("opening", packed(words)), b"opens 60000 24000 9 2\n")
         words[5 * n + 3] += 1
-        self.assertEqual(sheet.kit.run("opening", packed(words)), b"refused 8\n")
-        self.assertEqual(sheet.kit.run("opening", packed(province(22_499))), b"refused input\n")
-
-    def test_commands(self):
-        names = [os.path.join("examples", "town", name) for name in ("pumps.sheet", "chambers.sheet")]
-        listing = subprocess.run(["./list"] + names, cwd=TOP, stdout=subprocess.PIPE, check=True).stdout
-        self.assertEqual(listing, stored("listing.txt"))
-        picture = subprocess.run(["tools/draw"] + names + ["-"], cwd=TOP, input=listing, stdout=subprocess.PIPE, check=True).stdout
-        self.assertEqual(picture, stored("town.svg"))
+        self.assertEqual(kit.run("opening", packed(words)), b"refused 8\n")
+        self.assertEqual(kit.run("opening", packed(province(22_499))), b"refused input\n")
 
 
 def main():
     whole = "--whole" in sys.argv[1:]
     if whole:
         for name in ("packing", "opening"):
-            sheet.kit.built(name)
-    else:
-        sheet.kit.run = read_programs
-    cases = [FromCsv, Why, Town] + ([Whole] if whole else [])
+            kit.built(name)
+    cases = [Town] + ([Whole] if whole else [])
     suite = unittest.TestSuite(unittest.defaultTestLoader.loadTestsFromTestCase(case) for case in cases)
     result = unittest.TextTestRunner(stream=sys.stderr, verbosity=0).run(suite)
-    over = "the proved programs" if whole else "the reading of the rules"
     if result.wasSuccessful():
-        print("tools: %d tests over %s, nothing differs" % (result.testsRun, over))
+        print("town%s: %d tests, nothing differs" % (" and programs" if whole else "", result.testsRun))
     return 0 if result.wasSuccessful() else 1
 
 

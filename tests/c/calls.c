@@ -53,6 +53,7 @@ FIELD(RingForm, contractor, 4);
 FIELD(RingDepot, held, 8);
 FIELD(RingMade, count, 8);
 FIELD(RingRun, opened, 8);
+FIELD(RingPlaced, position, 8);
 FIELD(RingPoint, x, 4);
 FIELD(RingPoint, y, 4);
 FIELD(RingTerms, threshold, 4);
@@ -657,6 +658,27 @@ static void try_point(void) {
     HOLD(r.number == (number ? number : i < n ? 0 : 9));
     if (r.number) HOLD(r.id == 0 && r.x == 0 && r.y == 0);
     else HOLD(r.id == (uint32_t)P.words[3 * i] && r.x == P.words[3 * i + 1] && r.y == P.words[3 * i + 2]);
+}
+
+/* the length of a packed sheet, of any number of points */
+static void try_length(void) {
+    size_t n = below(2) ? below(LARGEST + 2) : below(3) ? LARGEST - 1 + below(3) : wild_size();
+    calls++;
+    HOLD(ring_sheet_len(n) == (n > LARGEST ? 0 : length_for(n)));
+}
+
+/* the position of an id: one that is there, one beside it, or any */
+static void try_position(void) {
+    make_sheet(&P, some_n(20));
+    if (below(3) == 0) damage(&P);
+    save();
+    uint32_t number = open_no(P.words, P.len);
+    size_t n = number ? 0 : count_of(&P), i = 0;
+    uint32_t id = n && below(4) ? (uint32_t)P.words[3 * below(n)] + (below(3) ? 0 : (uint32_t)between(-1, 1)) : wild();
+    RingPlaced r = ring_position(at(&P), P.len, id);
+    saw(r.number), hold_saved();
+    while (i < n && (uint32_t)P.words[3 * i] != id) i++;
+    HOLD(r.number == (number ? number : i < n ? 0 : 20) && r.position == (r.number ? 0 : i));
 }
 
 /* of form 1 */
@@ -1591,7 +1613,7 @@ static void try_barren(void) {
 }
 
 int main(void) {
-    static void (*const tries[])(void) = {try_open, try_pack, try_point, try_filter, try_pair, try_page, try_own, try_partners, try_shortest, try_begin, try_next, try_take, try_forms, try_depot_begin, try_depot_take, try_marker, try_leaf, try_nearest, try_near_filter};
+    static void (*const tries[])(void) = {try_open, try_pack, try_point, try_filter, try_pair, try_page, try_own, try_partners, try_shortest, try_begin, try_next, try_take, try_forms, try_depot_begin, try_depot_take, try_marker, try_leaf, try_nearest, try_near_filter, try_length, try_position};
     size_t exports = sizeof tries / sizeof tries[0];
     for (size_t n = 0; n <= LARGEST; n++) HOLD(RING_WORDS(n) == words_for(n));
     for (size_t k = 0; k < 4; k++)

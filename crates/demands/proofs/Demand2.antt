@@ -24,6 +24,7 @@
 --     run-ruled          what the walk keeps for a chamber no other chamber of the leaf rules out.  run-skipped, run-opens: a box is skipped exactly when each chamber skips it
 --     runs-list          a pair is listed exactly if the run of one leaf has it, and then no other leaf's has it.  stored-once: no run has it twice
 --     own-exact          the self join of one sheet: two different records, lower id first, exactly if no other record blocks.  own-low: never the higher id first
+--     length-lent        where pack answers 0, it was lent exactly as many words as a caller is told of n points
 --     return-trip        pack, then open, gives the same points back, in the form that was asked for
 -- Assumes nothing. [O6]
 use Rattle.plane.proofs.ProfileLaws.{circle-lawful, profile-lawful}
@@ -95,6 +96,7 @@ use Rattle.ring.specs.declared.Filtered.{Filtered}
 use Rattle.ring.specs.declared.Walked.{Walked}
 use Rattle.ring.specs.declared.Walked.the-variants.{Done}
 use Rattle.ring.specs.declared.Paged.{Paged}
+use Rattle.pack.proofs.PackLaws as of-lent
 use Rattle.ring.specs.declared.Partnered.{Partnered}
 use Rattle.words.proofs.FirstLaws.{none-applies, first-passes, first-last, answer-given}
 use Rattle.ring.proofs.HeadLaws.{sheets-both, sheets-open}
@@ -118,7 +120,7 @@ use Rattle.runs.specs.Run.{leafNo, runNeed, runNo, runGiven, runAnswer}
 use Rattle.runs.proofs.DecideLaws.{leaf-here}
 use Rattle.runs.proofs.Meaning as of-run
 use Rattle.runs.proofs.Once as of-runs
-use Rattle.demands.specs.Promises.{OpenAnswers, PointAnswers, FilterAnswers, RingAnswers, PageAnswers, OwnAnswers, OfKind, TermsAnswers, PartnersAnswers, PackAnswers, RunAnswers}
+use Rattle.demands.specs.Promises.{OpenAnswers, PointAnswers, FilterAnswers, RingAnswers, PageAnswers, OwnAnswers, OfKind, TermsAnswers, PartnersAnswers, PackAnswers, LengthAnswers, RunAnswers}
 use Rattle.demands.proofs.Demand1.{filter-no}
 use Rattle.demands.proofs.Lent.{walk-left, front-at, front-kept, front-card}
 use Rattle.demands.proofs.ByRow.{InTurn, in-turn}
@@ -652,6 +654,10 @@ module _ (S : List ℤ) (opens : WellFormed S) (g : Bool) where
 module _ (f n : ℕ) (p order : List ℤ) (ed : ℕ) (out : List ℤ) (out′ : List ℤ) (packs : PackAnswers f n p order ed out 0 out′) where
   returned : Returned f n p ed out′
   returned = of-pack.pack-return-trip f n p order ed out 0 out′ (packs .promised .0) (packs .promised .1) refl
+
+  -- the words that were lent to it are as many as a caller is told of n points [S29]
+  pub length-lent : (r : ℕ) → LengthAnswers n r → length out ≡ r
+  length-lent r a = of-lent.pack-lent f n p order ed (length out) (sym (packs .promised .0)) ∙ sym (a .promised)
 
   -- "packing one from a point list", then "opening": what pack leaves where it answers 0 opens, its points are the given ones, in order, and so are its form
   -- and its edition. [S25, Y4]

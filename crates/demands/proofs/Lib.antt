@@ -6,6 +6,7 @@
 --     ByRow       in what order a list by rows has its pairs
 --     Shortest    the shortest circles of the list, in order
 --     Nearest     the pump houses nearest first, and the filter that goes so
+--     Found       how many words a sheet of n points has, and where the record with an id stands
 --     Demand3     the book's story, with the pages that the shipped page request answers
 --     Blind       what one contractor is handed does not depend on the ids of the other's chambers
 --     Worlds      the premises of demand 3 can be had
@@ -23,6 +24,7 @@ pub mod ByRow
 pub mod Demand2
 pub mod Shortest
 pub mod Nearest
+pub mod Found
 pub mod Demand3
 pub mod Blind
 pub mod OverC

@@ -21,6 +21,7 @@ use Rattle.ring.specs.declared.Filtered.{Filtered}
 use Rattle.ring.specs.declared.Walked.{Walked}
 use Rattle.ring.specs.declared.Paged.{Paged}
 use Rattle.ring.specs.declared.Partnered.{Partnered}
+use Rattle.ring.specs.declared.Placed.{Placed}
 use Rattle.view.specs.declared.Sheet.{Sheet}
 use Rattle.view.specs.declared.Opened.{Opened}
 use Rattle.view.specs.Shown.{shown}
@@ -45,6 +46,7 @@ use Rattle.ring.proofs.PageLaws as of-page
 use Rattle.ring.proofs.OwnLaws as of-own
 use Rattle.shortest.proofs.AnswerLaws as of-shortest
 use Rattle.ring.proofs.PartnersLaws as of-partners
+use Rattle.ring.proofs.PositionLaws as of-position
 use Rattle.nearest.proofs.Meaning as of-nearest
 use Rattle.view.proofs.Once as of-view
 use Rattle.book.proofs.Once as of-book
@@ -52,7 +54,7 @@ use Rattle.depot.proofs.TakeLaws as of-depot
 use Rattle.pack.proofs.Once as of-pack
 use Rattle.marker.proofs.Once as of-marker
 use Rattle.runs.proofs.Once as of-runs
-use Rattle.demands.specs.Promises.{FormsAnswers, DepotBegins, StoreAnswers, FormsArrayAnswers, StoreArrayAnswers, OpenAnswers, HeadAnswers, PointAnswers, FilterAnswers, RingAnswers, PageAnswers, ShortAnswers, PackAnswers, MarkAnswers, BeginAnswers, NextAnswers, TakeAnswers, NextArrayAnswers, TakeArrayAnswers, RunAnswers, RunArrayAnswers, ViewOpens, ViewPoints, ViewFilters, ViewRings, ViewPages, OpenHead, PointOpened, PartnersAnswers, ViewPartners, NearestAnswers, NearFilterAnswers, OwnAnswers, ViewOwnPages, ViewRuns, ViewShortest, ViewNearest, ViewNearFilters}
+use Rattle.demands.specs.Promises.{LengthAnswers, PlaceAnswers, FormsAnswers, DepotBegins, StoreAnswers, FormsArrayAnswers, StoreArrayAnswers, OpenAnswers, HeadAnswers, PointAnswers, FilterAnswers, RingAnswers, PageAnswers, ShortAnswers, PackAnswers, MarkAnswers, BeginAnswers, NextAnswers, TakeAnswers, NextArrayAnswers, TakeArrayAnswers, RunAnswers, RunArrayAnswers, ViewOpens, ViewPoints, ViewFilters, ViewRings, ViewPages, OpenHead, PointOpened, PartnersAnswers, ViewPartners, NearestAnswers, NearFilterAnswers, OwnAnswers, ViewOwnPages, ViewRuns, ViewShortest, ViewNearest, ViewNearFilters}
 
 -- ---- ring
 
@@ -64,6 +66,9 @@ head-once w r r′ a b = of-ring.ring-head-once w r r′ (a .promised) (b .promi
 
 pub point-once : (w : List ℤ) (i : ℕ) (r r′ : Pointed) → PointAnswers w i r → PointAnswers w i r′ → r ≡ r′
 point-once w i r r′ a b = of-ring.ring-point-once w i r r′ (a .promised) (b .promised)
+
+pub place-once : (w : List ℤ) (id : ℕ) (r r′ : Placed) → PlaceAnswers w id r → PlaceAnswers w id r′ → r ≡ r′
+place-once w id r r′ a b = of-position.ring-place-once w id r r′ (a .promised) (b .promised)
 
 pub ring-once : (P Q : List ℤ) (j i : ℕ) (g : Bool) (r r′ : Walked) → RingAnswers P Q j i g r → RingAnswers P Q j i g r′ → r ≡ r′
 ring-once P Q j i g r r′ a b = of-ring.ring-walk-once P Q j i g r r′ (a .promised) (b .promised)
@@ -99,6 +104,9 @@ pub pack-once : (form n : ℕ) (points order : List ℤ) (ed : ℕ) (out : List 
     → PackAnswers form n points order ed out r w → PackAnswers form n points order ed out r′ w′ → (r ≡ r′) × (w ≡ w′)
 pack-once form n points order ed out r r′ w w′ a b =
     (of-pack.pack-call-once form n points order ed out r r′ (a .promised .0) (b .promised .0), of-pack.pack-words-once form n points order ed out w w′ (a .promised .1) (b .promised .1))
+
+pub length-once : (n r r′ : ℕ) → LengthAnswers n r → LengthAnswers n r′ → r ≡ r′
+length-once n r r′ a b = of-pack.length-call-once n r r′ (a .promised) (b .promised)
 
 -- ---- marker
 

@@ -37,6 +37,7 @@ use Rattle.ring.specs.declared.Walked.{Walked}
 use Rattle.ring.specs.declared.Walked.the-variants as walking
 use Rattle.ring.specs.declared.Paged.{Paged}
 use Rattle.ring.specs.declared.Partnered.{Partnered}
+use Rattle.ring.specs.declared.Placed.{Placed}
 use Rattle.ring.proofs.Once as of-ring
 use Rattle.book.specs.declared.Book.{Book}
 use Rattle.book.specs.declared.Begun.{Begun}
@@ -72,6 +73,8 @@ use Rattle.ffi.specs.Over.{headOver, pointOver, hitOver, walkOver, bookOver, ne
 use Rattle.ffi.proofs.MarkLaws.{marked-is, marked-marks}
 use Rattle.ffi.proofs.ring_open.Reads as open-c
 use Rattle.ffi.proofs.ring_pack.Reads as pack-c
+use Rattle.ffi.proofs.ring_sheet_len.Reads as sheet-len-c
+use Rattle.ffi.proofs.ring_position.Reads as position-c
 use Rattle.ffi.proofs.ring_point.Reads as point-c
 use Rattle.ffi.proofs.ring_filter_walk.Reads as filter-c
 use Rattle.ffi.proofs.ring_pair_walk.Reads as walk-c
@@ -89,8 +92,8 @@ use Rattle.ffi.proofs.ring_book_take as take-c
 use Rattle.ffi.proofs.ring_forms as forms-c
 use Rattle.ffi.proofs.ring_depot_take as store-c
 use Rattle.ffi.proofs.ring_leaf_run as run-c
-use Rattle.demands.specs.Promises.{FormsAnswers, DepotBegins, StoreAnswers, Place, slice, HeadAnswers, PointAnswers, FilterAnswers, RingAnswers, PageAnswers, ShortAnswers, PackAnswers, MarkAnswers, BeginAnswers, NextAnswers, TakeAnswers, RunAnswers, PartnersAnswers, NearestAnswers, NearFilterAnswers, OwnAnswers}
-use Rattle.demands.specs.OverC.{DepotBeginC, StoreC, OpenC, PackC, PointC, FilterC, WalkC, PageC, ShortC, BeginC, MarkC, NextC, PartnersC, NearestC, NearFilterC, OwnC}
+use Rattle.demands.specs.Promises.{LengthAnswers, PlaceAnswers, FormsAnswers, DepotBegins, StoreAnswers, Place, slice, HeadAnswers, PointAnswers, FilterAnswers, RingAnswers, PageAnswers, ShortAnswers, PackAnswers, MarkAnswers, BeginAnswers, NextAnswers, TakeAnswers, RunAnswers, PartnersAnswers, NearestAnswers, NearFilterAnswers, OwnAnswers}
+use Rattle.demands.specs.OverC.{LengthC, PlaceC, DepotBeginC, StoreC, OpenC, PackC, PointC, FilterC, WalkC, PageC, ShortC, BeginC, MarkC, NextC, PartnersC, NearestC, NearFilterC, OwnC}
 use Rattle.demands.proofs.Once as once
 
 -- ---- every input is taken
@@ -100,6 +103,12 @@ open-c-takes κs a = tt
 
 pub pack-c-takes : (κs : Lfts 3) (a : _) → pack-c.Asked κs a
 pack-c-takes κs a = tt
+
+pub sheet-len-c-takes : (κs : Lfts 0) (a : _) → sheet-len-c.Asked κs a
+sheet-len-c-takes κs a = tt
+
+pub position-c-takes : (κs : Lfts 1) (a : _) → position-c.Asked κs a
+position-c-takes κs a = tt
 
 pub point-c-takes : (κs : Lfts 1) (a : _) → point-c.Asked κs a
 point-c-takes κs a = tt
@@ -199,6 +208,12 @@ open-over w c h a b = ap headIn (a .promised) ∙ head-is w ∙ sym (b .promised
 
 pub pack-over : (form n : ℕ) (points order : List ℤ) (ed : ℕ) (out : List ℤ) (r : ℕ) (out′ : List ℤ) → PackC form n points order ed out r out′ → PackAnswers form n points order ed out r out′
 pack-over form n points order ed out r out′ a = record { κs = a .κs; p-at = a .p-at; o-at = a .o-at; out-at = a .out-at; promised = a .promised }
+
+pub length-over : (n r : ℕ) → LengthC n r → LengthAnswers n r
+length-over n r a = record { promised = a .promised }
+
+pub place-over : (w : List ℤ) (id : ℕ) (r : Placed) → PlaceC w id r → PlaceAnswers w id r
+place-over w id r a = record { κs = a .κs; w-at = a .w-at; promised = a .promised }
 
 pub filter-over : (P Q : List ℤ) (j : ℕ) (w : List ℕ) (r : Filtered) (w′ : List ℕ) → FilterC P Q j w r w′ → FilterAnswers P Q j w r w′
 filter-over P Q j w r w′ a = record { κs = a .κs; p-at = a .p-at; q-at = a .q-at; b-at = a .b-at; promised = a .promised }
@@ -321,6 +336,12 @@ open-c-once w r r′ a b = a .promised ∙ sym (b .promised)
 pub pack-c-once : (form n : ℕ) (points order : List ℤ) (ed : ℕ) (out : List ℤ) (r r′ : ℕ) (w w′ : List ℤ) → PackC form n points order ed out r w → PackC form n points order ed out r′ w′ → (r ≡ r′) × (w ≡ w′)
 pack-c-once form n points order ed out r r′ w w′ a b =
     once.pack-once form n points order ed out r r′ w w′ (pack-over form n points order ed out r w a) (pack-over form n points order ed out r′ w′ b)
+
+pub length-c-once : (n r r′ : ℕ) → LengthC n r → LengthC n r′ → r ≡ r′
+length-c-once n r r′ a b = once.length-once n r r′ (length-over n r a) (length-over n r′ b)
+
+pub place-c-once : (w : List ℤ) (id : ℕ) (r r′ : Placed) → PlaceC w id r → PlaceC w id r′ → r ≡ r′
+place-c-once w id r r′ a b = once.place-once w id r r′ (place-over w id r a) (place-over w id r′ b)
 
 pub point-c-once : (w : List ℤ) (i : ℕ) (r r′ : PointAnswer) → PointC w i r → PointC w i r′ → r ≡ r′
 point-c-once w i r r′ a b = a .promised ∙ sym (b .promised)

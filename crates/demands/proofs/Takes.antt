@@ -13,6 +13,7 @@ use contract.Monad.{Fun}
 use Rattle.ring.proofs.open.open_no.Reads as open-no
 use Rattle.ring.proofs.open.head_of.Reads as head-of
 use Rattle.ring.proofs.point.point.Reads as point
+use Rattle.ring.proofs.position.position.Reads as position
 use Rattle.ring.proofs.filter.filter_walk.Reads as filter-walk
 use Rattle.ring.proofs.ringwalk.ring_walk.Reads as ring-walk
 use Rattle.ring.proofs.page.page.Reads as page
@@ -22,6 +23,7 @@ use Rattle.ring.proofs.partners.partners.Reads as partners
 use Rattle.nearest.proofs.nearest.Reads as nearest
 use Rattle.nearest.proofs.near_filter.Reads as near-filter
 use Rattle.pack.proofs.pack.Reads as pack
+use Rattle.pack.proofs.sheet_len.Reads as sheet-len
 use Rattle.marker.proofs.mark.Reads as mark
 use Rattle.book.proofs.Book.begin.Reads as begin
 use Rattle.book.proofs.next_array.Reads as next-array
@@ -58,6 +60,9 @@ head-of-takes κs a = tt
 pub point-takes : (κs : Lfts 1) (a : _) → point.Asked κs a
 point-takes κs a = tt
 
+pub position-takes : (κs : Lfts 1) (a : _) → position.Asked κs a
+position-takes κs a = tt
+
 pub filter-walk-takes : (κs : Lfts 3) (a : _) → filter-walk.Asked κs a
 filter-walk-takes κs a = tt
 
@@ -84,6 +89,9 @@ near-filter-takes κs a = tt
 
 pub pack-takes : (κs : Lfts 3) (a : _) → pack.Asked κs a
 pack-takes κs a = tt
+
+pub sheet-len-takes : (κs : Lfts 0) (a : _) → sheet-len.Asked κs a
+sheet-len-takes κs a = tt
 
 pub mark-takes : (κs : Lfts 0) (a : _) → mark.Asked κs a
 mark-takes κs a = tt

@@ -14,6 +14,7 @@ use Rattle.ring.specs.declared.Filtered.{Filtered}
 use Rattle.ring.specs.declared.Paged.{Paged}
 use Rattle.shortest.specs.declared.Shortlist.{Shortlist}
 use Rattle.ring.specs.declared.Partnered.{Partnered}
+use Rattle.ring.specs.declared.Placed.{Placed}
 use Rattle.nearest.specs.declared.Found.{Found}
 use Rattle.book.specs.declared.Book.{Book}
 use Rattle.book.specs.Rules.{asked}
@@ -30,6 +31,8 @@ use Rattle.ffi.specs.declared.MarkAnswer.{MarkAnswer}
 use Rattle.ffi.specs.Over.{keyOver, storeOver}
 use Rattle.ffi.proofs.ring_open.Reads as open-c
 use Rattle.ffi.proofs.ring_pack.Reads as pack-c
+use Rattle.ffi.proofs.ring_sheet_len.Reads as sheet-len-c
+use Rattle.ffi.proofs.ring_position.Reads as position-c
 use Rattle.ffi.proofs.ring_point.Reads as point-c
 use Rattle.ffi.proofs.ring_filter_walk.Reads as filter-c
 use Rattle.ffi.proofs.ring_pair_walk.Reads as walk-c
@@ -60,6 +63,16 @@ pub record PackC (form n : ℕ) (points order : List ℤ) (edition : ℕ) (out :
       (form, (n, (slice p-at points, (slice o-at order, (edition, (slice out-at out, tt))))))
       r
       (form, (n, (slice p-at points, (slice o-at order, (edition, (slice out-at out′, tt))))))
+
+-- `ring_sheet_len(n)` answers r [C1, D8]
+pub record LengthC (n r : ℕ) : Type 0 where
+  pub promised : sheet-len-c.Post tt (n, tt) r (n, tt)
+
+-- `ring_position(w, id)` answers r [C1, D8]
+pub record PlaceC (w : List ℤ) (id : ℕ) (r : Placed) : Type 0 where
+  pub κs : Lfts 1
+  pub w-at : Place
+  pub promised : position-c.Post κs (slice w-at w, (id, tt)) r (slice w-at w, (id, tt))
 
 -- `ring_point(w, position)` answers r [C1, D8]
 pub record PointC (w : List ℤ) (position : ℕ) (r : PointAnswer) : Type 0 where

@@ -31,6 +31,7 @@ use Rattle.ring.specs.declared.Filtered.{Filtered}
 use Rattle.ring.specs.declared.Walked.{Walked}
 use Rattle.ring.specs.declared.Paged.{Paged}
 use Rattle.ring.specs.declared.Partnered.{Partnered}
+use Rattle.ring.specs.declared.Placed.{Placed}
 use Rattle.view.specs.declared.Sheet.{Sheet}
 use Rattle.view.specs.declared.Opened.{Opened}
 use Rattle.view.specs.Shown.{shown, openOf}
@@ -59,6 +60,7 @@ use Rattle.runs.specs.Run.{runAnswer, runSlots, runBits}
 use Rattle.ring.proofs.open.open_no.Reads as open-no
 use Rattle.ring.proofs.open.head_of.Reads as head-of
 use Rattle.ring.proofs.point.point.Reads as point
+use Rattle.ring.proofs.position.position.Reads as position
 use Rattle.ring.proofs.filter.filter_walk.Reads as filter-walk
 use Rattle.ring.proofs.ringwalk.ring_walk.Reads as ring-walk
 use Rattle.ring.proofs.page.page.Reads as page
@@ -68,6 +70,7 @@ use Rattle.ring.proofs.partners.partners.Reads as partners
 use Rattle.nearest.proofs.nearest.Reads as nearest
 use Rattle.nearest.proofs.near_filter.Reads as near-filter
 use Rattle.pack.proofs.pack.Reads as pack
+use Rattle.pack.proofs.sheet_len.Reads as sheet-len
 use Rattle.marker.proofs.mark.Reads as mark
 use Rattle.book.proofs.Book.begin.Reads as begin
 use Rattle.book.proofs.take_array.Reads as take-array
@@ -107,6 +110,12 @@ pub record PointAnswers (w : List ℤ) (position : ℕ) (r : Pointed) : Type 0 w
   pub κs : Lfts 1
   pub w-at : Place
   pub promised : point.Post κs (slice w-at w, (position, tt)) r (slice w-at w, (position, tt))
+
+-- `ring::position::position(w, id)` answers r [D8]
+pub record PlaceAnswers (w : List ℤ) (id : ℕ) (r : Placed) : Type 0 where
+  pub κs : Lfts 1
+  pub w-at : Place
+  pub promised : position.Post κs (slice w-at w, (id, tt)) r (slice w-at w, (id, tt))
 
 -- `ring::filter::filter_walk(P, Q, j, bits)` answers r, and the lent words are `bits′` at its exit [B1, D1, D7, D8]
 pub record FilterAnswers (P Q : List ℤ) (j : ℕ) (bits : List ℕ) (r : Filtered) (bits′ : List ℕ) : Type 0 where
@@ -201,6 +210,10 @@ pub record NearFilterAnswers (P Q : List ℤ) (id : ℕ) (waiting bits : List �
       (slice p-at P, (slice q-at Q, (id, (slice w-at waiting′, (slice b-at bits′, tt)))))
 
 -- ---- pack, marker
+
+-- `pack::sheet_len(n)` answers r [D8]
+pub record LengthAnswers (n r : ℕ) : Type 0 where
+  pub promised : sheet-len.Post tt (n, tt) r (n, tt)
 
 -- `pack::pack(form, n, points, order, edition, out)` answers r, and the words of `out` are `out′` at its exit [B1, D8]
 pub record PackAnswers (form n : ℕ) (points order : List ℤ) (edition : ℕ) (out : List ℤ) (r : ℕ) (out′ : List ℤ) : Type 0 where

@@ -15,16 +15,18 @@ use nearest::Found;
 use ring::Filtered;
 use ring::Paged;
 use ring::Partnered;
+use ring::Placed;
 use runs::Run;
 use shortest::Shortlist;
 ghost use mathlib.Core.Path.{_≡_};
 ghost use lib.ListN.{length};
-ghost use Rattle.pack.specs.Pack.{packNo, packOut};
+ghost use Rattle.pack.specs.Pack.{packNo, packOut, lengthFor};
 ghost use Rattle.ring.specs.Answers.{pointed, filtered, filteredBits, walked};
 ghost use Rattle.ring.specs.Page.{pageAnswer, pageBits};
 ghost use Rattle.ring.specs.Own.{ownAnswer, ownBits};
 ghost use Rattle.shortest.specs.Answer.{shortAnswer, shortBits};
 ghost use Rattle.ring.specs.Partners.{partnersAnswer, partnersBits};
+ghost use Rattle.ring.specs.Position.{placed};
 ghost use Rattle.book.specs.Rules.{begunFor, asked, taken, takenSlots};
 ghost use Rattle.depot.specs.Forms.{formsAnswer, formsOut};
 ghost use Rattle.depot.specs.Depot.{begunDepot, stored, storedSlots};
@@ -302,6 +304,22 @@ pub extern "C" fn ring_pack(
     ensures { λ r. ⌜ now (out .exit) ≡ packOut form n (now (points .entry)) (now (order .entry)) edition (now (out .entry)) ⌝ }
 {
     pack::pack(form, n, points, order, edition, out)
+}
+
+// How many words a packed sheet of n points has; 0 where n is over 60,000.
+#[no_mangle]
+pub extern "C" fn ring_sheet_len(n: usize) -> usize
+    ensures { λ r. ⌜ r ≡ lengthFor n ⌝ }
+{
+    pack::sheet_len(n)
+}
+
+// The position of the record with this id: 0, or 1 to 8, 20.
+#[no_mangle]
+pub extern "C" fn ring_position(words: &[i32], id: u32) -> Placed
+    ensures { λ r. ⌜ r ≡ placed (now (words .entry)) id ⌝ }
+{
+    ring::position::position(words, id)
 }
 
 // The record at a position: 0, or 1 to 8, 9.

@@ -4,12 +4,12 @@ use mathlib.Core.Path.{_≡_, refl, sym, ap, subst, _∙_}
 use mathlib.Core.Bool.{Bool, true, false, _&&_, _||_}
 use mathlib.Core.Logic.{_⊎_, inl, inr, ⊎-elim}
 use mathlib.Core.List.{List}
-use Prim.Native.Nat.{ℕ, _+_, _*_, _/_, _%_, _≤_}
+use Prim.Native.Nat.{ℕ, _*_, _/_, _%_, _≤_, _<_}
 use native.Mathlib.Omega.{arith}
 use lib.Dec.{eqb, leb}
 use lib.IntN.{ℤ, pos}
 use lib.ListN.{length}
-use borrow.Author.Tests.{eqb-true, eq-eqb, ne-eqb, leb-true}
+use borrow.Author.Tests.{eqb-true, eq-eqb, ne-eqb, leb-true, le-leb, lt-leb}
 use Rattle.integers.proofs.Bools.{and-left, and-right, and-both, test-iff}
 use Rattle.words.specs.Word.{eqZ}
 use Rattle.words.specs.Range.{editionOk}
@@ -18,10 +18,9 @@ use Rattle.words.proofs.FirstLaws.{first-last, none-applies, given-held, answer
 use Rattle.sheet.specs.declared.Limits.{Limits}
 use Rattle.sheet.specs.Limits.{form1, form2, limitsOf}
 use Rattle.sheet.specs.Points.{pointsOk}
-use Rattle.pack.specs.Tree.{nodesFor}
 use Rattle.pack.specs.Order.{orderListOk}
 use Rattle.pack.specs.Packed.{sheetSize, packed}
-use Rattle.pack.specs.Pack.{shapeOk, formOk, rangeOk, withinNo, packNo, packOut}
+use Rattle.pack.specs.Pack.{shapeOk, formOk, rangeOk, withinNo, packNo, packOut, lengthFor}
 
 -- a length is three times n where it is divided by three without rest, n times
 pub thirds : (k n : ℕ) → (eqb (k % 3) 0 && eqb (k / 3) n) ≡ eqb k (3 * n)
@@ -52,13 +51,20 @@ unfolding rangeOk
 range-edition lim n ed e = and-right (leb n (lim .points)) (editionOk ed) e
 
 -- the length against the sheet's
-pub pack-size-fits : (n m size : ℕ) → m ≡ nodesFor n → size ≡ 5 * n + 7 * m + 6 → eqb size (sheetSize n) ≡ true
-unfolding sheetSize
-pack-size-fits n m size e h = eq-eqb size (5 * n + 7 * nodesFor n + 6) (omega arith)
+pub pack-size-fits : (n size words : ℕ) → words ≡ sheetSize n → size ≡ words → eqb size (sheetSize n) ≡ true
+pack-size-fits n size words e h = eq-eqb size (sheetSize n) (omega arith)
 
-pub size-differs : (n m size : ℕ) → m ≡ nodesFor n → (size ≡ 5 * n + 7 * m + 6 → ⊥) → eqb size (sheetSize n) ≡ false
-unfolding sheetSize
-size-differs n m size e h = ne-eqb size (5 * n + 7 * nodesFor n + 6) (λ (x : size ≡ 5 * n + 7 * nodesFor n + 6). h (omega arith))
+pub size-differs : (n size words : ℕ) → words ≡ sheetSize n → (size ≡ words → ⊥) → eqb size (sheetSize n) ≡ false
+size-differs n size words e h = ne-eqb size (sheetSize n) (λ (x : size ≡ sheetSize n). h (omega arith))
+
+-- the length that a caller is told: none past form 2's points
+pub length-past : (n : ℕ) → 60000 < n → 0 ≡ lengthFor n
+unfolding lengthFor
+length-past n h = rw (lt-leb n 60000 h)
+
+pub length-within : (n words : ℕ) → n ≤ 60000 → words ≡ sheetSize n → words ≡ lengthFor n
+unfolding lengthFor
+length-within n words h e = e ∙ rw (le-leb n 60000 h)
 
 -- ---- what the answer says
 
@@ -121,6 +127,20 @@ module _ (form n : ℕ) (p o : List ℤ) (ed size : ℕ) where
   pub pack-by-second : shapeOk n p o ≡ true → form ≡ 2 → withinNo form2 n p o ed size ≡ packNo form n p o ed size
   unfolding packNo formOk limitsOf eqZ first given
   pack-by-second e f = subst (λ (k : ℕ). withinNo form2 n p o ed size ≡ packNo k n p o ed size) (sym f) (rw e (sym (first-last (withinNo form2 n p o ed size))))
+
+-- both forms have at most so many points
+form-most : (form : ℕ) → (form ≡ 1) ⊎ (form ≡ 2) → limitsOf (pos form) .points ≤ 60000
+unfolding limitsOf form1 form2 eqZ
+form-most form (inl e) = subst (λ (k : ℕ). limitsOf (pos k) .points ≤ 60000) (sym e) (omega arith)
+form-most form (inr e) = subst (λ (k : ℕ). limitsOf (pos k) .points ≤ 60000) (sym e) (omega arith)
+
+-- no refusal: as many words are lent as a caller is told
+pub pack-lent : (form n : ℕ) (p o : List ℤ) (ed size : ℕ) → packNo form n p o ed size ≡ 0 → size ≡ lengthFor n
+pack-lent form n p o ed size e =
+    let lim = limitsOf (pos form) in
+    let z = within-facts lim n p o ed size (pack-within form n p o ed size e) in
+    let few : n ≤ 60000 = omega (arith, range-few lim n ed (z .ranged), form-most form (form-cases form (pack-formed form n p o ed size e))) in
+    length-within n size few (z .sized)
 
 module _ (form n : ℕ) (p o : List ℤ) (ed : ℕ) (out : List ℤ) where
   pub out-refused : (packNo form n p o ed (length out) ≡ 0 → ⊥) → out ≡ packOut form n p o ed out

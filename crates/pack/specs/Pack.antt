@@ -1,5 +1,5 @@
 -- What `pack` answers, and what it leaves in the words that the caller lends. p are the point words, o is the order list, ed the edition, out the lent words.
-use mathlib.Core.Bool.{Bool, not, _&&_, _||_}
+use mathlib.Core.Bool.{Bool, cond, not, _&&_, _||_}
 use mathlib.Core.List.{List, [], _∷_}
 use Prim.Native.Nat.{ℕ, _*_}
 use lib.Dec.{eqb, leb}
@@ -46,6 +46,10 @@ packNo form n p o ed size =
 -- the lent words after the call: the packed sheet of this form, or as they stood where it is refused [S22, N3, Y4, V4]
 unfoldable pub packOut : ℕ → ℕ → List ℤ → List ℤ → ℕ → List ℤ → List ℤ
 packOut form n p o ed out = answer (packNo form n p o ed (length out)) (packed form p o n ed) (λ k. out)
+
+-- How many words a caller lends for the sheet of n points, "exactly span+6 words"; 0 where no form has so many points: no sheet is so short. [S29]
+unfoldable pub lengthFor : ℕ → ℕ
+lengthFor n = cond (leb n 60000) (sheetSize n) 0
 
 -- the points that n times three point words give, by position
 unfoldable pub pointsIn : ℕ → List ℤ → List Point

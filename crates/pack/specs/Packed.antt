@@ -45,7 +45,7 @@ unfoldable pub packWord : ℕ → List ℤ → List ℤ → ℕ → ℕ → ℕ 
 packWord form p o n ed i =
     cond (ltb i (5 * n + 7 * nodesFor n)) (bodyWord p o n i) (trailerWord form n (nodesFor n) ed (i - (5 * n + 7 * nodesFor n)))
 
--- "A sheet is exactly span+6 words" [N17]
+-- "A sheet is exactly span+6 words" [S29, N17]
 unfoldable pub sheetSize : ℕ → ℕ
 sheetSize n = 5 * n + 7 * nodesFor n + 6
 

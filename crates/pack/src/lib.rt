@@ -11,7 +11,7 @@ ghost use lib.ListN.{length, getD};
 ghost use Rattle.words.specs.First.{answer};
 ghost use Rattle.sheet.specs.Limits.{Fair, form1, form2};
 ghost use Rattle.pack.specs.Packed.{packed};
-ghost use Rattle.pack.specs.Pack.{shapeOk, rangeOk, withinNo, packNo, packOut};
+ghost use Rattle.pack.specs.Pack.{shapeOk, rangeOk, withinNo, packNo, packOut, lengthFor};
 
 // Whether there are three words for each of n points, and a place for each. Any n is answered: 3n is never made.
 fn shape_ok(n: usize, p: &[i32], o: &[i32]) -> bool
@@ -50,7 +50,7 @@ fn within_no(
     if !order::each_once(o, n, seen) {
         return 6;
     }
-    if size != 5 * n + 7 * tree::nodes_for(n) + 6 {
+    if size != tree::size_for(n) {
         return 17;
     }
     0
@@ -121,4 +121,14 @@ pub fn pack(
         return pack_second(n, points, order, edition, out);
     }
     2
+}
+
+// How many words a caller lends to `pack` for a sheet of n points; 0 where n is over 60,000, which no form has.
+pub fn sheet_len(n: usize) -> usize
+    ensures { λ r. ⌜ r ≡ lengthFor n ⌝ }
+{
+    if 60000 < n {
+        return 0;
+    }
+    tree::size_for(n)
 }

@@ -3,6 +3,7 @@ use sheet::Due;
 ghost use mathlib.Core.Path.{_≡_};
 ghost use Prim.Native.Nat.{_≤_, _<_};
 ghost use Rattle.pack.specs.Tree.{nodesFor, planCount};
+ghost use Rattle.pack.specs.Packed.{sheetSize};
 ghost use Rattle.pack.specs.Work;
 
 // How many nodes of 16 cover k places or nodes.
@@ -25,6 +26,14 @@ pub(crate) fn nodes_for(n: usize) -> usize
         m += k;
     }
     m
+}
+
+// How many words the sheet of n points has.
+pub(crate) fn size_for(n: usize) -> usize
+    requires { ⌜ n ≤ 60000 ⌝ }
+    ensures { λ r. ⌜ r ≡ sheetSize n ⌝ }
+{
+    5 * n + 7 * nodes_for(n) + 6
 }
 
 // What is planned of node j + 1, from what is planned of node j.

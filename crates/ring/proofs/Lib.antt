@@ -8,6 +8,7 @@
 --     Once          one input, one answer, and its number
 --     PageLaws      the page request
 --     PartnersLaws  the question for a chamber's partners
+--     PositionLaws  the question for the position of an id
 --     OwnLaws       the page request of a self join
 --     BlindLaws     a contractor's page does not depend on the ids of the other's chambers
 pub mod NumberLaws
@@ -19,5 +20,6 @@ pub mod FilterLaws
 pub mod Once
 pub mod PageLaws
 pub mod PartnersLaws
+pub mod PositionLaws
 pub mod OwnLaws
 pub mod BlindLaws

@@ -4,6 +4,7 @@
 --     Answers    the answers of the point reader, of both walks and of the check
 --     Page       the page request
 --     Partners   whether a chamber has at least t partners
+--     Position   the position of an id
 --     Own        the page request of a self join
 --     Blind      a sheet in two runs
 pub mod Lent
@@ -11,5 +12,6 @@ pub mod Numbers
 pub mod Answers
 pub mod Page
 pub mod Partners
+pub mod Position
 pub mod Own
 pub mod Blind

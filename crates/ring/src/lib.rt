@@ -6,6 +6,7 @@ pub mod own;
 pub mod page;
 pub mod partners;
 pub mod point;
+pub mod position;
 pub mod ringwalk;
 
 use list::Page;
@@ -41,6 +42,13 @@ pub struct Asset {
 pub enum Pointed {
     At(Asset),
     Refused(u32),
+}
+
+// What the question for the position of an id answers: 0 and the position, or the number of refusal and 0.
+#[repr(C)]
+pub struct Placed {
+    pub number: u32,
+    pub position: usize,
 }
 
 // What the filter walk answers beside the kept set in the words lent: 0, how many bits are set and the nodes opened; or the number of refusal and zeros. [Y12, F7]

@@ -5,4 +5,5 @@
 int memcmp(const void *, const void *, size_t);
 void *memcpy(void *, const void *, size_t);
 void *memset(void *, int, size_t);
+size_t strlen(const char *);
 #endif

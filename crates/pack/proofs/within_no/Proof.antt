@@ -3,7 +3,6 @@ use native.Mathlib.Omega.{arith}
 use Rattle.integers.proofs.Bools.{passed, failed}
 use Rattle.words.specs.First.{given, first}
 use Rattle.pack.specs.Pack.{withinNo}
-use Rattle.pack.proofs.TableLaws.{plan-few}
 use Rattle.pack.proofs.PackLaws.{shape-points, shape-order, range-few, pack-size-fits, size-differs}
 use borrow.Author.Needs.{needs}
 use Rattle.pack.proofs.within_no.Statement.{statement}
@@ -42,34 +41,10 @@ returns-3 c =
     let d = passed (u .before .points-ok .ensures) (u .if2 .left) in
     rw (b, d, failed (c .before .before .before .each-once .ensures) (c .if3 .taken))
 
-mul-if4 : tie.Need-mul-if4
-mul-if4 c =
+size-for-requires : tie.Need-size-for-requires
+size-for-requires c κs =
     let s = c .before .before .before .before .before .before .before .before .before .before in
     omega (arith, s .pre .0 .points-le, range-few (s .args .lim) (s .args .n) (s .args .edition) (passed (c .before .before .before .before .before .before .before .before .range-ok .ensures) (c .before .before .before .before .before .before .before .if1 .left)))
-
-nodes-for-requires : tie.Need-nodes-for-requires
-nodes-for-requires c κs =
-    let s = c .before .before .before .before .before .before .before .before .before .before in
-    omega (arith, s .pre .0 .points-le, range-few (s .args .lim) (s .args .n) (s .args .edition) (passed (c .before .before .before .before .before .before .before .before .range-ok .ensures) (c .before .before .before .before .before .before .before .if1 .left)))
-
--- n and the nodes over it, where the range was tested and the nodes were counted
-mul-if4-2 : tie.Need-mul-if4-2
-mul-if4-2 c =
-    let s = c .before .before .before .before .before .before .before .before .before .before .before in
-    let h = range-few (s .args .lim) (s .args .n) (s .args .edition) (passed (c .before .before .before .before .before .before .before .before .before .range-ok .ensures) (c .before .before .before .before .before .before .before .before .if1 .left)) in
-    omega (arith, c .nodes-for .ensures, plan-few (s .args .n), s .pre .0 .points-le, h)
-
-add-if4 : tie.Need-add-if4
-add-if4 c =
-    let s = c .before .before .before .before .before .before .before .before .before .before .before in
-    let h = range-few (s .args .lim) (s .args .n) (s .args .edition) (passed (c .before .before .before .before .before .before .before .before .before .range-ok .ensures) (c .before .before .before .before .before .before .before .before .if1 .left)) in
-    omega (arith, c .nodes-for .ensures, plan-few (s .args .n), s .pre .0 .points-le, h)
-
-add-if4-2 : tie.Need-add-if4-2
-add-if4-2 c =
-    let s = c .before .before .before .before .before .before .before .before .before .before .before in
-    let h = range-few (s .args .lim) (s .args .n) (s .args .edition) (passed (c .before .before .before .before .before .before .before .before .before .range-ok .ensures) (c .before .before .before .before .before .before .before .before .if1 .left)) in
-    omega (arith, c .nodes-for .ensures, plan-few (s .args .n), s .pre .0 .points-le, h)
 
 same-length-2 : tie.Need-same-length-2
 same-length-2 c = search needs
@@ -80,7 +55,7 @@ returns-4 c =
     let u = c .before .before .before .before .before .before .before in
     let b = passed (u .before .before .before .range-ok .ensures) (u .before .before .if1 .left) in
     let d = passed (u .before .points-ok .ensures) (u .if2 .left) in
-    rw (b, d, passed (c .before .before .before .before .before .each-once .ensures) (c .before .before .if3 .left), size-differs _ _ _ (c .before .nodes-for .ensures) (c .if4 .taken))
+    rw (b, d, passed (c .before .before .before .before .before .each-once .ensures) (c .before .before .if3 .left), size-differs _ _ _ (c .before .size-for .ensures) (c .if4 .taken))
 
 same-length-3 : tie.Need-same-length-3
 same-length-3 c = search needs
@@ -91,7 +66,7 @@ returns-5 c =
     let u = c .before .before .before .before .before .before .before in
     let b = passed (u .before .before .before .range-ok .ensures) (u .before .before .if1 .left) in
     let d = passed (u .before .points-ok .ensures) (u .if2 .left) in
-    rw (b, d, passed (c .before .before .before .before .before .each-once .ensures) (c .before .before .if3 .left), pack-size-fits _ _ _ (c .before .nodes-for .ensures) (c .if4 .left))
+    rw (b, d, passed (c .before .before .before .before .before .each-once .ensures) (c .before .before .if3 .left), pack-size-fits _ _ _ (c .before .size-for .ensures) (c .if4 .left))
 
 pub within-no-spec : {M : Type 1} → statement M
 within-no-spec =
@@ -104,11 +79,7 @@ within-no-spec =
     each-once-requires
     same-length
     returns-3
-    mul-if4
-    nodes-for-requires
-    mul-if4-2
-    add-if4
-    add-if4-2
+    size-for-requires
     same-length-2
     returns-4
     same-length-3
