@@ -49,7 +49,9 @@ class Commands(WithRing):
                 status = door.status_of("ring", lambda words: command.main(words, self.ring), [str(word) for word in words])
         finally:
             sys.stdin = before
-        return status, out.getvalue(), said.getvalue()
+        # how far it is, is said where a machine is slow, and is no part of what is tried, but where it is said at once
+        words_said = said.getvalue().splitlines(True)
+        return status, out.getvalue(), "".join(line for line in words_said if not progress.FIRST or not line.endswith("seconds so far\n"))
 
     def served(self, *words, given=b""):
         status, printed, said = self.call(*words, given=given)
