@@ -106,7 +106,7 @@ static unsigned long list_proved(const packed *p, const packed *q, unsigned long
     unsigned long count = 0;
     mine_opened = 0;
     for (;;) {
-        RingPaged r = ring_page(p->words, p->len, q->words, q->len, (RingRequest){key, size, 0, grid}, bits, RING_WORDS(MOST));
+        RingPaged r = ring_page(p->words, p->len, q->words, q->len, NULL, 0, (RingRequest){key, size, 0, 2, grid}, bits, RING_WORDS(MOST));
         if (r.number) return ~0ul;
         mine_opened += r.opened;
         for (unsigned long k = 0; k < r.page.count; k++) { mine[count].q = r.page.pairs[k].q; mine[count].p = r.page.pairs[k].p; mine[count].size = r.page.pairs[k].size; count++; }
@@ -149,7 +149,7 @@ static unsigned long listing(const char *kind, int n, const packed *p, const pac
     RingKey key = {a ? mine[a / 2].q : 0, a ? mine[a / 2].p : 0};
     twin_key asked = {key.q, key.p};
     static RingPaged r; static twin_page_answer t;
-    BEST(10, 5, proved, r = ring_page(p->words, p->len, q->words, q->len, (RingRequest){key, 16, 0, 0}, bits, RING_WORDS(MOST)));
+    BEST(10, 5, proved, r = ring_page(p->words, p->len, q->words, q->len, NULL, 0, (RingRequest){key, 16, 0, 2, 0}, bits, RING_WORDS(MOST)));
     BEST(10, 5, twin, t = twin_page(p->words, p->len, q->words, q->len, asked, 16, bits, RING_WORDS(MOST)));
     int agree = r.number == 0 && t.number == 0 && r.opened == t.opened && r.page.count == t.count && !r.page.end == !t.end;
     for (unsigned long k = 0; k < t.count && agree; k++) agree = r.page.pairs[k].q == t.pairs[k].q && r.page.pairs[k].p == t.pairs[k].p && r.page.pairs[k].size == t.pairs[k].size;

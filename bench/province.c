@@ -114,7 +114,7 @@ static int by_pages(size_t part, size_t parts)
     RingKey key = {(uint32_t)q.words[3 * from] - 1, 2000000000};
     for (bool end = from == to; !end; pages++) {
         long at = now();
-        RingPaged r = ring_page(p.words, p.len, q.words, q.len, (RingRequest){key, 16, 0, 0}, bits, RING_WORDS(p.n));
+        RingPaged r = ring_page(p.words, p.len, q.words, q.len, NULL, 0, (RingRequest){key, 16, 0, 2, 0}, bits, RING_WORDS(p.n));
         at = now() - at;
         if (r.number) { printf("refused %u\n", r.number); return 1; }
         if (at > slowest) slowest = at;

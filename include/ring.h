@@ -72,9 +72,11 @@ typedef struct RingPair {
 } RingPair;
 
 /* What is asked of a list beside its points: the threshold, the list of all pairs where it is 0, and otherwise of the pairs of the chambers that have at least
- * so many; the kind: `own` is set for the self join of one sheet, whose threshold is 0; and the profile: `grid` is set for the street grid. */
+ * so many; the contractor whose chambers it is of, 0 or 1, or 2 for an undivided list; the kind: `own` is set for the self join of one sheet, whose threshold is
+ * 0 and whose contractor is 2; and the profile: `grid` is set for the street grid. */
 typedef struct RingTerms {
     uint32_t threshold;
+    uint32_t contractor;
     bool own;
     bool grid;
 } RingTerms;
@@ -86,11 +88,13 @@ typedef struct RingSource {
     RingTerms terms;
 } RingSource;
 
-/* What a page request asks for: the pairs strictly after a key, how many of them, 1 to 16, and of which list: its threshold and its profile. */
+/* What a page request asks for: the pairs strictly after a key, how many of them, 1 to 16, and of which list: its threshold, its contractor, or 2 for an undivided
+ * list, and its profile. */
 typedef struct RingRequest {
     RingKey key;
     size_t size;
     uint32_t threshold;
+    uint32_t contractor;
     bool grid;
 } RingRequest;
 
@@ -296,22 +300,27 @@ RingFiltered ring_filter_walk(const int32_t *p, size_t p_len, const int32_t *q, 
 RingWalked ring_pair_walk(const int32_t *p, size_t p_len, const int32_t *q, size_t q_len, size_t j, size_t i, bool grid);
 
 /* The first `size` ring pairs strictly after a key, of the list of the threshold: all pairs where it is 0, and otherwise those of the chambers that have at
- * least so many. The key need not be a listed pair.
- * Input    both sheets, and a request: a key, a size 1 to 16, a threshold 0 to 60,000, and the profile. The sheets' words are only read.
+ * least so many; of a contractor's chambers, or of all. The key need not be a listed pair.
+ * Input    both sheets, the owner bytes, and a request: a key, a size 1 to 16, a threshold 0 to 60,000, the contractor, and the profile. For contractor 0 or 1
+ *          there is one owner byte for each chamber, by position, 0 or 1; for 2 there is none. The sheets' words and the bytes are only read.
  * Lent     bits: RING_WORDS(P's n) words or more. After an answer the first so many are 0; those past them are not written.
- * Answer   the page: both editions, the threshold and the profile, the key, the pairs in the list's order, their number, the end mark. With a threshold above 0
- *          the nodes opened are those of all kept partners of each chamber reached.
+ * Answer   the page: both editions, the threshold, the contractor and the profile, the key, the pairs in the list's order, their number, the end mark. With a
+ *          threshold above 0 the nodes opened are those of all kept partners of each chamber reached. Of a contractor's list only its own chambers are filtered
+ *          and counted, while every record still blocks; the page does not depend on the ids of the other's chambers, but the nodes opened may: hand the page on
+ *          without them.
  * Cost     of the circle a filter walk for each chamber reached, and a ring walk for each partner that it keeps. Of the street grid nothing is filtered: every
  *          pump house of each chamber reached is ring-walked, and the nodes opened are those of the ring walks alone.
- * Refused  1 to 8 for P, then 1 to 8 for Q, then 29 where `grid` is set and a sheet is of form 2, then 9 where an id of the key is over 2,000,000,000, then 10
- *          where the size is not 1 to 16, then 21, then 24 where fewer words are lent; no lent word is written. */
-RingPaged ring_page(const int32_t *p, size_t p_len, const int32_t *q, size_t q_len, RingRequest request, uint64_t *bits, size_t bits_len);
+ * Refused  1 to 8 for P, then 1 to 8 for Q, then 27 where the contractor is over 2, then 26 where the owner bytes are not one 0 or 1 a chamber, or for 2 there is
+ *          any, then 29 where `grid` is set and a sheet is of form 2, then 9 where an id of the key is over 2,000,000,000, then 10 where the size is not 1 to 16,
+ *          then 21, then 24 where fewer words are lent; no lent word is written. */
+RingPaged ring_page(const int32_t *p, size_t p_len, const int32_t *q, size_t q_len, const uint8_t *owners, size_t owners_len, RingRequest request, uint64_t *bits,
+                    size_t bits_len);
 
 /* The self join of one sheet: the first `size` pairs strictly after a key. Its list has two different records of the sheet exactly if no other record of it
  * blocks them, each pair once, by the lower id, then the higher: in a pair q is the lower id, p the higher.
  * Input    the sheet, a key, a size 1 to 16, and the profile: `grid` is set for the street grid. The sheet's words are only read.
  * Lent     bits: RING_WORDS(the sheet's n) words or more. After an answer the first so many are 0; those past them are not written.
- * Answer   the page: the edition twice, the threshold 0, the kind, the profile, the key, the pairs in the list's order, their number, the end mark; and the
+ * Answer   the page: the edition twice, the threshold 0, the contractor 2, the kind, the profile, the key, the pairs in the list's order, their number, the end mark; and the
  *          nodes opened.
  * Cost     as of ring_page: along the streets every record of higher id is ring-walked for each one reached.
  * Refused  1 to 8, then 29 where `grid` is set and the sheet is of form 2, then 9 where an id of the key is over 2,000,000,000, then 10 where the size is not
@@ -351,10 +360,11 @@ RingFound ring_nearest(const int32_t *p, size_t p_len, const int32_t *q, size_t 
 RingFiltered ring_near_filter(const int32_t *p, size_t p_len, const int32_t *q, size_t q_len, uint32_t id, uint64_t *waiting, size_t waiting_len,
                               uint64_t *bits, size_t bits_len);
 
-/* Begins a book of the list of two editions and a threshold, or of a self join, of either profile: nothing held, open.
- * Input    two editions, each 1 to 1,000,000,000, and a threshold 0 to 60,000; for a self join one edition in both fields, and the threshold 0; the profile.
+/* Begins a book of the list of two editions, a threshold and a contractor, or of a self join, of either profile: nothing held, open.
+ * Input    two editions, each 1 to 1,000,000,000, a threshold 0 to 60,000, and a contractor 0 to 2; for a self join one edition in both fields, the threshold 0
+ *          and the contractor 2; the profile.
  * Answer   the book. A book begun again starts from nothing.
- * Refused  3, then 21. */
+ * Refused  3, then 21, then 27. */
 RingBegun ring_book_begin(RingSource source);
 
 /* The key to ask for next: that of the last held pair, and (0, 0) where nothing is held.
@@ -368,8 +378,8 @@ RingNext ring_book_next_key(RingBook book, const RingPair *slots, size_t slots_l
  * Input    the book, and a page.
  * Lent     slots: those of the book. Slots that were held before, and slots past those held after, are not written.
  * Answer   0 and the book from now on.
- * Refused  11 the book holds more than there are slots; 12 it is closed; 22 the page is of the other kind; 30 it is of the other profile; 13 it is of other
- *          editions; 31 it is of another threshold; 14 its key is not the book's next key;
+ * Refused  11 the book holds more than there are slots; 12 it is closed; 22 the page is of the other kind; 28 it is of another contractor; 30 it is of the
+ *          other profile; 13 it is of other editions; 31 it is of another threshold; 14 its key is not the book's next key;
  *          15 it has over 16 pairs, an id outside 1 to 2,000,000,000, a size over 8,000,000,000,000,000,000, of the street grid over 16,000,000,000,000,
  *          pairs not ascending strictly after the key, or no pair and no end mark;
  *          16 it has more pairs than slots are left. In this order, and no slot is written. */
@@ -439,6 +449,9 @@ RingRun ring_leaf_run(const int32_t *p, size_t p_len, const int32_t *q, size_t q
  *   24  fewer words lent than the points need (ring_filter_walk, ring_page, ring_own_page, ring_partners, ring_shortest, ring_near_filter), or than
  *       16 times so many (ring_leaf_run)
  *   25  fewer numbers lent than P has points and nodes (ring_nearest, ring_near_filter)
+ *   26  owner bytes not one 0 or 1 a chamber, or any for contractor 2 (ring_page)
+ *   27  contractor outside 0 to 2 (ring_page, ring_book_begin), or not 2 for a self join (ring_book_begin)
+ *   28  page of another contractor (ring_book_take)
  *   29  form 2 with `grid` set (ring_pair_walk, ring_page, ring_own_page)
  *   30  page of the other profile (ring_book_take)
  *   31  page of another threshold (ring_book_take)

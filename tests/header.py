@@ -24,8 +24,9 @@ EXPORTED = re.compile(r'^pub extern "C" fn (ring_\w+)\(([^)]*)\) -> (\w+)', re.M
 STRUCT = re.compile(r"^#\[repr\(C\)\]\npub struct (\w+) \{\n([^}]*)\}", re.M)
 FIELD = re.compile(r"^    pub (\w+): (.*),$", re.M)
 # what a type of the source is called over C; any other has `Ring` before its name
-NAMES = {"u32": "uint32_t", "i32": "int32_t", "u64": "uint64_t", "usize": "size_t", "bool": "bool", "f64": "double", "HeadAnswer": "RingHead", "PointAnswer": "RingPoint",
-         "WalkAnswer": "RingWalked", "BookAnswer": "RingBegun", "KeyAnswer": "RingNext", "MarkAnswer": "RingMarker", "StoreAnswer": "RingStored", "Partnered": "RingPartners"}
+NAMES = {"u8": "uint8_t", "u32": "uint32_t", "i32": "int32_t", "u64": "uint64_t", "usize": "size_t", "bool": "bool", "f64": "double", "HeadAnswer": "RingHead",
+         "PointAnswer": "RingPoint", "WalkAnswer": "RingWalked", "BookAnswer": "RingBegun", "KeyAnswer": "RingNext", "MarkAnswer": "RingMarker",
+         "StoreAnswer": "RingStored", "Partnered": "RingPartners"}
 
 
 def read(name):

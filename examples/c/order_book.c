@@ -39,8 +39,8 @@ static RingBook follow(RingBook book, RingPair *slots, size_t room) {
     for (int turn = 1; !book.closed; turn++) {
         RingNext next = ring_book_next_key(book, slots, room);
         if (refused("next key", next.number)) return book;
-        RingRequest request = {next.key, 2, book.source.terms.threshold, book.source.terms.grid};
-        RingPaged asked = ring_page(pumps, LEN(pumps), chambers, LEN(chambers), request, kept, LEN(kept));
+        RingRequest request = {next.key, 2, book.source.terms.threshold, book.source.terms.contractor, book.source.terms.grid};
+        RingPaged asked = ring_page(pumps, LEN(pumps), chambers, LEN(chambers), NULL, 0, request, kept, LEN(kept));
         if (refused("page", asked.number)) return book;
         printf("request %d, after (%u, %u): ", turn, next.key.q, next.key.p);
         if (turn == 1) {
@@ -102,7 +102,7 @@ int main(void) {
     if (refused("pump houses", p.number) || refused("chambers", q.number)) return 1;
     printf("%zu pump houses, %zu chambers\n", p.n, q.n);
 
-    RingSource source = {p.edition, q.edition, {0, false, false}};
+    RingSource source = {p.edition, q.edition, {0, 2, false, false}};
     RingBegun begun = ring_book_begin(source);
     if (refused("begin", begun.number)) return 1;
     printf("a book of editions %u and %u\n", begun.book.source.p_edition, begun.book.source.q_edition);

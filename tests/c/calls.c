@@ -23,9 +23,9 @@
 /* how much is watched on both sides of what is lent */
 #define PAST 64
 
-/* the numbers of refusal: 0 to 22, 24, 25 and 29 to 31 */
+/* the numbers of refusal: 0 to 22 and 24 to 31 */
 #define LAST 31
-#define A_NUMBER(k) ((k) <= 22 || (k) == 24 || (k) == 25 || ((k) >= 29 && (k) <= 31))
+#define A_NUMBER(k) ((k) <= 22 || ((k) >= 24 && (k) <= 31))
 
 /* counts have 64 bits: a field, or a whole struct, has so many bytes */
 #define FIELD(type, field, bytes) typedef char type##_##field[sizeof ((type *)0)->field == (bytes) ? 1 : -1]
@@ -55,13 +55,15 @@ FIELD(RingRun, opened, 8);
 FIELD(RingPoint, x, 4);
 FIELD(RingPoint, y, 4);
 FIELD(RingTerms, threshold, 4);
+FIELD(RingTerms, contractor, 4);
 FIELD(RingTerms, own, 1);
 FIELD(RingTerms, grid, 1);
+FIELD(RingRequest, contractor, 4);
 FIELD(RingRequest, grid, 1);
-STRUCT(RingTerms, 8);
-STRUCT(RingSource, 16);
-STRUCT(RingRequest, 24);
-STRUCT(RingPage, 296);
+STRUCT(RingTerms, 12);
+STRUCT(RingSource, 20);
+STRUCT(RingRequest, 32);
+STRUCT(RingPage, 304);
 STRUCT(RingBook, 32);
 STRUCT(RingPair, 16);
 STRUCT(RingForm, 40);
@@ -69,7 +71,7 @@ STRUCT(RingStored, 16);
 STRUCT(RingHead, 40);
 STRUCT(RingFiltered, 24);
 STRUCT(RingWalked, 32);
-STRUCT(RingPaged, 312);
+STRUCT(RingPaged, 320);
 STRUCT(RingRun, 24);
 
 static uint64_t seed = 88172645463325252ull;
@@ -389,6 +391,7 @@ static uint32_t take_no(const RingBook *b, const RingPair *slots, size_t len, co
     if (b->held > len) return 11;
     if (b->closed) return 12;
     if (g->source.terms.own != b->source.terms.own) return 22;
+    if (g->source.terms.contractor != b->source.terms.contractor) return 28;
     if (g->source.terms.grid != b->source.terms.grid) return 30;
     if (g->source.p_edition != b->source.p_edition || g->source.q_edition != b->source.q_edition) return 13;
     if (g->source.terms.threshold != b->source.terms.threshold) return 31;
@@ -400,7 +403,8 @@ static uint32_t take_no(const RingBook *b, const RingPair *slots, size_t len, co
 
 static bool same_book(RingBook a, RingBook b) {
     return a.held == b.held && a.closed == b.closed && a.source.p_edition == b.source.p_edition && a.source.q_edition == b.source.q_edition
-        && a.source.terms.threshold == b.source.terms.threshold && a.source.terms.own == b.source.terms.own && a.source.terms.grid == b.source.terms.grid;
+        && a.source.terms.threshold == b.source.terms.threshold && a.source.terms.contractor == b.source.terms.contractor
+        && a.source.terms.own == b.source.terms.own && a.source.terms.grid == b.source.terms.grid;
 }
 
 /* ---- the walks, read again */
@@ -514,6 +518,13 @@ static RingWalked walked(bool grid, const int32_t *q, const int32_t *p, size_t j
 
 /* the nodes opened for a page: of each q from the key's on the filter's, and those of its kept partners after the key, up to the first pair beyond the size; of the
    list of a t, those of all its kept partners. Of the street grid nobody is filtered, and all of P is kept */
+/* the owner bytes, one a chamber, and the contractor of a page: its chambers are those whose byte says so, for 2 all */
+static uint8_t owners[LARGEST + 1];
+static size_t owners_len;
+static uint32_t contractor = 2;
+
+static bool is_mine(size_t j) { return contractor == 2 || owners[j] == contractor; }
+
 static uint64_t page_opened(bool grid, RingKey key, size_t size, uint32_t t, bool own) {
     static Kept kept;
     const Sheet *s = own ? &P : &Q;
@@ -522,7 +533,7 @@ static uint64_t page_opened(bool grid, RingKey key, size_t size, uint32_t t, boo
     for (size_t j = 0; j < count_of(s) && found <= size; j++) {
         const int32_t *q = s->words + 3 * j;
         size_t many = 0, later = 0;
-        if ((uint32_t)q[0] < key.q) continue;
+        if ((uint32_t)q[0] < key.q || !(own || is_mine(j))) continue;
         if (!grid) opened += filtered(q, own ? j : SIZE_MAX, &kept);
         for (size_t i = own ? j + 1 : 0; i < count_of(&P) && (t || found + later <= size); i++) {
             const int32_t *p = P.words + 3 * i;
@@ -721,10 +732,10 @@ static RingPage page_of(bool grid, RingKey key, size_t size, uint32_t t) {
     RingPage g;
     memset(&g, 0, sizeof g);
     g.source.p_edition = (uint32_t)P.words[P.len - 2], g.source.q_edition = (uint32_t)Q.words[Q.len - 2];
-    g.source.terms.threshold = t, g.source.terms.grid = grid;
+    g.source.terms.threshold = t, g.source.terms.contractor = contractor, g.source.terms.grid = grid;
     g.key = key, g.end = true;
     for (size_t j = 0; j < count_of(&Q) && g.end; j++) {
-        if ((uint32_t)Q.words[3 * j] < key.q) continue;
+        if ((uint32_t)Q.words[3 * j] < key.q || !is_mine(j)) continue;
         for (size_t i = 0; i < count_of(&P) && g.end; i++) {
             RingPair v = size_by(grid, Q.words + 3 * j, P.words + 3 * i);
             if (!after(key, v) || !is_pair_by(grid, j, i) || (t && partners_by(grid, j) < t)) continue;
@@ -737,12 +748,27 @@ static RingPage page_of(bool grid, RingKey key, size_t size, uint32_t t) {
 
 static bool same_page(const RingPage *a, const RingPage *b) {
     return a->source.p_edition == b->source.p_edition && a->source.q_edition == b->source.q_edition && a->source.terms.threshold == b->source.terms.threshold
-        && a->source.terms.own == b->source.terms.own && a->source.terms.grid == b->source.terms.grid && a->key.q == b->key.q && a->key.p == b->key.p
+        && a->source.terms.contractor == b->source.terms.contractor && a->source.terms.own == b->source.terms.own && a->source.terms.grid == b->source.terms.grid && a->key.q == b->key.q && a->key.p == b->key.p
         && a->count == b->count && a->end == b->end && memcmp(a->pairs, b->pairs, sizeof a->pairs) == 0;
 }
 
 /* a threshold: few, or anything */
 static uint32_t some_threshold(void) { return below(3) == 0 ? 0 : below(6) ? (uint32_t)below(6) : below(2) ? 59999 + (uint32_t)below(3) : wild(); }
+
+static uint32_t some_contractor(void) { return below(8) ? (uint32_t)below(3) : wild(); }
+
+/* a contractor and owner bytes, one 0 or 1 a chamber or, for 2, none; or they are spoilt */
+static uint32_t some_owners(uint32_t number) {
+    contractor = some_contractor();
+    size_t n = number && number != 29 ? below(4) : count_of(&Q);
+    for (size_t k = 0; k <= LARGEST; k++) owners[k] = (uint8_t)below(2);
+    owners_len = contractor == 2 ? 0 : n;
+    bool bad = below(12) == 0;
+    if (bad && contractor != 2 && n && below(2)) owners[below(n)] = (uint8_t)(2 + below(254));
+    else if (bad) owners_len = owners_len && below(2) ? owners_len - 1 : owners_len + 1;
+    if (number && number != 29) return number;
+    return contractor > 2 ? 27 : bad ? 26 : number;
+}
 
 static void try_page(void) {
     uint32_t t = some_threshold();
@@ -751,25 +777,27 @@ static void try_page(void) {
     RingKey key = {0, 0};
     RingPage expected;
     uint32_t number = two_sheets_of(grid, 14, &j, &i);
+    number = some_owners(number);
     if (!number && j < count_of(&Q) && i < count_of(&P)) key.q = (uint32_t)Q.words[3 * j] + (uint32_t)below(2), key.p = (uint32_t)P.words[3 * i];
     if (below(6) == 0) key.q = wild();
     if (below(6) == 0) key.p = wild();
     if (!number) number = key.q > 2000000000 || key.p > 2000000000 ? 9 : size < 1 || size > 16 ? 10 : t > 60000 ? 21 : 0;
     number = lend(number, 1);
     if (!number) leave(1, NULL);
-    RingPaged r = ring_page(at(&P), P.len, at(&Q), Q.len, (RingRequest){key, size, t, grid}, bits(), words_len);
+    RingPaged r = ring_page(at(&P), P.len, at(&Q), Q.len, owners_len ? owners : NULL, owners_len, (RingRequest){key, size, t, contractor, grid}, bits(), words_len);
     saw(r.number), hold_saved(), hold_lent();
     HOLD(r.number == number && r.opened == (number ? 0 : page_opened(grid, key, size, t, false)));
     if (r.number) memset(&expected, 0, sizeof expected);
     else expected = page_of(grid, key, size, t);
     HOLD(same_page(&r.page, &expected));
+    contractor = 2;
 }
 
 /* the page of P's self join, by trying every two records: no other stands in their circle, or between them along the streets */
 static RingPage own_of(bool grid, RingKey key, size_t size) {
     RingPage g;
     memset(&g, 0, sizeof g);
-    g.source.p_edition = g.source.q_edition = (uint32_t)P.words[P.len - 2], g.source.terms.own = true, g.source.terms.grid = grid;
+    g.source.p_edition = g.source.q_edition = (uint32_t)P.words[P.len - 2], g.source.terms.contractor = 2, g.source.terms.own = true, g.source.terms.grid = grid;
     g.key = key, g.end = true;
     for (size_t j = 0; j < count_of(&P) && g.end; j++) {
         if ((uint32_t)P.words[3 * j] < key.q) continue;
@@ -861,10 +889,10 @@ static void try_partners(void) {
 static uint32_t some_edition(void) { return below(2) ? 1 + (uint32_t)below(1000000000) : wild(); }
 
 static void try_begin(void) {
-    RingSource s = {some_edition(), some_edition(), {some_threshold(), below(2), below(2)}}, none = {0, 0, {0, false, false}};
+    RingSource s = {some_edition(), some_edition(), {some_threshold(), some_contractor(), below(2), below(2)}}, none = {0, 0, {0, 0, false, false}};
     if (below(2)) s.q_edition = s.p_edition;
     bool ok = in(1, s.p_edition, 1000000000) && in(1, s.q_edition, 1000000000) && !(s.terms.own && s.p_edition != s.q_edition);
-    uint32_t number = !ok ? 3 : s.terms.threshold > (s.terms.own ? 0 : 60000) ? 21 : 0;
+    uint32_t number = !ok ? 3 : s.terms.threshold > (s.terms.own ? 0 : 60000) ? 21 : s.terms.contractor > 2 || (s.terms.own && s.terms.contractor != 2) ? 27 : 0;
     RingBook begun = {0, false, number ? none : s};
     RingBegun r = ring_book_begin(s);
     saw(r.number);
@@ -883,7 +911,7 @@ static size_t make_slots(RingBook *b) {
         if (room[k].q == room[k - 1].q && room[k].p <= room[k - 1].p) room[k].p = room[k - 1].p + 1;
     b->held = below(8) ? below(len + 1) : below(2) ? len + 1 + below(3) : wild_size();
     b->closed = below(9) == 0;
-    b->source.p_edition = some_edition(), b->source.q_edition = some_edition(), b->source.terms.threshold = some_threshold();
+    b->source.p_edition = some_edition(), b->source.q_edition = some_edition(), b->source.terms.threshold = some_threshold(), b->source.terms.contractor = some_contractor();
     b->source.terms.own = below(2), b->source.terms.grid = below(2);
     return len;
 }
@@ -934,6 +962,7 @@ static void spoil_page(RingPage *g) {
     case 14: g->source.terms.own = !g->source.terms.own; break;
     case 15: g->source.terms.grid = !g->source.terms.grid; break;
     case 16: g->pairs[below(3)].size = most_size(!g->source.terms.grid); break;
+    case 17: g->source.terms.contractor = some_contractor(); break;
     }
 }
 
@@ -1289,7 +1318,7 @@ static void province_page(RingKey key, size_t size, bool own, size_t len) {
         lend_words(len);
         if (!number) leave(1, NULL), expected = own ? own_of(false, key, size) : page_of(false, key, size, 0);
         RingPaged r = own ? ring_own_page(P.words, P.len, key, size, grid, bits(), len)
-                          : ring_page(P.words, P.len, Q.words, Q.len, (RingRequest){key, size, 0, grid}, bits(), len);
+                          : ring_page(P.words, P.len, Q.words, Q.len, NULL, 0, (RingRequest){key, size, 0, 2, grid}, bits(), len);
         saw(r.number), hold_saved(), hold_lent();
         HOLD(r.number == number && r.opened == (number ? 0 : page_opened(false, key, size, 0, own)));
         HOLD(same_page(&r.page, &expected));
@@ -1410,9 +1439,9 @@ static void try_barren(void) {
     save();
     for (int grid = 0; grid < 2; grid++) {
         lend_words(3), leave(1, NULL);
-        RingPaged r = ring_page(P.words, P.len, Q.words, Q.len, (RingRequest){start, 16, 0, grid}, bits(), 3);
-        RingBegun b = ring_book_begin((RingSource){7, 9, {0, false, grid}});
-        RingTaken other = ring_book_take((RingBook){0, false, {7, 9, {0, false, !grid}}}, room, 1, r.page), t = ring_book_take(b.book, room, 1, r.page);
+        RingPaged r = ring_page(P.words, P.len, Q.words, Q.len, NULL, 0, (RingRequest){start, 16, 0, 2, grid}, bits(), 3);
+        RingBegun b = ring_book_begin((RingSource){7, 9, {0, 2, false, grid}});
+        RingTaken other = ring_book_take((RingBook){0, false, {7, 9, {0, 2, false, !grid}}}, room, 1, r.page), t = ring_book_take(b.book, room, 1, r.page);
         saw(r.number), saw(b.number), saw(other.number), saw(t.number), hold_saved(), hold_lent();
         HOLD(r.number == 0 && r.page.end && r.page.count == (grid ? 0 : 1) && r.page.source.terms.grid == grid);
         HOLD(b.number == 0 && other.number == 30 && t.number == 0 && t.book.closed && t.book.held == r.page.count && t.book.source.terms.grid == grid);

@@ -19,7 +19,7 @@ use Rattle.list.specs.declared.Pair.{Pair}
 use Rattle.list.specs.declared.Source.{Source}
 use Rattle.list.specs.declared.Page.{Page}
 use Rattle.list.specs.Pairs.{none, keyOf, follows, ascends}
-use Rattle.list.specs.Pages.{thresholdNo, sourceNo, pagePairs}
+use Rattle.list.specs.Pages.{thresholdNo, contractorNo, sourceNo, pagePairs}
 use Rattle.list.specs.Lent.{lentOf}
 use Rattle.book.specs.declared.Book.{Book}
 use Rattle.book.specs.declared.Decided.{Decided}
@@ -45,17 +45,25 @@ module _ (s : Source) (a b : Bool) (ea : a ≡ editionOk (s .«p_edition»)) (eb
     begin-own f = rw (both ∙ e, f)
 
     module _ (f : ownWithT s ≡ false) (n : ℕ) (d : n ≡ thresholdNo (s .terms .threshold)) where
-      number-is : beginNo s ≡ n
-      unfolding beginNo first given
-      number-is = rw (both ∙ e, f) (first-last _ ∙ sym d)
+      number-is : beginNo s ≡ first (n ∷ contractorNo (s .terms .own) (s .terms .contractor) ∷ [])
+      unfolding beginNo
+      number-is = first-passes _ _ (given-no 3 (both ∙ e)) ∙ first-passes _ _ (given-no 21 f) ∙ ap (λ (k : ℕ). first (k ∷ contractorNo (s .terms .own) (s .terms .contractor) ∷ [])) (sym d)
 
       pub begin-21 : (n ≡ 0 → ⊥) → begun.Refused n ≡ begunFor s
       unfolding begunFor
-      begin-21 ne = sym (answer-refused (begun.Open (begunBook s)) begun.Refused _ n number-is ne)
+      begin-21 ne = sym (answer-refused (begun.Open (begunBook s)) begun.Refused _ n (number-is ∙ first-stops n _ ne) ne)
 
-      pub begin-0 : n ≡ 0 → begun.Open (begunBook s) ≡ begunFor s
-      unfolding begunFor
-      begin-0 z = sym (answer-given (begun.Open (begunBook s)) begun.Refused _ (number-is ∙ z))
+      module _ (z : n ≡ 0) (m : ℕ) (g : m ≡ contractorNo (s .terms .own) (s .terms .contractor)) where
+        whose-is : beginNo s ≡ m
+        whose-is = number-is ∙ first-passes n _ z ∙ first-last _ ∙ sym g
+
+        pub begin-27 : (m ≡ 0 → ⊥) → begun.Refused m ≡ begunFor s
+        unfolding begunFor
+        begin-27 ne = sym (answer-refused (begun.Open (begunBook s)) begun.Refused _ m whose-is ne)
+
+        pub begin-0 : m ≡ 0 → begun.Open (begunBook s) ≡ begunFor s
+        unfolding begunFor
+        begin-0 y = sym (answer-given (begun.Open (begunBook s)) begun.Refused _ (whose-is ∙ y))
 
 -- ---- the loop over a page's pairs
 

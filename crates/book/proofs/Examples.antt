@@ -9,7 +9,7 @@ use Rattle.list.specs.declared.Pair.{Pair}
 use Rattle.list.specs.declared.Source.{Source}
 use Rattle.list.specs.declared.Page.{Page}
 use Rattle.list.specs.Pairs.{start, none, keyOf, follows, ascends}
-use Rattle.list.specs.Pages.{thresholdNo, sourceNo, pagePairs}
+use Rattle.list.specs.Pages.{thresholdNo, contractorNo, sourceNo, pagePairs}
 use Rattle.words.specs.Range.{idOk, editionOk}
 use Rattle.plane.specs.Profile.{sizeOk}
 use Rattle.words.specs.First.{given, first, answer}
@@ -20,28 +20,38 @@ use Rattle.book.specs.Rules.{beginNo, begunBook, begunFor, lastKey, next
 
 -- editions 7 and 9, whose list is (5, 1), (5, 2), (6, 2)
 abbrev ours : Source
-ours = record { «p_edition» = 7; «q_edition» = 9; terms = record { threshold = 0; own = false; grid = false } }
+ours = record { «p_edition» = 7; «q_edition» = 9; terms = record { threshold = 0; contractor = 2; own = false; grid = false } }
 
 abbrev others : Source
-others = record { «p_edition» = 8; «q_edition» = 9; terms = record { threshold = 2; own = false; grid = false } }
+others = record { «p_edition» = 8; «q_edition» = 9; terms = record { threshold = 2; contractor = 2; own = false; grid = false } }
 
 -- the same editions, of another t
 abbrev less : Source
-less = record { «p_edition» = 7; «q_edition» = 9; terms = record { threshold = 2; own = false; grid = false } }
+less = record { «p_edition» = 7; «q_edition» = 9; terms = record { threshold = 2; contractor = 2; own = false; grid = false } }
 
 -- a self join
 abbrev alone : Source
-alone = record { «p_edition» = 7; «q_edition» = 7; terms = record { threshold = 0; own = true; grid = false } }
+alone = record { «p_edition» = 7; «q_edition» = 7; terms = record { threshold = 0; contractor = 2; own = true; grid = false } }
 
 -- the same editions, of the street grid; other editions of it; a self join of it
 abbrev streets : Source
-streets = record { «p_edition» = 7; «q_edition» = 9; terms = record { threshold = 0; own = false; grid = true } }
+streets = record { «p_edition» = 7; «q_edition» = 9; terms = record { threshold = 0; contractor = 2; own = false; grid = true } }
 
 abbrev other-streets : Source
-other-streets = record { «p_edition» = 8; «q_edition» = 9; terms = record { threshold = 2; own = false; grid = true } }
+other-streets = record { «p_edition» = 8; «q_edition» = 9; terms = record { threshold = 2; contractor = 2; own = false; grid = true } }
 
 abbrev alone-streets : Source
-alone-streets = record { «p_edition» = 7; «q_edition» = 7; terms = record { threshold = 0; own = true; grid = true } }
+alone-streets = record { «p_edition» = 7; «q_edition» = 7; terms = record { threshold = 0; contractor = 2; own = true; grid = true } }
+
+-- the same editions, of the first contractor; the first contractor's of the street grid, with other editions and another t; a self join that says so
+abbrev first-own : Source
+first-own = record { «p_edition» = 7; «q_edition» = 9; terms = record { threshold = 0; contractor = 0; own = false; grid = false } }
+
+abbrev first-streets : Source
+first-streets = record { «p_edition» = 8; «q_edition» = 9; terms = record { threshold = 2; contractor = 0; own = false; grid = true } }
+
+abbrev first-alone : Source
+first-alone = record { «p_edition» = 7; «q_edition» = 7; terms = record { threshold = 0; contractor = 0; own = true; grid = false } }
 
 abbrev at : ℕ → ℕ → Pair
 at q p = record { q = q; p = p; size = 16 }
@@ -66,38 +76,55 @@ abbrev slots : List Pair
 slots = at 5 1 ∷ at 5 2 ∷ at 1 1 ∷ at 1 2 ∷ []
 
 begins : begunFor ours ≡ begun.Open (book 0 false)
-unfolding begunFor beginNo first given answer begunBook editionOk thresholdNo
+unfolding begunFor beginNo first given answer begunBook editionOk thresholdNo contractorNo
 begins = refl
 
-no-edition : begunFor (record { «p_edition» = 7; «q_edition» = 0; terms = record { threshold = 60001; own = false; grid = false } }) ≡ begun.Refused 3
+no-edition : begunFor (record { «p_edition» = 7; «q_edition» = 0; terms = record { threshold = 60001; contractor = 2; own = false; grid = false } }) ≡ begun.Refused 3
 unfolding begunFor beginNo first given answer editionOk
 no-edition = refl
 
-no-threshold : begunFor (record { «p_edition» = 7; «q_edition» = 9; terms = record { threshold = 60001; own = false; grid = false } }) ≡ begun.Refused 21
+no-threshold : begunFor (record { «p_edition» = 7; «q_edition» = 9; terms = record { threshold = 60001; contractor = 2; own = false; grid = false } }) ≡ begun.Refused 21
 unfolding begunFor beginNo first given answer editionOk thresholdNo
 no-threshold = refl
 
 -- of the street grid, of two sheets and of one: the profile has no number of its own
 begins-streets : begunFor streets ≡ begun.Open (street-book 0 false)
-unfolding begunFor beginNo first given answer begunBook editionOk thresholdNo
+unfolding begunFor beginNo first given answer begunBook editionOk thresholdNo contractorNo
 begins-streets = refl
 
 begins-alone-streets : begunFor alone-streets ≡ begun.Open (record { held = 0; closed = false; source = alone-streets })
-unfolding begunFor beginNo first given answer begunBook editionOk thresholdNo
+unfolding begunFor beginNo first given answer begunBook editionOk thresholdNo contractorNo
 begins-alone-streets = refl
 
 -- a self join: of one edition; of two; with a t
 begins-own : begunFor alone ≡ begun.Open (record { held = 0; closed = false; source = alone })
-unfolding begunFor beginNo first given answer begunBook editionOk thresholdNo
+unfolding begunFor beginNo first given answer begunBook editionOk thresholdNo contractorNo
 begins-own = refl
 
-no-two : begunFor (record { «p_edition» = 7; «q_edition» = 9; terms = record { threshold = 2; own = true; grid = false } }) ≡ begun.Refused 3
+no-two : begunFor (record { «p_edition» = 7; «q_edition» = 9; terms = record { threshold = 2; contractor = 2; own = true; grid = false } }) ≡ begun.Refused 3
 unfolding begunFor beginNo first given answer editionOk
 no-two = refl
 
-no-t : begunFor (record { «p_edition» = 7; «q_edition» = 7; terms = record { threshold = 2; own = true; grid = false } }) ≡ begun.Refused 21
+no-t : begunFor (record { «p_edition» = 7; «q_edition» = 7; terms = record { threshold = 2; contractor = 2; own = true; grid = false } }) ≡ begun.Refused 21
 unfolding begunFor beginNo first given answer editionOk
 no-t = refl
+
+-- of a contractor; of none; a self join of one; no t before it
+begins-first : begunFor first-own ≡ begun.Open (record { held = 0; closed = false; source = first-own })
+unfolding begunFor beginNo first given answer begunBook editionOk thresholdNo contractorNo
+begins-first = refl
+
+no-contractor : begunFor (record { «p_edition» = 7; «q_edition» = 9; terms = record { threshold = 0; contractor = 3; own = false; grid = false } }) ≡ begun.Refused 27
+unfolding begunFor beginNo first given answer editionOk thresholdNo contractorNo
+no-contractor = refl
+
+no-own-contractor : begunFor first-alone ≡ begun.Refused 27
+unfolding begunFor beginNo first given answer editionOk thresholdNo contractorNo
+no-own-contractor = refl
+
+t-before-contractor : begunFor (record { «p_edition» = 7; «q_edition» = 7; terms = record { threshold = 2; contractor = 0; own = true; grid = false } }) ≡ begun.Refused 21
+unfolding begunFor beginNo first given answer editionOk thresholdNo
+t-before-contractor = refl
 
 asks-first : asked (book 0 false) slots ≡ record { next = next.After start; book = book 0 false }
 unfolding asked askedAt nextNo given answer lastKey
@@ -141,6 +168,15 @@ twelve-first = refl
 twenty-two : number (book 2 false) (page alone (at 5 1) true []) 22
 unfolding takeNo takeNoAt sourceNo first given
 twenty-two = refl
+
+-- another kind, and another contractor; another contractor, and the other profile, other editions, t and key
+twenty-two-before : number (book 2 false) (page first-alone (at 5 1) true []) 22
+unfolding takeNo takeNoAt sourceNo first given
+twenty-two-before = refl
+
+twenty-eight : number (book 2 false) (page first-streets (at 5 1) true []) 28
+unfolding takeNo takeNoAt sourceNo first given
+twenty-eight = refl
 
 -- another kind, and the other profile; the other profile, and other editions, t and key; either way
 twenty-two-first : number (book 2 false) (page alone-streets (at 5 1) true []) 22

@@ -84,7 +84,7 @@ room-at b len m k g e h =
     let other : (n : ℕ) → (n ≡ 16 → ⊥) → (t : Bool) → given t n ≡ 16 → given t n ≡ 0 = λ n ne t. given-other t n 16 ne in
     let e1 = first-skips _ _ 16 (other 11 (λ z. omega arith) (ltb len (b .held))) e in
     let e2 = first-skips _ _ 16 (other 12 (λ z. omega arith) (b .closed)) (e1 .1) in
-    let e3 = first-skips _ _ 16 (source-other (b .source) (g .source) 16 (λ z. omega arith) (λ z. omega arith) (λ z. omega arith) (λ z. omega arith)) (e2 .1) in
+    let e3 = first-skips _ _ 16 (source-other (b .source) (g .source) 16 (λ z. omega arith) (λ z. omega arith) (λ z. omega arith) (λ z. omega arith) (λ z. omega arith)) (e2 .1) in
     let e4 = first-skips _ _ 16 (other 14 (λ z. omega arith) (not (sameKey (g .key) k))) (e3 .1) in
     let e5 = first-skips _ _ 16 (other 15 (λ z. omega arith) (pageBad g)) (e4 .1) in (
       ltb-false len (b .held) (given-failed _ (e1 .0)),

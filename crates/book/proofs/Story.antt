@@ -22,7 +22,7 @@ use Rattle.list.specs.declared.Pair.{Pair}
 use Rattle.list.specs.declared.Source.{Source}
 use Rattle.list.specs.declared.Page.{Page}
 use Rattle.list.specs.Pairs.{start, keyOf, follows, ascends, after, lastOr}
-use Rattle.list.specs.Pages.{lastThreshold, thresholdNo, sourceNo, shown, pageOf, pagePairs}
+use Rattle.list.specs.Pages.{lastThreshold, thresholdNo, contractorNo, sourceNo, shown, pageOf, pagePairs}
 use Rattle.list.specs.RingList.{Sound}
 use Rattle.list.specs.RingList as ringList
 use Rattle.list.specs.Terms.{listFor}
@@ -30,6 +30,7 @@ use Rattle.list.proofs.Order.{asc-left, after-asc, after-last}
 use Rattle.list.proofs.PageLaws.{page-shows, shown-count, length-padded, end-mark}
 use Rattle.list.proofs.RowLaws.{sound-reached}
 use Rattle.list.proofs.SourceLaws.{source-same}
+use Rattle.list.proofs.ContractorLaws.{contractor-most, contractor-two, undivided-any}
 use Rattle.list.proofs.TermsLaws.{for-ascends, for-ids, for-sizes}
 use Rattle.book.specs.declared.Book.{Book}
 use Rattle.book.specs.declared.Begun.the-variants as begun
@@ -243,11 +244,13 @@ begun-is : (s : Source) (b : Book) → begunFor s ≡ begun.Open b → begunBook
 unfolding begunFor
 begun-is s b e = by-begun (beginNo s) (begunBook s) b e .1
 
--- what a book can be begun for: a t up to 60,000, and a self join only of one edition and with no t
+-- what a book can be begun for: a t up to 60,000, a contractor from 0 to 2, and a self join only of one edition, with no t and undivided
 pub record Beginnable (s : Source) : Type 0 where
   pub t-most : s .terms .threshold ≤ lastThreshold
   pub one-edition : s .terms .own ≡ true → s .«p_edition» ≡ s .«q_edition»
   pub no-t : s .terms .own ≡ true → s .terms .threshold ≡ 0
+  pub whose : s .terms .contractor ≤ 2
+  pub own-undivided : s .terms .own ≡ true → s .terms .contractor ≡ 2
 
 begun-in : (s : Source) (b : Book) → begunFor s ≡ begun.Open b → Beginnable s
 unfolding begunFor beginNo thresholdNo
@@ -258,6 +261,8 @@ begun-in s b e =
       t-most = leb-true (s .terms .threshold) lastThreshold (given-held _ (z 2));
       one-edition = λ o. eqb-true (s .«p_edition») (s .«q_edition») (sym (ap (λ (x : Bool). not x || eqb (s .«p_edition») (s .«q_edition»)) o) ∙ and-right both (oneSheet s) (given-held _ (z 0)));
       no-t = λ o. eqb-true (s .terms .threshold) 0 (not-false (eqb (s .terms .threshold) 0) (sym (ap (λ (x : Bool). x && not (eqb (s .terms .threshold) 0)) o) ∙ given-failed _ (z 1)));
+      whose = contractor-most (s .terms .own) (s .terms .contractor) (z 3);
+      own-undivided = λ o. contractor-two (s .terms .contractor) (sym (ap (λ (x : Bool). contractorNo x (s .terms .contractor)) o) ∙ z 3);
     }
 
 module _ (w : World) where
@@ -277,7 +282,7 @@ module _ (w : World) where
       go false = w .chambers-sound (s .«q_edition»)
 
   list-asc : (s : Source) → ascends start (listOf w s) ≡ true
-  list-asc s = for-ascends (s .terms) (pumpsOf w s) (chambersOf w s) (pumps-fine s .rising) (chambers-fine s .rising)
+  list-asc s = for-ascends (s .terms) (w .owners (s .«q_edition»)) (pumpsOf w s) (chambersOf w s) (pumps-fine s .rising) (chambers-fine s .rising)
 
   -- of the circle every world is in reach
   pub circle-in-reach : (s : Source) → s .terms .grid ≡ false → InReach w s
@@ -293,13 +298,15 @@ module _ (w : World) where
       let Q = chambersOf w s in
       let rp = pumps-fine s .rising in
       let rq = chambers-fine s .rising in
-      let o = s .terms .grid in
-      ok-of o (listOf w s) (λ v m. let z = for-ids (s .terms) P Q rp rq v m in pair-ok o v (z .0) (z .1) (for-sizes (s .terms) P Q rp rq (near .pumps-in) (near .chambers-in) v m))
+      let g = s .terms .grid in
+      let o = w .owners (s .«q_edition») in
+      ok-of g (listOf w s) (λ v m. let z = for-ids (s .terms) o P Q rp rq v m in pair-ok g v (z .0) (z .1) (for-sizes (s .terms) o P Q rp rq (near .pumps-in) (near .chambers-in) v m))
 
-  -- what a page request answers on sheets with these points is honest, where the points are those of their editions
-  pub honest-from : (s : Source) (k : Key) (size : ℕ) (P Q : List Point) (g : Page) → 0 < size → size ≤ 16 → pumpsOf w s ≡ P → chambersOf w s ≡ Q → g ≡ pageOf s (listFor (s .terms) P Q) k size → Honest w g
-  honest-from s k size P Q g some most p q e =
-      record { of = s; after = k; size = size; some = some; most = most; is = e ∙ sym (ap₂ (λ (x y : List Point). pageOf s (listFor (s .terms) x y) k size) p q) }
+  -- what a page request answers on sheets with these points is honest, where the points are those of their editions, and so are the owner bytes, or the list is undivided
+  pub honest-from : (s : Source) (k : Key) (size : ℕ) (o : List ℕ) (P Q : List Point) (g : Page) → 0 < size → size ≤ 16 → (w .owners (s .«q_edition») ≡ o) ⊎ (s .terms .contractor ≡ 2) → pumpsOf w s ≡ P → chambersOf w s ≡ Q → g ≡ pageOf s (listFor (s .terms) o P Q) k size → Honest w g
+  honest-from s k size o P Q g some most whose p q e =
+      let l : listFor (s .terms) (w .owners (s .«q_edition»)) P Q ≡ listFor (s .terms) o P Q = ⊎-elim (λ x. ap (λ (y : List ℕ). listFor (s .terms) y P Q) x) (λ x. undivided-any (s .terms) x (w .owners (s .«q_edition»)) o P Q) whose in
+      record { of = s; after = k; size = size; some = some; most = most; is = e ∙ sym (ap₂ (λ (x y : List Point). pageOf s (listFor (s .terms) (w .owners (s .«q_edition»)) x y) k size) p q ∙ ap (λ (x : List Pair). pageOf s x k size) l) }
 
   -- the list of a book
   abbrev pub bookList : Book → List Pair

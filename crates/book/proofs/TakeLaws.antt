@@ -9,7 +9,7 @@ use native.Mathlib.Omega.{arith}
 use lib.ListN.{length, drop}
 use lib.Seq.{paste, paste-zero, drop-paste, length-paste}
 use lib.Dec.{eqb, ltb}
-use borrow.Author.Tests.{ltb-false, eqb-true, le-ltb, eq-eqb, not-false}
+use borrow.Author.Tests.{ltb-false, eqb-true, le-ltb, eq-eqb, ne-eqb, not-false}
 use Rattle.integers.proofs.Bools.{and-left, and-right, and-both, or-false-left, or-false-right}
 use Rattle.words.specs.First.{given, first}
 use Rattle.words.proofs.FirstLaws.{none-applies, given-failed, given-held, answer-given, answer-refused, answer-number}
@@ -129,10 +129,15 @@ module _ (b : Book) (s : List Pair) (g : Page) where
   unfolding takeNo takeNoAt sourceNo first given
   kind-no room still other = rw (le-ltb (length s) (b .held) room, still, other)
 
-  -- and one of its kind and the other profile by 30
-  pub profile-no : b .held ≤ length s → b .closed ≡ false → sameKind (b .source) (g .source) ≡ true → sameProfile (b .source) (g .source) ≡ false → takeNo b s g ≡ 30
+  -- one of its kind and another contractor by 28
+  pub contractor-no : b .held ≤ length s → b .closed ≡ false → sameKind (b .source) (g .source) ≡ true → (b .source .terms .contractor ≡ g .source .terms .contractor → ⊥) → takeNo b s g ≡ 28
   unfolding takeNo takeNoAt sourceNo first given
-  profile-no room still kind other = rw (le-ltb (length s) (b .held) room, still, kind, other)
+  contractor-no room still kind other = rw (le-ltb (length s) (b .held) room, still, kind, ne-eqb (b .source .terms .contractor) (g .source .terms .contractor) other)
+
+  -- and one of these and the other profile by 30
+  pub profile-no : b .held ≤ length s → b .closed ≡ false → sameKind (b .source) (g .source) ≡ true → b .source .terms .contractor ≡ g .source .terms .contractor → sameProfile (b .source) (g .source) ≡ false → takeNo b s g ≡ 30
+  unfolding takeNo takeNoAt sourceNo first given
+  profile-no room still kind whose other = rw (le-ltb (length s) (b .held) room, still, kind, eq-eqb (b .source .terms .contractor) (g .source .terms .contractor) whose, other)
 
   module _ (long : length (g .pairs) ≡ 16) where
     -- slots past those held after the call are never touched

@@ -13,7 +13,7 @@ use Rattle.list.specs.declared.Pair.{Pair}
 use Rattle.list.specs.declared.Source.{Source}
 use Rattle.list.specs.declared.Page.{Page}
 use Rattle.list.specs.Pairs.{start, none, keyOf, ascends}
-use Rattle.list.specs.Pages.{thresholdNo, sourceNo, pagePairs}
+use Rattle.list.specs.Pages.{thresholdNo, contractorNo, sourceNo, pagePairs}
 use Rattle.list.specs.Lent.{lentOf}
 use Rattle.book.specs.declared.Book.{Book}
 use Rattle.book.specs.declared.Begun.{Begun}
@@ -35,16 +35,18 @@ oneSheet s = not (s .terms .own) || eqb (s .«p_edition») (s .«q_edition»)
 abbrev pub ownWithT : Source → Bool
 ownWithT s = s .terms .own && not (eqb (s .terms .threshold) 0)
 
--- 3: an edition out of range, or a self join of two editions; then 21 "t outside 0 to 1,000 [..] after [..] 3 for begin", and for a self join "21 with a t" [N24, T10, J12, J13]
+-- 3: an edition out of range, or a self join of two editions; then 21 "t outside 0 to 1,000 [..] after [..] 3 for begin", and for a self join "21 with a t"; then
+-- "27 contractor outside 0 to 2, or not 2 for a self join, for begin after 21" [N24, T10, J12, J13]
 unfoldable pub beginNo : Source → ℕ
 beginNo s =
     first
     (given (not (editionOk (s .«p_edition») && editionOk (s .«q_edition») && oneSheet s)) 3
     ∷ given (ownWithT s) 21
     ∷ thresholdNo (s .terms .threshold)
+    ∷ contractorNo (s .terms .own) (s .terms .contractor)
     ∷ [])
 
--- "A book is begun for two editions with nothing held, open, key (0, 0)." "Pages and books now carry t" and "say their kind": it is begun for these too. [K1, T5]
+-- "A book is begun for two editions with nothing held, open, key (0, 0)." "Pages and books now carry t", "say their kind" and "carry the contractor": it is begun for these too. [K1, T5]
 unfoldable pub begunBook : Source → Book
 begunBook s = record { held = 0; closed = false; source = s }
 
@@ -113,7 +115,7 @@ pageBad g =
     ltb pageMost (g .count) || not (pairsOk (g .source .terms .grid) (pagePairs g)) || not (ascends (g .key) (pagePairs g)) || (eqb (g .count) 0 && not (g .end))
 
 -- the number of refusal in the document's order, 0 where the page is taken: for a slice of `len` slots of which the last held one has the key k.
--- 11 held exceeds the slice's length; 12 book closed; 22 wrong kind, 30 page of the other profile, 13 of other editions, 31 of another t; 14 page key is not the book's next key; 15;
+-- 11 held exceeds the slice's length; 12 book closed; 22 wrong kind, 28 page of another contractor, 30 of the other profile, 13 of other editions, 31 of another t; 14 page key is not the book's next key; 15;
 -- 16 more pairs than slots left [N26, N27, N28, N29, N31, N32, N33]
 unfoldable pub takeNoAt : Book → ℕ → Key → Page → ℕ
 takeNoAt b len k g =

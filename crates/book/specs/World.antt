@@ -1,4 +1,4 @@
--- The world of demand 3: sheets with one edition number hold the same points; pages are not altered or invented; one book, begun empty.
+-- The world of demand 3: sheets with one edition number hold the same points, and chambers have the same owners; pages are not altered or invented; one book, begun empty.
 use mathlib.Core.Path.{_≡_}
 use mathlib.Core.Bool.{cond}
 use mathlib.Core.List.{List}
@@ -22,6 +22,8 @@ use Rattle.book.specs.Rules.{begunFor, lastKey, taken, takenSlots}
 pub record World : Type 0 where
   pub pumps : ℕ → List Point
   pub chambers : ℕ → List Point
+  -- "the owner bytes being the same under one chamber edition"
+  pub owners : ℕ → List ℕ
   -- [J7]
   pub assets : ℕ → List Point
   pub pumps-sound : (e : ℕ) → Sound (pumps e)
@@ -36,9 +38,9 @@ module _ (w : World) where
   abbrev pub chambersOf : Source → List Point
   chambersOf s = cond (s .terms .own) (w .assets (s .«q_edition»)) (w .chambers (s .«q_edition»))
 
-  -- its list: that of its terms, of these points [Z2, T6, J6, A10]
+  -- its list: that of its terms, of these points, by the owner bytes of its chamber edition; those of an undivided list do not matter (`undivided-any` of list) [Z2, T6, J6, A10]
   abbrev pub listOf : Source → List Pair
-  listOf s = listFor (s .terms) (pumpsOf s) (chambersOf s)
+  listOf s = listFor (s .terms) (w .owners (s .«q_edition»)) (pumpsOf s) (chambersOf s)
 
   -- the points in both places stand in reach of its profile, so that no size of its list exceeds the profile's limit. Of the circle every world has it (`circle-in-reach` of
   -- proofs/Story); of the street grid a world has it where the sheets are of form 1, "form 1 sheets only", which 29 sees to

@@ -188,7 +188,8 @@ fn pair_of(g: Page, k: usize) -> Pair
 }
 
 impl Book {
-    // A book of a list, with nothing held; 3 where an edition is out of range or a self join is of two, then 21 where the threshold is, or a self join has one.
+    // A book of a list, with nothing held; 3 where an edition is out of range or a self join is of two, then 21 where the threshold is, or a self join has one, then 27 where the
+    // contractor is, or a self join's is not 2.
     pub fn begin(source: Source) -> Begun
         ensures { λ r. ⌜ r ≡ begunFor source ⌝ }
     {
@@ -203,6 +204,10 @@ impl Book {
         let no = list::threshold_no(source.terms.threshold);
         if no != 0 {
             return Begun::Refused(no);
+        }
+        let whose = list::contractor_no(source.terms.own, source.terms.contractor);
+        if whose != 0 {
+            return Begun::Refused(whose);
         }
         let b = Book {
             held: 0,

@@ -271,6 +271,7 @@ fn is_source(s: Source, grid: bool) -> bool {
     (s.p_edition == 7)
         & (s.q_edition == 9)
         & (s.terms.threshold == 0)
+        & (s.terms.contractor == 2)
         & !s.terms.own
         & !(s.terms.grid ^ grid)
 }
@@ -303,10 +304,11 @@ fn next_page(p: &[i32], q: &[i32], ps: &[i32], qs: &[i32], l: Listing) -> Listin
         key: key,
         size: size,
         threshold: 0,
+        contractor: 2,
         grid: l.grid,
     };
     let mut bits = [0u64; 16];
-    let r = ring::page::page(ps, qs, request, &mut bits);
+    let r = ring::page::page(ps, qs, b"", request, &mut bits);
     let page = r.page;
     let shown = page.key;
     let source = page.source;

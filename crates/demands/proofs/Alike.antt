@@ -60,8 +60,8 @@ view-own-page l d key size g w r w′ a = record { κs = ([], ([], tt)); w-at = 
 pub view-partners : (l : Place) (p q : Sheet) (id t : ℕ) (w : List ℕ) (r : Partnered) (w′ : List ℕ) → ViewPartners p q id t w r w′ → PartnersAnswers (now (p .words)) (now (q .words)) id t w r w′
 view-partners l p q id t w r w′ a = record { κs = ([], ([], ([], tt))); p-at = place (p .words); q-at = place (q .words); b-at = l; promised = a }
 
-pub view-page : (l : Place) (p q : Sheet) (ask : Request) (w : List ℕ) (r : Paged) (w′ : List ℕ) → ViewPages p q ask w r w′ → PageAnswers (now (p .words)) (now (q .words)) ask w r w′
-view-page l p q ask w r w′ a = record { κs = ([], ([], ([], tt))); p-at = place (p .words); q-at = place (q .words); b-at = l; promised = a }
+pub view-page : (l b : Place) (p q : Sheet) (o : List ℕ) (ask : Request) (w : List ℕ) (r : Paged) (w′ : List ℕ) → ViewPages p q o ask w r w′ → PageAnswers (now (p .words)) (now (q .words)) o ask w r w′
+view-page l b p q o ask w r w′ a = record { κs = ([], ([], ([], ([], tt)))); p-at = place (p .words); q-at = place (q .words); o-at = l; b-at = b; promised = a }
 
 pub view-shortest : (l : Place) (p q : Sheet) (k : ℕ) (w : List ℕ) (r : Shortlist) (w′ : List ℕ) → ViewShortest p q k w r w′ → ShortAnswers (now (p .words)) (now (q .words)) k w r w′
 view-shortest l p q k w r w′ a = record { κs = ([], ([], ([], tt))); p-at = place (p .words); q-at = place (q .words); b-at = l; promised = a }

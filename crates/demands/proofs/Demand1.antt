@@ -173,16 +173,16 @@ pub ring-no : (P Q : List ℤ) (j i : ℕ) (g : Bool) (r : Walked) → RingAnswe
     → (walkedNo r ≡ ringNo P Q j i g) × (Refuses (ringNo P Q j i g) → r ≡ walking.Refused (ringNo P Q j i g))
 ring-no P Q j i g r a = (ap walkedNo (a .promised) ∙ of-ring.ring-walk-no P Q j i g, λ ne. a .promised ∙ sym (ring-refused P Q j i g (ringNo P Q j i g) refl ne))
 
--- ---- the page request, 1 to 8 for P, then for Q, then 9, then 10, then 21, then 24: refused, the page is all zero, and so is its count, and the lent words
+-- ---- the page request, 1 to 8 for P, then for Q, then 27, then 26, then 29, then 9, then 10, then 21, then 24: refused, the page is all zero, and so is its count, and the lent words
 -- are as they were
 
 -- [N4, T9, T10, Y13, Y15, A13]
-pub page-no : (P Q : List ℤ) (ask : Request) (w : List ℕ) (r : Paged) (w′ : List ℕ) → PageAnswers P Q ask w r w′
-    → (r .number ≡ pageNo P Q ask (length w)) × (Refuses (pageNo P Q ask (length w)) → (r ≡ pageRefused (pageNo P Q ask (length w))) × (w′ ≡ w))
+pub page-no : (P Q : List ℤ) (o : List ℕ) (ask : Request) (w : List ℕ) (r : Paged) (w′ : List ℕ) → PageAnswers P Q o ask w r w′
+    → (r .number ≡ pageNo P Q o ask (length w)) × (Refuses (pageNo P Q o ask (length w)) → (r ≡ pageRefused (pageNo P Q o ask (length w))) × (w′ ≡ w))
 unfolding pageBits
-page-no P Q ask w r w′ a = (
-  ap (λ (x : Paged). x .number) (a .promised .0) ∙ of-page.ring-page-no P Q ask (length w),
-  λ ne. (a .promised .0 ∙ page-refused P Q ask (length w) _ refl ne, a .promised .1 ∙ sym (wiped-refused w (need P) _ _ refl ne)),
+page-no P Q o ask w r w′ a = (
+  ap (λ (x : Paged). x .number) (a .promised .0) ∙ of-page.ring-page-no P Q o ask (length w),
+  λ ne. (a .promised .0 ∙ page-refused P Q o ask (length w) _ refl ne, a .promised .1 ∙ sym (wiped-refused w (need P) _ _ refl ne)),
 )
 
 -- ---- the page request of a self join, 1 to 8 for its sheet, then 9, then 10, then 24: refused, the page is all zero, and so is its count, and the lent words

@@ -8,12 +8,14 @@
 --     clear-iff          the ring walk is clear exactly for a ring pair; point-blocks, side-blocks: what it names does block, and a side that it names is the first that qualifies
 --     pair-exact         a ring pair is a kept position whose ring walk is clear, and no other
 --     made-list          the pairs made with exact kept sets and ring walks are the list, as lists; filter-list: with those of the filter walk and the ring walk
---     page-pairs         a page of any terms (t, kind) is that of their list: pairs, number, end mark.  page-opened: the count beside it is that of the defined walks
+--     page-pairs         a page of any terms (t, kind, contractor) is that of their list: pairs, number, end mark.  page-opened: the count beside it is that of the defined walks
 --     pair-size          each pair that a page shows has the squared diameter of the places of its two records
 --     pages-list         following the pages from (0, 0) gives the list.  list-ascends, list-once: it runs by q id, then p id, each once, by ids.  list-only: nothing else is in it
 --     threshold-exact    a pair stands in t's list exactly if it stands in the full list and its chamber has at least t pairs there.  threshold-whole: such a chamber has all its pairs in it.  full-list: the list of 0 is the full list
 --     partners-exact     the single question: the smaller of t and the number of the chamber's pairs in the list, and a yes exactly when that is t.  partners-yes: exactly when there are at least t
 --     list-exact         two records are in the full list exactly if they are a ring pair
+--     contractor-exact   two records are in a contractor's list exactly if they are in the undivided list and the chamber is the contractor's.  contractor-ring: and so, of no t, if they are a ring pair and it is
+--     list-divided       each pair of the undivided list is in exactly one of the two contractors' lists, where the bytes are one 0 or 1 a chamber, and list-divided-only: nothing else is.  list-undivided: the list of 2 is that of all chambers
 --     list-by-points     sheets with the same points give the same list, and the same pairs, number and end mark of every page
 --     nearest-listed     a chamber and a pump house at the least distance are a pair.  never-empty, first-visit: so of two sheets that are not empty the list is not, and its first page shows a pair
 --     opened-at-most-m   one walk of one sheet opens at most its nodes
@@ -54,10 +56,13 @@ use Rattle.list.specs.declared.Pair.{Pair}
 use Rattle.list.specs.declared.Page.{Page}
 use Rattle.list.specs.declared.Terms.{Terms}
 use Rattle.list.specs.Pairs.{start, none, keyOf, ascends, after, chamberPairs}
-use Rattle.list.specs.Pages.{sizeNo, pageOf, pagePairs, shown, followed, lastThreshold}
-use Rattle.list.specs.Rows.{listBy, Rising}
+use Rattle.list.specs.Pages.{sizeNo, ownersNo, pageOf, pagePairs, shown, followed, lastThreshold}
+use Rattle.list.specs.Rows.{listBy, atLeast, Rising}
 use Rattle.list.specs.RingList.{ringPair, sizeOf, pairAt, ringList, ringPairBy, pairBy, ringListBy}
-use Rattle.list.specs.Terms.{full, requestOf, listedFor, listFor, withBy, aloneBy, profileFor}
+use Rattle.list.specs.Contractor.{oneEach}
+use Rattle.list.specs.Terms.{full, requestOf, pairFor, listedFor, listFor, withBy, aloneBy, ofContractor, profileFor}
+use Rattle.list.proofs.ContractorLaws as of-contractor
+use Rattle.list.proofs.ContractorLaws.{OneOf, mine-is, is-mine, contractor-most, owners-none}
 use Rattle.list.proofs.PageLaws.{size-fits, page-shows, shown-member}
 use Rattle.list.specs.Nearest.{Nearest}
 use Rattle.list.proofs.Order.{after-all}
@@ -75,7 +80,8 @@ use Rattle.walk.specs.Claims.{BlocksPair, BlocksPairBySide, overP, overQ}
 use Rattle.walk.proofs.Meaning as of-walk
 use Rattle.join.specs.Work.{pageOpened}
 use Rattle.join.specs.Sheets.{walksBy}
-use Rattle.join.specs.Threshold.{walksFor, smaller}
+use Rattle.join.specs.Threshold.{smaller}
+use Rattle.join.specs.Only.{pageWalks}
 use Rattle.join.proofs.Meaning as of-join
 use Rattle.ring.specs.Lent.{need}
 use Rattle.ring.specs.Numbers.{sheetsNo, positionNo, pointNo, filterNo, ringNo, gridNo}
@@ -128,6 +134,14 @@ pub record InRange (key : Key) (size t : ℕ) : Type 0 where
   pub some : 1 ≤ size
   pub most : size ≤ 16
   pub fair : t ≤ lastThreshold
+
+-- a contractor 0 to 2, with one 0 or 1 a chamber, of n chambers, or for 2 with no bytes
+pub record Whose (c : ℕ) (o : List ℕ) (n : ℕ) : Type 0 where
+  pub whose : c ≤ 2
+  pub bytes : ownersNo c o n ≡ 0
+
+pub whose-all : (n : ℕ) → Whose 2 [] n
+whose-all n = record { whose = omega arith; bytes = sym (owners-none 2 [] n refl refl) }
 
 facts : (w : List ℤ) → WellFormed w → Opens w (points w) (nodes w)
 facts w e = sheet-facts w e
@@ -248,43 +262,43 @@ module _ (P Q : List ℤ) (p-opens : WellFormed P) (q-opens : WellFormed Q) wher
 
   -- ---- pages, of any terms: of two sheets, the full list or that of t; or of one sheet in both places, the self join
 
-  module _ (a : Terms) where
-    -- the list of the terms, of these points
+  module _ (a : Terms) (o : List ℕ) where
+    -- the list of the terms, of these points, by the owner bytes o
     abbrev pub List-of : List Pair
-    List-of = listFor a (pointsOf P) (pointsOf Q)
+    List-of = listFor a o (pointsOf P) (pointsOf Q)
 
-    module _ (key : Key) (size : ℕ) (w : List ℕ) (r : Paged) (w′ : List ℕ) (answers : TermsAnswers a P Q key size w r w′) where
+    module _ (key : Key) (size : ℕ) (w : List ℕ) (r : Paged) (w′ : List ℕ) (answers : TermsAnswers a o P Q key size w r w′) where
       -- what is answered with 0, and what is in range with words enough, is the page of the list with the count of the walks
-      pub answered : r .number ≡ 0 → (1 ≤ size) × (size ≤ 16) × (r ≡ pageGiven a P Q key size)
+      pub answered : r .number ≡ 0 → (1 ≤ size) × (size ≤ 16) × (a .contractor ≤ 2) × (r ≡ pageGiven a o P Q key size)
       unfolding pageNo ownNo
       answered fine = go (a .own) refl answers
         where
-          go : (k : Bool) → a .own ≡ k → OfKind k a P Q key size w r w′ → (1 ≤ size) × (size ≤ 16) × (r ≡ pageGiven a P Q key size)
+          go : (k : Bool) → a .own ≡ k → OfKind k a o P Q key size w r w′ → (1 ≤ size) × (size ≤ 16) × (a .contractor ≤ 2) × (r ≡ pageGiven a o P Q key size)
           go false e x =
               let ask = requestOf a key size in
-              let no : pageNo P Q ask (length w) ≡ 0 = sym (of-page.ring-page-no P Q ask (length w)) ∙ sym (ap (λ (y : Paged). y .number) (x .promised .0)) ∙ fine in
-              let s = size-fits size (none-applies _ .0 no 4) in
-              (s .0, s .1, x .promised .0 ∙ of-page.page-answered P Q ask (length w) no ∙ ap (λ (y : Terms). pageGiven y P Q key size) (kind-of a false e))
+              let no : pageNo P Q o ask (length w) ≡ 0 = sym (of-page.ring-page-no P Q o ask (length w)) ∙ sym (ap (λ (y : Paged). y .number) (x .promised .0)) ∙ fine in
+              let s = size-fits size (none-applies _ .0 no 6) in
+              (s .0, s .1, contractor-most false (a .contractor) (none-applies _ .0 no 2), x .promised .0 ∙ of-page.page-answered P Q o ask (length w) no ∙ ap (λ (y : Terms). pageGiven y o P Q key size) (kind-of a false e))
           go true e x =
-              let no : ownNo P key size (a .grid) (length w) ≡ 0 = sym (of-own.ring-own-no P key size (a .grid) (length w)) ∙ sym (ap (λ (y : Paged). y .number) (x .2 .promised .0)) ∙ fine in
+              let no : ownNo P key size (a .grid) (length w) ≡ 0 = sym (of-own.ring-own-no P key size (a .grid) (length w)) ∙ sym (ap (λ (y : Paged). y .number) (x .4 .promised .0)) ∙ fine in
               let s = size-fits size (none-applies _ .0 no 3) in
-              (s .0, s .1, x .2 .promised .0 ∙ of-own.own-answered P key size (a .grid) (length w) no ∙ ap (λ (y : List ℤ). pageGiven (aloneBy (a .grid)) P y key size) (x .0) ∙ ap (λ (y : Terms). pageGiven y P Q key size) (λ i. record { threshold = sym (x .1) i; own = sym e i; grid = a .grid }))
+              (s .0, s .1, omega (arith, x .2), x .4 .promised .0 ∙ of-own.own-answered P key size (a .grid) (length w) no ∙ ap₂ (λ (y : List ℤ) (b : List ℕ). pageGiven (aloneBy (a .grid)) b P y key size) (x .0) (sym (x .3)) ∙ ap (λ (y : Terms). pageGiven y o P Q key size) (λ i. record { threshold = sym (x .1) i; contractor = sym (x .2) i; own = sym e i; grid = a .grid }))
 
-      module _ (h : InRange key size (a .threshold)) (forms : gridNo (a .grid) P Q ≡ 0) (enough : need P ≤ length w) where
-        -- a key, a size and a t in range are served, of sheets of form 1 for the street grid, with words enough
+      module _ (h : InRange key size (a .threshold)) (of-whom : Whose (a .contractor) o (points Q)) (forms : gridNo (a .grid) P Q ≡ 0) (enough : need P ≤ length w) where
+        -- a key, a size, a t and a contractor in range are served, with the owner bytes of a contractor, of sheets of form 1 for the street grid, with words enough
         pub page-served : r .number ≡ 0
         page-served = go (a .own) answers
           where
-            go : (k : Bool) → OfKind k a P Q key size w r w′ → r .number ≡ 0
-            go false x = unfold pageGiven in ap (λ (y : Paged). y .number) (x .promised .0 ∙ of-page.ring-page-served P Q (requestOf a key size) (length w) sheets forms (h .q-in) (h .p-in) (h .some) (h .most) (h .fair) enough)
-            go true x = unfold pageGiven in ap (λ (y : Paged). y .number) (x .2 .promised .0 ∙ of-own.own-served P key size (a .grid) (length w) p-opens (subst (λ (R : List ℤ). gridNo (a .grid) P R ≡ 0) (sym (x .0)) forms) (h .q-in) (h .p-in) (h .some) (h .most) enough)
+            go : (k : Bool) → OfKind k a o P Q key size w r w′ → r .number ≡ 0
+            go false x = unfold pageGiven in ap (λ (y : Paged). y .number) (x .promised .0 ∙ of-page.ring-page-served P Q o (requestOf a key size) (length w) sheets (of-whom .whose) (of-whom .bytes) forms (h .q-in) (h .p-in) (h .some) (h .most) (h .fair) enough)
+            go true x = unfold pageGiven in ap (λ (y : Paged). y .number) (x .4 .promised .0 ∙ of-own.own-served P key size (a .grid) (length w) p-opens (subst (λ (R : List ℤ). gridNo (a .grid) P R ≡ 0) (sym (x .0)) forms) (h .q-in) (h .p-in) (h .some) (h .most) enough)
 
-        page-is : r ≡ pageGiven a P Q key size
-        page-is = answered page-served .2
+        page-is : r ≡ pageGiven a o P Q key size
+        page-is = answered page-served .3
 
         -- "The page holds both editions, the key, the first `size` ring pairs strictly after the key (fewer if fewer follow), their number and an end mark, set exactly
         -- when no ring pair follows the last one shown, or follows the key if none is shown." "Unused pairs are three zeros." "Pages and books now carry t, 0 for the full
-        -- list"; of a self join "with one edition in both fields and t 0". [P3, P4, T4, J4, J5, D2]
+        -- list"; of a self join "with one edition in both fields and t 0"; "Pages and books carry the contractor, or 2 for an undivided list". [P3, P4, T4, J4, J5, D2]
         pub page-pairs : (r .number ≡ 0) × (r .page ≡ pageOf (sourceOf P Q a) List-of key size)
         unfolding pageGiven
         page-pairs = (ap (λ (x : Paged). x .number) page-is, ap (λ (x : Paged). x .page) page-is)
@@ -295,13 +309,14 @@ module _ (P Q : List ℤ) (p-opens : WellFormed P) (q-opens : WellFormed Q) wher
             → (j i : ℕ) → j < points Q → i < points P → idAt (pointsOf Q) j ≡ v .q → idAt (pointsOf P) i ≡ v .p → v .size ≡ profileFor a .size (spotOf Q j) (spotOf P i)
         pair-size v m j i j-in i-in e f =
             let s : pagePairs (r .page) ≡ shown List-of key size = ap pagePairs (page-pairs .1) ∙ page-shows key (sourceOf P Q a) List-of size in
-            for-size a (pointsOf P) (pointsOf Q) rise-p rise-q v (shown-member List-of key size v (subst (List·Memᴰ v) s m)) j i (omega (arith, length-points Q)) (omega (arith, length-points P)) e f
+            for-size a o (pointsOf P) (pointsOf Q) rise-p rise-q v (shown-member List-of key size v (subst (List·Memᴰ v) s m)) j i (omega (arith, length-points Q)) (omega (arith, length-points P)) e f
             ∙ ap₂ (profileFor a .size) (spot-of Q j j-in) (spot-of P i i-in)
 
         -- "Beside the page stands its count of nodes opened": that of the walks as they are defined, the filter walks' kept sets on the words that are needed.
         -- "With t above 0 a page's count takes in all kept partners of each chamber reached, the last one too": `walksFor` of join/specs/Threshold.
-        -- Of a self join "the filter passes over q, and kept partners of higher id get one ring walk": `walksBy` of join/specs/Sheets. [P8, T7, J4, J9]
-        pub page-opened : r .opened ≡ pageOpened (walksFor (walksBy a (need P) P Q) (points P) (a .threshold)) key size (points P) (points Q)
+        -- Of a self join "the filter passes over q, and kept partners of higher id get one ring walk": `walksBy` of join/specs/Sheets.
+        -- Of a contractor's list "Only its own chambers are filtered and counted": `pageWalks` of join/specs/Only. [P8, T7, J4, J9]
+        pub page-opened : r .opened ≡ pageOpened (pageWalks a o (need P) P Q (points P)) key size (points P) (points Q)
         unfolding pageGiven
         page-opened = ap (λ (x : Paged). x .opened) page-is
 
@@ -313,29 +328,53 @@ module _ (P Q : List ℤ) (p-opens : WellFormed P) (q-opens : WellFormed Q) wher
 
     -- Following the pages from (0, 0), each next key the last pair shown, whatever the sizes from 1 to 16, gives the whole list, each pair once. `ask` is the page
     -- request: for every key and size it gives an answer that the promise admits, for some words that are lent then, enough of them. [P4, T4, J4, A10, D2]
-    pub pages-list : gridNo (a .grid) P Q ≡ 0 → a .threshold ≤ lastThreshold → (w : Key → ℕ → List ℕ) → ((key : Key) (size : ℕ) → need P ≤ length (w key size)) → (ask : Key → ℕ → Paged) (w′ : Key → ℕ → List ℕ)
-        → ((key : Key) (size : ℕ) → TermsAnswers a P Q key size (w key size) (ask key size) (w′ key size))
+    pub pages-list : Whose (a .contractor) o (points Q) → gridNo (a .grid) P Q ≡ 0 → a .threshold ≤ lastThreshold → (w : Key → ℕ → List ℕ) → ((key : Key) (size : ℕ) → need P ≤ length (w key size)) → (ask : Key → ℕ → Paged) (w′ : Key → ℕ → List ℕ)
+        → ((key : Key) (size : ℕ) → TermsAnswers a o P Q key size (w key size) (ask key size) (w′ key size))
         → (sizes : ℕ → ℕ) → ((k : ℕ) → sizeNo (sizes k) ≡ 0)
         → followed (length List-of) sizes (λ key size. ask key size .page) start ≡ List-of
-    pages-list forms most w enough ask w′ x sizes s =
-        of-page.followed-list a P Q (facts P p-opens) (facts Q q-opens) ask
-        (λ k n qi pi some few. page-is k n (w k n) (ask k n) (w′ k n) (x k n) (record { q-in = qi; p-in = pi; some = some; most = few; fair = most }) forms (enough k n)) sizes s
+    pages-list of-whom forms most w enough ask w′ x sizes s =
+        of-page.followed-list a o P Q (facts P p-opens) (facts Q q-opens) ask
+        (λ k n qi pi some few. page-is k n (w k n) (ask k n) (w′ k n) (x k n) (record { q-in = qi; p-in = pi; some = some; most = few; fair = most }) of-whom forms (enough k n)) sizes s
 
     -- "The list runs by q id, then p id": each pair stands strictly after the one before it, [R4, J2, D2]
     pub list-ascends : ascends start List-of ≡ true
-    list-ascends = for-ascends a (pointsOf P) (pointsOf Q) rise-p rise-q
+    list-ascends = for-ascends a o (pointsOf P) (pointsOf Q) rise-p rise-q
 
     -- so "each once, by ids": no two pairs of it have the same ids. [R5, J2, D2]
     pub list-once : (k h : ℕ) → k < h → h < length List-of → keyOf (getD List-of k none) ≡ keyOf (getD List-of h none) → ⊥
-    list-once = for-once a (pointsOf P) (pointsOf Q) rise-p rise-q
+    list-once = for-once a o (pointsOf P) (pointsOf Q) rise-p rise-q
 
     -- It holds no pair but those that the rule of the terms makes of two records, each with the size of their places. [R3, D2]
-    pub list-only : (v : Pair) → List·Memᴰ v List-of → Placed (listedFor a (pointsOf P) (pointsOf Q)) (pairBy (profileFor a) (pointsOf P) (pointsOf Q)) (length (pointsOf P)) (length (pointsOf Q)) v
-    list-only = for-only a (pointsOf P) (pointsOf Q) rise-p rise-q
+    pub list-only : (v : Pair) → List·Memᴰ v List-of → Placed (listedFor a o (pointsOf P) (pointsOf Q)) (pairBy (profileFor a) (pointsOf P) (pointsOf Q)) (length (pointsOf P)) (length (pointsOf Q)) v
+    list-only = for-only a o (pointsOf P) (pointsOf Q) rise-p rise-q
+
+    -- ---- two contractors
+
+    -- "A contractor's list is the ring pairs of its own chambers": of any terms, two records stand in a contractor's list exactly if they stand in the undivided list of the same other terms, and the
+    -- chamber's byte says that it is the contractor's.
+    pub contractor-exact : a .contractor < 2 → (j i : ℕ) → j < points Q → i < points P
+        → List·Memᴰ (pairBy (profileFor a) (pointsOf P) (pointsOf Q) j i) List-of
+        ↔ (List·Memᴰ (pairBy (profileFor a) (pointsOf P) (pointsOf Q) j i) (listFor (ofContractor 2 a) [] (pointsOf P) (pointsOf Q)) × (getD o j 2 ≡ a .contractor))
+    contractor-exact one j i j-in i-in =
+        let z = of-contractor.contractor-iff a o (pointsOf P) (pointsOf Q) rise-p rise-q j i (omega (arith, length-points Q)) (omega (arith, length-points P)) in
+        (λ m. (z .0 m .0, mine-is (a .contractor) one o j (z .0 m .1)), λ m. z .1 (m .0, is-mine (a .contractor) one o j (m .1)))
+
+    -- Each pair of the undivided list stands in exactly one of the two contractors' lists, where the bytes are one 0 or 1 a chamber; no other pair does.
+    pub list-divided : oneEach o (points Q) ≡ true → (v : Pair) → List·Memᴰ v (listFor (ofContractor 2 a) [] (pointsOf P) (pointsOf Q))
+        → OneOf (List·Memᴰ v (listFor (ofContractor 0 a) o (pointsOf P) (pointsOf Q))) (List·Memᴰ v (listFor (ofContractor 1 a) o (pointsOf P) (pointsOf Q)))
+    list-divided each = of-contractor.divided a o (pointsOf P) (pointsOf Q) rise-p rise-q (ap (oneEach o) (length-points Q) ∙ each)
+
+    pub list-divided-only : (v : Pair) → List·Memᴰ v List-of → List·Memᴰ v (listFor (ofContractor 2 a) [] (pointsOf P) (pointsOf Q))
+    list-divided-only = of-contractor.contractor-within a o (pointsOf P) (pointsOf Q) rise-p rise-q
+
+    -- "or 2 for an undivided list": the list of all chambers, whatever the bytes
+    pub list-undivided : a .contractor ≡ 2
+        → List-of ≡ listBy (atLeast (pairFor a (pointsOf P) (pointsOf Q)) (pairBy (profileFor a) (pointsOf P) (pointsOf Q)) (a .threshold) (length (pointsOf P))) (pairBy (profileFor a) (pointsOf P) (pointsOf Q)) (length (pointsOf P)) (length (pointsOf Q))
+    list-undivided = of-contractor.undivided a o (pointsOf P) (pointsOf Q)
 
   -- "0 for the full list" [T5]
-  pub full-list : (g : Bool) → listFor (withBy g 0) (pointsOf P) (pointsOf Q) ≡ ringListBy (profileOf g) (pointsOf P) (pointsOf Q)
-  full-list g = of-terms.full-ring-list g (pointsOf P) (pointsOf Q)
+  pub full-list : (g : Bool) → listFor (withBy g 0) [] (pointsOf P) (pointsOf Q) ≡ ringListBy (profileOf g) (pointsOf P) (pointsOf Q)
+  full-list g = of-terms.full-ring-list g [] (pointsOf P) (pointsOf Q)
 
   -- ---- which chambers have at least t partners
 
@@ -351,15 +390,15 @@ module _ (P Q : List ℤ) (p-opens : WellFormed P) (q-opens : WellFormed Q) wher
       ∙ ap₂ sizeOf (spot-of Q j j-in) (spot-of P i i-in)
 
   -- A pair stands in the list of t exactly if it stands in the full list of its profile and its chamber has at least t pairs there. [T3]
-  pub threshold-exact : (g : Bool) (t : ℕ) (v : Pair) → List·Memᴰ v (listFor (withBy g t) (pointsOf P) (pointsOf Q))
+  pub threshold-exact : (g : Bool) (t : ℕ) (v : Pair) → List·Memᴰ v (listFor (withBy g t) [] (pointsOf P) (pointsOf Q))
       ↔ (List·Memᴰ v (ringListBy (profileOf g) (pointsOf P) (pointsOf Q)) × (t ≤ length (chamberPairs (v .q) (ringListBy (profileOf g) (pointsOf P) (pointsOf Q)))))
-  threshold-exact g t v = threshold-iff (pointsOf P) (pointsOf Q) rise-p rise-q g t v
+  threshold-exact g t v = threshold-iff (pointsOf P) (pointsOf Q) rise-p rise-q g t [] v
 
   -- "list all such chambers by id with all their pairs": of a chamber that has at least t pairs the list of t has them all, of another none. [T3]
   pub threshold-whole : (g : Bool) (t j : ℕ) → j < points Q
-      → chamberPairs (idAt (pointsOf Q) j) (listFor (withBy g t) (pointsOf P) (pointsOf Q))
+      → chamberPairs (idAt (pointsOf Q) j) (listFor (withBy g t) [] (pointsOf P) (pointsOf Q))
       ≡ cond (leb t (length (chamberPairs (idAt (pointsOf Q) j) (ringListBy (profileOf g) (pointsOf P) (pointsOf Q))))) (chamberPairs (idAt (pointsOf Q) j) (ringListBy (profileOf g) (pointsOf P) (pointsOf Q))) []
-  threshold-whole g t j j-in = threshold-pairs (pointsOf P) (pointsOf Q) rise-p rise-q g t j (omega (arith, length-points Q))
+  threshold-whole g t j j-in = threshold-pairs (pointsOf P) (pointsOf Q) rise-p rise-q g t [] j (omega (arith, length-points Q))
 
   -- "For one q id and a t, give the smaller of t and the number of its pairs in the list, and a yes exactly when that is t."
   module _ (id t : ℕ) (w : List ℕ) (r : Partnered) (w′ : List ℕ) (a : PartnersAnswers P Q id t w r w′) (j : ℕ) (j-in : j < points Q) (named : idAt (pointsOf Q) j ≡ id) (some : 1 ≤ t) (most : t ≤ lastThreshold) (enough : need P ≤ length w) where
@@ -400,6 +439,16 @@ module _ (P Q : List ℤ) (p-opens : WellFormed P) (q-opens : WellFormed Q) wher
   list-exact g j i j-in i-in =
       ring-iff (profileOf g) (pointsOf P) (pointsOf Q) rise-p rise-q j i (omega (arith, length-points Q)) (omega (arith, length-points P))
 
+  -- "A contractor's list is the ring pairs of its own chambers; all points still block for both": of no t, in the words of the ring rule, which asks nothing of the owners
+  pub contractor-ring : (g : Bool) (c : ℕ) → c < 2 → (o : List ℕ) (j i : ℕ) → j < points Q → i < points P
+      → List·Memᴰ (pairBy (profileOf g) (pointsOf P) (pointsOf Q) j i) (listFor (ofContractor c (withBy g 0)) o (pointsOf P) (pointsOf Q))
+      ↔ ((ringPairBy (profileOf g) (pointsOf P) (pointsOf Q) j i ≡ true) × (getD o j 2 ≡ c))
+  contractor-ring g c one o j i j-in i-in =
+      let v = pairBy (profileOf g) (pointsOf P) (pointsOf Q) j i in
+      let z = contractor-exact (ofContractor c (withBy g 0)) o one j i j-in i-in in
+      let e = list-exact g j i j-in i-in in
+      (λ m. (e .0 (subst (List·Memᴰ v) (full-list g) (z .0 m .0)), z .0 m .1), λ x. z .1 (subst (List·Memᴰ v) (sym (full-list g)) (e .1 (x .0)), x .1))
+
   -- ---- nobody is left with an empty sheet: of the circle. Of the street grid it is not so: `always-visit-wrong` of refuted has two pump houses and a chamber with no visit.
 
   -- "every pump house and chamber at the least distance of all such couples is a ring pair", and so it is listed; [R6]
@@ -416,12 +465,12 @@ module _ (P Q : List ℤ) (p-opens : WellFormed P) (q-opens : WellFormed Q) wher
     never-empty = of-nearest.list-never-empty (pointsOf P) (pointsOf Q) (omega (arith, length-points P)) (omega (arith, length-points Q))
 
     -- and its first page shows a pair. [R7]
-    pub first-visit : (size : ℕ) (w : List ℕ) → need P ≤ length w → (r : Paged) (w′ : List ℕ) → InRange start size 0 → PageAnswers P Q (requestOf full start size) w r w′ → 0 < r .page .count
+    pub first-visit : (size : ℕ) (w : List ℕ) → need P ≤ length w → (r : Paged) (w′ : List ℕ) → InRange start size 0 → PageAnswers P Q [] (requestOf full start size) w r w′ → 0 < r .page .count
     unfolding pageOf shown
     first-visit size w enough r w′ h a =
         let l = ringList (pointsOf P) (pointsOf Q) in
         let all : after start l ≡ l = after-all start l (ring-ascends circle (pointsOf P) (pointsOf Q) (of-join.points-rise (facts P p-opens)) (of-join.points-rise (facts Q q-opens))) in
-        let e : r .page .count ≡ length (take size l) = ap (λ (g : Page). g .count) (page-pairs full start size w r w′ a h (of-page.circle-any-form P Q) enough .1 ∙ ap (λ (x : List Pair). pageOf (sourceOf P Q full) x start size) (full-list false)) ∙ ap (λ (x : List Pair). length (take size x)) all in
+        let e : r .page .count ≡ length (take size l) = ap (λ (g : Page). g .count) (page-pairs full [] start size w r w′ a h (whose-all (points Q)) (of-page.circle-any-form P Q) enough .1 ∙ ap (λ (x : List Pair). pageOf (sourceOf P Q full) x start size) (full-list false)) ∙ ap (λ (x : List Pair). length (take size x)) all in
         omega (arith, e, length-take size l, never-empty, h .some)
 
   -- ---- one run per leaf
@@ -564,17 +613,18 @@ module _ (P Q : List ℤ) (p-opens : WellFormed P) (q-opens : WellFormed Q) wher
           of-leaf.run-listed P Q (facts P p-opens) (facts Q q-opens) (y .leaf) (y .is-leaf .here) (y .is-leaf .level) x (subst (List·Memᴰ x) (is (y .leaf) (y .is-leaf)) (y .in-run))
 
 -- "It depends on the points alone": whatever the forms, the editions, the orders and the trees of two pairs of sheets; of any terms.
-module _ (P P′ Q Q′ : List ℤ) (p-opens : WellFormed P) (p-opens′ : WellFormed P′) (q-opens : WellFormed Q) (q-opens′ : WellFormed Q′) (same-p : pointsOf P ≡ pointsOf P′) (same-q : pointsOf Q ≡ pointsOf Q′) (a : Terms) where
+module _ (P P′ Q Q′ : List ℤ) (p-opens : WellFormed P) (p-opens′ : WellFormed P′) (q-opens : WellFormed Q) (q-opens′ : WellFormed Q′) (same-p : pointsOf P ≡ pointsOf P′) (same-q : pointsOf Q ≡ pointsOf Q′) (a : Terms) (o : List ℕ) where
   -- [D3]
-  pub same-list : listFor a (pointsOf P) (pointsOf Q) ≡ listFor a (pointsOf P′) (pointsOf Q′)
-  same-list = of-join.join-same-list P P′ Q Q′ same-p same-q a
+  pub same-list : listFor a o (pointsOf P) (pointsOf Q) ≡ listFor a o (pointsOf P′) (pointsOf Q′)
+  same-list = of-join.join-same-list P P′ Q Q′ same-p same-q a o
 
   -- [P12, J6, Y3, D3]
-  pub list-by-points : (key : Key) (size : ℕ) (w v : List ℕ) → need P ≤ length w → need P′ ≤ length v → (r r′ : Paged) (w′ v′ : List ℕ) → InRange key size (a .threshold) → gridNo (a .grid) P Q ≡ 0 → gridNo (a .grid) P′ Q′ ≡ 0
-      → TermsAnswers a P Q key size w r w′ → TermsAnswers a P′ Q′ key size v r′ v′
+  pub list-by-points : (key : Key) (size : ℕ) (w v : List ℕ) → need P ≤ length w → need P′ ≤ length v → (r r′ : Paged) (w′ v′ : List ℕ) → InRange key size (a .threshold) → Whose (a .contractor) o (points Q) → gridNo (a .grid) P Q ≡ 0 → gridNo (a .grid) P′ Q′ ≡ 0
+      → TermsAnswers a o P Q key size w r w′ → TermsAnswers a o P′ Q′ key size v r′ v′
       → (r .page .pairs ≡ r′ .page .pairs) × (r .page .count ≡ r′ .page .count) × (r .page .end ≡ r′ .page .end)
-  list-by-points key size w v enough enough′ r r′ w′ v′ h forms forms′ x y =
-      of-page.given-by-points a P P′ Q Q′ key size same-p same-q r r′ (page-is P Q p-opens q-opens a key size w r w′ x h forms enough) (page-is P′ Q′ p-opens′ q-opens′ a key size v r′ v′ y h forms′ enough′)
+  list-by-points key size w v enough enough′ r r′ w′ v′ h of-whom forms forms′ x y =
+      let as-many : points Q ≡ points Q′ = sym (length-points Q) ∙ ap length same-q ∙ length-points Q′ in
+      of-page.given-by-points a o P P′ Q Q′ key size same-p same-q r r′ (page-is P Q p-opens q-opens a o key size w r w′ x h of-whom forms enough) (page-is P′ Q′ p-opens′ q-opens′ a o key size v r′ v′ y h (subst (Whose (a .contractor) o) as-many of-whom) forms′ enough′)
 
 -- ---- the self join of one sheet
 
@@ -583,17 +633,17 @@ module _ (P P′ Q Q′ : List ℤ) (p-opens : WellFormed P) (p-opens′ : WellF
 module _ (S : List ℤ) (opens : WellFormed S) (g : Bool) where
   -- Two records, of which the first has the lower id, are listed exactly if no other record of the sheet blocks their pair. [J1, J3, J6]
   pub own-exact : (j i : ℕ) → j < length (pointsOf S) → i < length (pointsOf S) → idAt (pointsOf S) j < idAt (pointsOf S) i
-      → List·Memᴰ (pairBy (profileOf g) (pointsOf S) (pointsOf S) j i) (listFor (aloneBy g) (pointsOf S) (pointsOf S))
+      → List·Memᴰ (pairBy (profileOf g) (pointsOf S) (pointsOf S) j i) (listFor (aloneBy g) [] (pointsOf S) (pointsOf S))
       ↔ ((k : ℕ) → k < length (pointsOf S) → (k ≡ j → ⊥) → (k ≡ i → ⊥) → profileOf g .blocks (spotAt (pointsOf S) j) (spotAt (pointsOf S) i) (spotAt (pointsOf S) k) ≡ false)
-  own-exact = of-terms.self-exact g (pointsOf S) (of-join.points-rise (facts S opens))
+  own-exact = of-terms.self-exact g [] (pointsOf S) (of-join.points-rise (facts S opens))
 
   -- A listed pair has the lower id first: a record is never listed with itself, nor two records both ways. [J1, J6]
-  pub own-low : (v : Pair) → List·Memᴰ v (listFor (aloneBy g) (pointsOf S) (pointsOf S)) → v .q < v .p
-  own-low = of-terms.self-low g (pointsOf S) (of-join.points-rise (facts S opens))
+  pub own-low : (v : Pair) → List·Memᴰ v (listFor (aloneBy g) [] (pointsOf S) (pointsOf S)) → v .q < v .p
+  own-low = of-terms.self-low g [] (pointsOf S) (of-join.points-rise (facts S opens))
 
   -- The self join's page request answers as that of its terms. [J4, J6]
-  pub own-answers : (key : Key) (size : ℕ) (w : List ℕ) (r : Paged) (w′ : List ℕ) → OwnAnswers S key size g w r w′ → TermsAnswers (aloneBy g) S S key size w r w′
-  own-answers key size w r w′ x = (refl, refl, x)
+  pub own-answers : (key : Key) (size : ℕ) (w : List ℕ) (r : Paged) (w′ : List ℕ) → OwnAnswers S key size g w r w′ → TermsAnswers (aloneBy g) [] S S key size w r w′
+  own-answers key size w r w′ x = (refl, refl, refl, refl, x)
 
 -- ---- the return trip
 

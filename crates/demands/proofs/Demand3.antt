@@ -4,11 +4,12 @@
 --
 -- The premises are in specs/World: `History w b s` is a book b with its slots s after any such history, every step of which is an answer that the promise of a shipped
 -- call admits (`Book::begin`, `ring::page::page`, `ring::own::own_page`, `Book::take`). `bookList w b` is the list of the book's terms, of the points of its editions: "demand 3 holds for
--- each t's list", and of a self join "the three demands hold for it".
+-- each t's list", of a self join "the three demands hold for it", and "Demands 2 and 3 hold for each contractor's list, the owner bytes being the same under one chamber edition".
 --
 --     held-prefix     it holds the first so many pairs of its list
 --     held-size       each with the size of the places of its two records, by its profile
 --     own-kind        no page of a self join enters a two-sheet book, nor one of two sheets a self join's: 22
+--     own-contractor  nor one of another contractor: 28
 --     own-profile     nor one of the other profile: 30
 --     closed-all      it is closed only when it holds all
 --     progress        its own page is given, is taken, and adds a pair or closes it
@@ -26,11 +27,13 @@ use Prim.Native.Nat.{ℕ, zero, suc, _+_, _≤_, _<_}
 use native.Mathlib.Omega.{arith}
 use lib.IntN.{ℤ}
 use lib.ListN.{length, take, drop, replicate, take-append-drop, length-replicate}
-use Rattle.integers.proofs.Bools.{decide}
+use lib.Dec.{eqb}
+use borrow.Author.Tests.{eq-eqb, eqb-true}
+use Rattle.integers.proofs.Bools.{decide, clash}
 use Rattle.words.specs.Range.{lastId}
 use Rattle.plane.specs.Point.{Point, idAt, spotAt}
 use Rattle.words.specs.Word.{num}
-use Rattle.sheet.specs.Layout.{edition}
+use Rattle.sheet.specs.Layout.{edition, points}
 use Rattle.sheet.specs.Places.{pointsOf}
 use Rattle.sheet.specs.Open.{sheetNo}
 use Rattle.list.specs.declared.Key.{Key}
@@ -38,11 +41,12 @@ use Rattle.list.specs.declared.Pair.{Pair}
 use Rattle.list.specs.declared.Source.{Source}
 use Rattle.list.specs.declared.Page.{Page}
 use Rattle.list.specs.Pairs.{start, lastOr}
-use Rattle.list.specs.Pages.{sameKind, shown, pageOf, sameProfile}
+use Rattle.list.specs.Pages.{sameKind, ownersNo, shown, pageOf, sameProfile}
 use Rattle.list.specs.declared.Terms.{Terms}
 use Rattle.list.specs.RingList.{Reached as InReachOf}
 use Rattle.list.specs.Rows.{Rising}
 use Rattle.list.specs.Terms.{requestOf, listFor, profileFor}
+use Rattle.list.proofs.ContractorLaws.{undivided-any}
 use Rattle.list.proofs.Order.{last-holds}
 use Rattle.list.proofs.PageLaws.{shown-count, length-padded}
 use Rattle.list.proofs.TermsLaws.{for-size, for-keys}
@@ -63,7 +67,7 @@ use Rattle.book.proofs.SliceLaws as of-slice
 use Rattle.book.proofs.TakeLaws as of-take
 use Rattle.demands.specs.Promises as of-promise
 use Rattle.demands.specs.Promises.{Place, TermsAnswers, NextAnswers, TakeAnswers}
-use Rattle.demands.specs.World.{Editions, OfKind, Sheets, pumpsOf, chambersOf, bookList, Answered, History, began, took, lent, Asks, OwnPage, Asking, stops, asks}
+use Rattle.demands.specs.World.{Editions, OfKind, Sheets, HandsIn, pumpsOf, chambersOf, bookList, Answered, History, began, took, lent, Asks, OwnPage, Asking, stops, asks}
 use Rattle.demands.proofs.Demand2 as demand2
 
 module _ (w : Editions) where
@@ -73,6 +77,7 @@ module _ (w : Editions) where
       record {
         pumps = λ e. pointsOf (w .pumps e);
         chambers = λ e. pointsOf (w .chambers e);
+        owners = w .owners;
         pumps-sound = λ e. points-sound (w .pumps e) (w .pumps-open e);
         chambers-sound = λ e. points-sound (w .chambers e) (w .chambers-open e);
         assets = λ e. pointsOf (w .assets e);
@@ -103,12 +108,23 @@ module _ (w : Editions) where
         go false x = sym (x .1 .same)
         go true x = sym (x .1 .same)
 
-    module _ (key : Key) (size : ℕ) (bits : List ℕ) (r : Paged) (bits′ : List ℕ) (answers : TermsAnswers a P Q key size bits r bits′) where
+    -- so are the owner bytes that a request hands in, as far as its list asks for them
+    owners-are : (o : List ℕ) → HandsIn w a Q o → a .contractor ≤ 2 → (X Y : List Point) → listFor a o X Y ≡ listFor a (w .owners (num (edition Q))) X Y
+    owners-are o handed most X Y =
+        ⊎-elim
+        (λ (e : eqb (a .contractor) 2 ≡ true). undivided-any a (eqb-true (a .contractor) 2 e) o (w .owners (num (edition Q))) X Y)
+        (λ (e : eqb (a .contractor) 2 ≡ false). ap (λ (x : List ℕ). listFor a x X Y) (handed .divided (below (a .contractor) most e)))
+        (decide (eqb (a .contractor) 2))
+      where
+        below : (c : ℕ) → c ≤ 2 → eqb c 2 ≡ false → c < 2
+        below c h e = let ne : c ≡ 2 → ⊥ = λ x. clash (eq-eqb c 2 x) e in omega (arith, ne)
+
+    module _ (o : List ℕ) (handed : HandsIn w a Q o) (key : Key) (size : ℕ) (bits : List ℕ) (r : Paged) (bits′ : List ℕ) (answers : TermsAnswers a o P Q key size bits r bits′) where
       p-points : of-world.pumpsOf worldOf (sourceOf P Q a) ≡ pointsOf P
       unfolding sourceOf
       p-points = go (a .own) sheets answers
         where
-          go : (k : Bool) → OfKind w k P Q → of-promise.OfKind k a P Q key size bits r bits′ → cond k (pointsOf (w .assets (num (edition Q)))) (pointsOf (w .pumps (num (edition P)))) ≡ pointsOf P
+          go : (k : Bool) → OfKind w k P Q → of-promise.OfKind k a o P Q key size bits r bits′ → cond k (pointsOf (w .assets (num (edition Q)))) (pointsOf (w .pumps (num (edition P)))) ≡ pointsOf P
           go false x y = sym (x .0 .same)
           go true x y = sym (x .0 .same ∙ ap (λ (z : List ℤ). pointsOf (w .assets (num (edition z)))) (y .0))
 
@@ -116,13 +132,18 @@ module _ (w : Editions) where
       pub page-of : r .number ≡ 0 → (1 ≤ size) × (size ≤ 16) × (r .page ≡ pageOf (sourceOf P Q a) (listOf worldOf (sourceOf P Q a)) key size)
       unfolding pageGiven sourceOf
       page-of fine =
-          let z = demand2.answered P Q p-opens q-opens a key size bits r bits′ answers fine in
-          (z .0, z .1, ap (λ (x : Paged). x .page) (z .2) ∙ ap₂ (λ (x y : List Point). pageOf (sourceOf P Q a) (listFor a x y) key size) (sym p-points) (sym q-points))
+          let z = demand2.answered P Q p-opens q-opens a o key size bits r bits′ answers fine in (
+            z .0,
+            z .1,
+            ap (λ (x : Paged). x .page) (z .3)
+                ∙ ap (λ (l : List Pair). pageOf (sourceOf P Q a) l key size) (owners-are o handed (z .2) (pointsOf P) (pointsOf Q))
+                ∙ ap₂ (λ (x y : List Point). pageOf (sourceOf P Q a) (listFor a (w .owners (num (edition Q))) x y) key size) (sym p-points) (sym q-points),
+          )
 
   -- "not altered or invented": a page that was answered is honest [J7, D9]
   pub honest : (g : Page) → Answered w g → Honest worldOf g
   honest g x =
-      let z = page-of (x .terms) (x .P) (x .Q) (x .sheets) (x .key) (x .size) (x .bits) (x .r) (x .bits′) (x .answers) (x .given) in
+      let z = page-of (x .terms) (x .P) (x .Q) (x .sheets) (x .o) (x .handed) (x .key) (x .size) (x .bits) (x .r) (x .bits′) (x .answers) (x .given) in
       record { of = sourceOf (x .P) (x .Q) (x .terms); after = x .key; size = x .size; some = omega (arith, z .0); most = z .1; is = x .is ∙ z .2 }
 
   reached : {b : Book} {s : List Pair} → History w b s → Reached worldOf b s
@@ -166,7 +187,7 @@ module _ (w : Editions) where
       → (j i : ℕ) → j < length (chambersOf w (b .source)) → i < length (pumpsOf w (b .source))
       → idAt (chambersOf w (b .source)) j ≡ v .q → idAt (pumpsOf w (b .source)) i ≡ v .p
       → v .size ≡ profileFor (b .source .terms) .size (spotAt (chambersOf w (b .source)) j) (spotAt (pumpsOf w (b .source)) i)
-  held-size {b} h v m = for-size (b .source .terms) _ _ (pumps-rise (b .source)) (chambers-rise (b .source)) v (in-list h v m)
+  held-size {b} h v m = for-size (b .source .terms) _ _ _ (pumps-rise (b .source)) (chambers-rise (b .source)) v (in-list h v m)
 
   -- "calls itself closed only when it holds all" [K9, T6, J6, A10, D5]
   pub closed-all : {b : Book} {s : List Pair} → History w b s → b .closed ≡ true
@@ -181,7 +202,7 @@ module _ (w : Editions) where
 
   -- the keys of the book's list are in range
   keys-in : (b : Book) (v : Pair) → List·Memᴰ v (bookList w b) → (v .q ≤ lastId) × (v .p ≤ lastId)
-  keys-in b v m = for-keys (b .source .terms) (pumpsOf w (b .source)) (chambersOf w (b .source)) (pumps-rise (b .source)) (chambers-rise (b .source)) v m
+  keys-in b v m = for-keys (b .source .terms) (w .owners (b .source .«q_edition»)) (pumpsOf w (b .source)) (chambersOf w (b .source)) (pumps-rise (b .source)) (chambers-rise (b .source)) v m
 
   module _ {b : Book} {s : List Pair} (h : History w b s) {g : Page} (o : OwnPage w b s g) where
     key-last : o .key ≡ lastOr start (take (b .held) s)
@@ -207,14 +228,14 @@ module _ (w : Editions) where
     given : (o .r .number ≡ 0) × (o .r .page ≡ pageOf (b .source) (listOf worldOf (b .source)) (o .key) (o .size))
     given =
         let q = o .request in
-        let fine = demand2.page-served (q .P) (q .Q) (p-opens (b .source .terms) (q .P) (q .Q) (q .sheets)) (q-opens (b .source .terms) (q .P) (q .Q) (q .sheets)) (b .source .terms) (o .key) (o .size) (q .bits) (o .r) (q .bits′) (q .answers) in-range (q .forms) (q .enough) in
-        (fine, page-of (b .source .terms) (q .P) (q .Q) (q .sheets) (o .key) (o .size) (q .bits) (o .r) (q .bits′) (q .answers) fine .2 ∙ ap (λ (x : Source). pageOf x (listOf worldOf x) (o .key) (o .size)) (q .of-book))
+        let fine = demand2.page-served (q .P) (q .Q) (p-opens (b .source .terms) (q .P) (q .Q) (q .sheets)) (q-opens (b .source .terms) (q .P) (q .Q) (q .sheets)) (b .source .terms) (q .o) (o .key) (o .size) (q .bits) (o .r) (q .bits′) (q .answers) in-range (record { whose = of-story.begun-fair worldOf (reached h) .whose; bytes = q .whose }) (q .forms) (q .enough) in
+        (fine, page-of (b .source .terms) (q .P) (q .Q) (q .sheets) (q .o) (q .handed) (o .key) (o .size) (q .bits) (o .r) (q .bits′) (q .answers) fine .2 ∙ ap (λ (x : Source). pageOf x (listOf worldOf x) (o .key) (o .size)) (q .of-book))
 
     -- so it is a page that was answered
     own-answered : Answered w g
     own-answered =
         let q = o .request in
-        record { terms = b .source .terms; P = q .P; Q = q .Q; sheets = q .sheets; key = o .key; size = o .size; bits = q .bits; r = o .r; bits′ = q .bits′; answers = q .answers; given = given .0; is = o .is }
+        record { terms = b .source .terms; P = q .P; Q = q .Q; sheets = q .sheets; o = q .o; handed = q .handed; key = o .key; size = o .size; bits = q .bits; r = o .r; bits′ = q .bits′; answers = q .answers; given = given .0; is = o .is }
 
     own-is : g ≡ ownPage worldOf b s (o .size)
     own-is = o .is ∙ given .1 ∙ ap (λ (k : Key). pageOf (b .source) (listOf worldOf (b .source)) k (o .size)) key-due
@@ -233,7 +254,7 @@ module _ (w : Editions) where
         let z = forms-reach (a .grid) (q .P) (q .Q) (p-opens a (q .P) (q .Q) (q .sheets)) (q-opens a (q .P) (q .Q) (q .sheets)) (q .forms) in
         subst (InReach worldOf) (q .of-book)
         (record {
-          pumps-in = subst (InReachOf (profileFor a)) (sym (p-points a (q .P) (q .Q) (q .sheets) (o .key) (o .size) (q .bits) (o .r) (q .bits′) (q .answers))) (z .0);
+          pumps-in = subst (InReachOf (profileFor a)) (sym (p-points a (q .P) (q .Q) (q .sheets) (q .o) (q .handed) (o .key) (o .size) (q .bits) (o .r) (q .bits′) (q .answers))) (z .0);
           chambers-in = subst (InReachOf (profileFor a)) (sym (q-points a (q .P) (q .Q) (q .sheets))) (z .1);
         })
 
@@ -304,30 +325,31 @@ module _ (w : Editions) where
   somewhere : Place
   somewhere = record { address = (0, 0); name = 0 }
 
-  serves : (of : Source) (size : ℕ) (P Q : List ℤ) → Sheets w (of .terms) P Q → gridNo (of .terms .grid) P Q ≡ 0 → (of .terms .own ≡ true → (P ≡ Q) × (of .terms .threshold ≡ 0)) → sourceOf P Q (of .terms) ≡ of → (key : Key) → (r : Paged) × Asks w of key size r
-  serves of size P Q sheets forms alike e key =
+  serves : (of : Source) (size : ℕ) (P Q : List ℤ) → Sheets w (of .terms) P Q → (o : List ℕ) → HandsIn w (of .terms) Q o → ownersNo (of .terms .contractor) o (points Q) ≡ 0 → gridNo (of .terms .grid) P Q ≡ 0 → (of .terms .own ≡ true → (P ≡ Q) × (of .terms .threshold ≡ 0) × (of .terms .contractor ≡ 2)) → sourceOf P Q (of .terms) ≡ of → (key : Key) → (r : Paged) × Asks w of key size r
+  serves of size P Q sheets o handed bytes forms alike e key =
       let x = go (of .terms .own) alike in
-      (x .0, record { P = P; Q = Q; sheets = sheets; of-book = e; forms = forms; bits = lent-words; enough = omega (arith, length-replicate {A = ℕ} (need P) 0); bits′ = x .1; answers = x .2 })
+      (x .0, record { P = P; Q = Q; sheets = sheets; of-book = e; o = o; handed = handed; whose = bytes; forms = forms; bits = lent-words; enough = omega (arith, length-replicate {A = ℕ} (need P) 0); bits′ = x .1; answers = x .2 })
     where
       lent-words : List ℕ
       lent-words = replicate (need P) 0
 
-      go : (k : Bool) → (k ≡ true → (P ≡ Q) × (of .terms .threshold ≡ 0)) → (r : Paged) × (bits′ : List ℕ) × of-promise.OfKind k (of .terms) P Q key size lent-words r bits′
+      go : (k : Bool) → (k ≡ true → (P ≡ Q) × (of .terms .threshold ≡ 0) × (of .terms .contractor ≡ 2)) → (r : Paged) × (bits′ : List ℕ) × of-promise.OfKind k (of .terms) o P Q key size lent-words r bits′
       go false f =
           let ask = requestOf (of .terms) key size in
-          (pageAnswer P Q ask (length lent-words), pageBits P Q ask lent-words, record { κs = ([], ([], ([], tt))); p-at = somewhere; q-at = somewhere; b-at = somewhere; promised = (refl, refl) })
-      go true f = (ownAnswer P key size (of .terms .grid) (length lent-words), ownBits P key size (of .terms .grid) lent-words, (f refl .0, f refl .1, record { κs = ([], ([], tt)); w-at = somewhere; b-at = somewhere; promised = (refl, refl) }))
+          (pageAnswer P Q o ask (length lent-words), pageBits P Q o ask lent-words, record { κs = ([], ([], ([], ([], tt)))); p-at = somewhere; q-at = somewhere; o-at = somewhere; b-at = somewhere; promised = (refl, refl) })
+      go true f = (ownAnswer P key size (of .terms .grid) (length lent-words), ownBits P key size (of .terms .grid) lent-words, (f refl .0, f refl .1, f refl .2, handed .undivided (f refl .2), record { κs = ([], ([], tt)); w-at = somewhere; b-at = somewhere; promised = (refl, refl) }))
 
-  pub can-ask : (k : ℕ) {b : Book} {s : List Pair} → History w b s → (P Q : List ℤ) → Sheets w (b .source .terms) P Q → gridNo (b .source .terms .grid) P Q ≡ 0 → (b .source .terms .own ≡ true → P ≡ Q) → sourceOf P Q (b .source .terms) ≡ b .source
+  pub can-ask : (k : ℕ) {b : Book} {s : List Pair} → History w b s → (P Q : List ℤ) → Sheets w (b .source .terms) P Q → (o : List ℕ) → HandsIn w (b .source .terms) Q o → ownersNo (b .source .terms .contractor) o (points Q) ≡ 0 → gridNo (b .source .terms .grid) P Q ≡ 0 → (b .source .terms .own ≡ true → P ≡ Q) → sourceOf P Q (b .source .terms) ≡ b .source
       → (size : ℕ) → 1 ≤ size → size ≤ 16 → (b′ : Book) × (s′ : List Pair) × Asking w k b s b′ s′
-  can-ask k {b} h P Q sheets forms alike e size some most =
-      ask-on k h size some most (b .source) refl (serves (b .source) size P Q sheets forms (λ o. (alike o, of-story.begun-fair worldOf (reached h) .no-t o)) e)
+  can-ask k {b} h P Q sheets o handed bytes forms alike e size some most =
+      let fair = of-story.begun-fair worldOf (reached h) in
+      ask-on k h size some most (b .source) refl (serves (b .source) size P Q sheets o handed bytes forms (λ x. (alike x, fair .no-t x, fair .own-undivided x)) e)
 
   -- [J6, D6]
-  pub can-close : {b : Book} {s : List Pair} → History w b s → length (bookList w b) ≤ length s → (P Q : List ℤ) → Sheets w (b .source .terms) P Q → gridNo (b .source .terms .grid) P Q ≡ 0 → (b .source .terms .own ≡ true → P ≡ Q) → sourceOf P Q (b .source .terms) ≡ b .source
+  pub can-close : {b : Book} {s : List Pair} → History w b s → length (bookList w b) ≤ length s → (P Q : List ℤ) → Sheets w (b .source .terms) P Q → (o : List ℕ) → HandsIn w (b .source .terms) Q o → ownersNo (b .source .terms .contractor) o (points Q) ≡ 0 → gridNo (b .source .terms .grid) P Q ≡ 0 → (b .source .terms .own ≡ true → P ≡ Q) → sourceOf P Q (b .source .terms) ≡ b .source
       → (b′ : Book) × (s′ : List Pair) × Asking w (suc (length (bookList w b))) b s b′ s′ × (b′ .closed ≡ true)
-  can-close {b} h room P Q sheets forms alike e =
-      let m = can-ask (suc (length (bookList w b))) h P Q sheets forms alike e 16 (omega arith) (omega arith) in
+  can-close {b} h room P Q sheets o handed bytes forms alike e =
+      let m = can-ask (suc (length (bookList w b))) h P Q sheets o handed bytes forms alike e 16 (omega arith) (omega arith) in
       (m .0, m .1, m .2, closes h room (omega arith) (m .2))
 
 -- "Pages and books now say their kind, so that no self join's page enters a two-sheet book": where the kinds differ, an open book that its slots can hold refuses a page by 22.
@@ -338,9 +360,16 @@ own-kind b s g room still other r s′ t =
     let some : takeNo b s g ≡ 0 → ⊥ = λ z. omega arith in
     (ap (λ (x : Taken). x .number) (t .0) ∙ of-take.book-take-no b s g ∙ no, ap (λ (x : Taken). x .book) (t .0) ∙ of-take.refused-book b s g some, t .1 ∙ of-take.refused-slots b s g some)
 
--- "Pages and books carry the profile": an open book that its slots can hold refuses a page of its kind and of the other profile by 30. [A14]
-pub own-profile : (b : Book) (s : List Pair) (g : Page) → b .held ≤ length s → b .closed ≡ false → sameKind (b .source) (g .source) ≡ true → sameProfile (b .source) (g .source) ≡ false → (r : Taken) (s′ : List Pair) → TakeAnswers b s g r s′ → (r .number ≡ 30) × (r .book ≡ b) × (s′ ≡ s)
-own-profile b s g room still kind other r s′ t =
-    let no : takeNo b s g ≡ 30 = of-take.profile-no b s g room still kind other in
+-- "28 page of another contractor, after 22": an open book that its slots can hold refuses a page of its kind and of another contractor by 28.
+pub own-contractor : (b : Book) (s : List Pair) (g : Page) → b .held ≤ length s → b .closed ≡ false → sameKind (b .source) (g .source) ≡ true → (b .source .terms .contractor ≡ g .source .terms .contractor → ⊥) → (r : Taken) (s′ : List Pair) → TakeAnswers b s g r s′ → (r .number ≡ 28) × (r .book ≡ b) × (s′ ≡ s)
+own-contractor b s g room still kind other r s′ t =
+    let no : takeNo b s g ≡ 28 = of-take.contractor-no b s g room still kind other in
+    let some : takeNo b s g ≡ 0 → ⊥ = λ z. omega arith in
+    (ap (λ (x : Taken). x .number) (t .0) ∙ of-take.book-take-no b s g ∙ no, ap (λ (x : Taken). x .book) (t .0) ∙ of-take.refused-book b s g some, t .1 ∙ of-take.refused-slots b s g some)
+
+-- "Pages and books carry the profile": an open book that its slots can hold refuses a page of its kind and contractor, and of the other profile by 30. [A14]
+pub own-profile : (b : Book) (s : List Pair) (g : Page) → b .held ≤ length s → b .closed ≡ false → sameKind (b .source) (g .source) ≡ true → b .source .terms .contractor ≡ g .source .terms .contractor → sameProfile (b .source) (g .source) ≡ false → (r : Taken) (s′ : List Pair) → TakeAnswers b s g r s′ → (r .number ≡ 30) × (r .book ≡ b) × (s′ ≡ s)
+own-profile b s g room still kind whose other r s′ t =
+    let no : takeNo b s g ≡ 30 = of-take.profile-no b s g room still kind whose other in
     let some : takeNo b s g ≡ 0 → ⊥ = λ z. omega arith in
     (ap (λ (x : Taken). x .number) (t .0) ∙ of-take.book-take-no b s g ∙ no, ap (λ (x : Taken). x .book) (t .0) ∙ of-take.refused-book b s g some, t .1 ∙ of-take.refused-slots b s g some)

@@ -108,7 +108,7 @@ filter-refuses (filters-near P Q id ws w r ws′ w′ a) ne = let z = near-filte
 -- the words by its number
 works-by : {n k : ℕ} {w w′ : List ℕ} → Works n k w w′ → w′ ≡ wipedBy k n w
 unfolding pageBits ownBits partnersBits shortBits runBits
-works-by (works-page P Q ask w r w′ a) = a .promised .1 ∙ ap (λ (m : ℕ). wipedBy m (need P) w) (sym (page-no P Q ask w r w′ a .0))
+works-by (works-page P Q o ask w r w′ a) = a .promised .1 ∙ ap (λ (m : ℕ). wipedBy m (need P) w) (sym (page-no P Q o ask w r w′ a .0))
 works-by (works-own S key size g w r w′ a) = a .promised .1 ∙ ap (λ (m : ℕ). wipedBy m (need S) w) (sym (own-no S key size g w r w′ a .0))
 works-by (works-partners P Q id t w r w′ a) = a .promised .1 ∙ ap (λ (m : ℕ). wipedBy m (need P) w) (sym (partners-no P Q id t w r w′ a .0))
 works-by (works-short P Q k w r w′ a) = a .promised .1 ∙ ap (λ (m : ℕ). wipedBy m (need P) w) (sym (short-no P Q k w r w′ a .0))

@@ -7,6 +7,7 @@
 --     Shortest    the shortest circles of the list, in order
 --     Nearest     the pump houses nearest first, and the filter that goes so
 --     Demand3     the book's story, with the pages that the shipped page request answers
+--     Blind       what one contractor is handed does not depend on the ids of the other's chambers
 --     Worlds      the premises of demand 3 can be had
 --     Says        where a promise is stated anew, it is the `ensures` of its call
 --     Alike       calls through views, and on arrays, answer as those on slices do, so the theorems hold of them too
@@ -23,5 +24,6 @@ pub mod Demand2
 pub mod Shortest
 pub mod Nearest
 pub mod Demand3
+pub mod Blind
 pub mod OverC
 pub mod Worlds

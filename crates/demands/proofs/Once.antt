@@ -73,8 +73,8 @@ ring-once P Q j i g r r′ a b = of-ring.ring-walk-once P Q j i g r r′ (a .pro
 pub filter-once : (P Q : List ℤ) (j : ℕ) (w : List ℕ) (r r′ : Filtered) (t t′ : List ℕ) → FilterAnswers P Q j w r t → FilterAnswers P Q j w r′ t′ → (r ≡ r′) × (t ≡ t′)
 filter-once P Q j w r r′ t t′ a b = (of-ring.ring-filter-once P Q j (length w) r r′ (a .promised .0) (b .promised .0), a .promised .1 ∙ sym (b .promised .1))
 
-pub page-once : (P Q : List ℤ) (ask : Request) (w : List ℕ) (r r′ : Paged) (t t′ : List ℕ) → PageAnswers P Q ask w r t → PageAnswers P Q ask w r′ t′ → (r ≡ r′) × (t ≡ t′)
-page-once P Q ask w r r′ t t′ a b = (of-page.ring-page-once P Q ask (length w) r r′ (a .promised .0) (b .promised .0), a .promised .1 ∙ sym (b .promised .1))
+pub page-once : (P Q : List ℤ) (o : List ℕ) (ask : Request) (w : List ℕ) (r r′ : Paged) (t t′ : List ℕ) → PageAnswers P Q o ask w r t → PageAnswers P Q o ask w r′ t′ → (r ≡ r′) × (t ≡ t′)
+page-once P Q o ask w r r′ t t′ a b = (of-page.ring-page-once P Q o ask (length w) r r′ (a .promised .0) (b .promised .0), a .promised .1 ∙ sym (b .promised .1))
 
 pub own-once : (S : List ℤ) (key : Key) (size : ℕ) (g : Bool) (w : List ℕ) (r r′ : Paged) (t t′ : List ℕ) → OwnAnswers S key size g w r t → OwnAnswers S key size g w r′ t′ → (r ≡ r′) × (t ≡ t′)
 own-once S key size g w r r′ t t′ a b = (of-own.ring-own-once S key size g (length w) r r′ (a .promised .0) (b .promised .0), a .promised .1 ∙ sym (b .promised .1))
@@ -163,8 +163,8 @@ view-filter-once p q j w r r′ t t′ x y = of-view.filter-through-once p p q q
 pub view-ring-once : (p q : Sheet) (j i : ℕ) (g : Bool) (r r′ : Walked) → ViewRings p q j i g r → ViewRings p q j i g r′ → r ≡ r′
 view-ring-once p q j i g r r′ x y = of-view.ring-through-once p p q q j i g r r′ refl refl x y
 
-pub view-page-once : (p q : Sheet) (ask : Request) (w : List ℕ) (r r′ : Paged) (t t′ : List ℕ) → ViewPages p q ask w r t → ViewPages p q ask w r′ t′ → (r ≡ r′) × (t ≡ t′)
-view-page-once p q ask w r r′ t t′ x y = of-view.page-through-once p p q q ask w r r′ t t′ refl refl x y
+pub view-page-once : (p q : Sheet) (o : List ℕ) (ask : Request) (w : List ℕ) (r r′ : Paged) (t t′ : List ℕ) → ViewPages p q o ask w r t → ViewPages p q o ask w r′ t′ → (r ≡ r′) × (t ≡ t′)
+view-page-once p q o ask w r r′ t t′ x y = of-view.page-through-once p p q q o ask w r r′ t t′ refl refl x y
 
 pub view-own-once : (d : Sheet) (key : Key) (size : ℕ) (g : Bool) (w : List ℕ) (r r′ : Paged) (t t′ : List ℕ) → ViewOwnPages d key size g w r t → ViewOwnPages d key size g w r′ t′ → (r ≡ r′) × (t ≡ t′)
 view-own-once d key size g w r r′ t t′ x y = of-view.own-through-once d d key size g w r r′ t t′ refl x y

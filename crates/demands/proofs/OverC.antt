@@ -110,7 +110,7 @@ filter-c-takes κs a = tt
 pub walk-c-takes : (κs : Lfts 2) (a : _) → walk-c.Asked κs a
 walk-c-takes κs a = tt
 
-pub page-c-takes : (κs : Lfts 3) (a : _) → page-c.Asked κs a
+pub page-c-takes : (κs : Lfts 4) (a : _) → page-c.Asked κs a
 page-c-takes κs a = tt
 
 pub shortest-c-takes : (κs : Lfts 3) (a : _) → shortest-c.Asked κs a
@@ -209,8 +209,8 @@ own-over S key size g w r w′ a = record { κs = a .κs; w-at = a .w-at; b-at =
 pub partners-over : (P Q : List ℤ) (id t : ℕ) (w : List ℕ) (r : Partnered) (w′ : List ℕ) → PartnersC P Q id t w r w′ → PartnersAnswers P Q id t w r w′
 partners-over P Q id t w r w′ a = record { κs = a .κs; p-at = a .p-at; q-at = a .q-at; b-at = a .b-at; promised = a .promised }
 
-pub page-over : (P Q : List ℤ) (ask : Request) (w : List ℕ) (r : Paged) (w′ : List ℕ) → PageC P Q ask w r w′ → PageAnswers P Q ask w r w′
-page-over P Q ask w r w′ a = record { κs = a .κs; p-at = a .p-at; q-at = a .q-at; b-at = a .b-at; promised = a .promised }
+pub page-over : (P Q : List ℤ) (o : List ℕ) (ask : Request) (w : List ℕ) (r : Paged) (w′ : List ℕ) → PageC P Q o ask w r w′ → PageAnswers P Q o ask w r w′
+page-over P Q o ask w r w′ a = record { κs = a .κs; p-at = a .p-at; q-at = a .q-at; o-at = a .o-at; b-at = a .b-at; promised = a .promised }
 
 pub shortest-over : (P Q : List ℤ) (k : ℕ) (w : List ℕ) (r : Shortlist) (w′ : List ℕ) → ShortC P Q k w r w′ → ShortAnswers P Q k w r w′
 shortest-over P Q k w r w′ a = record { κs = a .κs; p-at = a .p-at; q-at = a .q-at; b-at = a .b-at; promised = a .promised }
@@ -331,8 +331,8 @@ filter-c-once P Q j w r r′ t t′ a b = once.filter-once P Q j w r r′ t t′
 pub walk-c-once : (P Q : List ℤ) (j i : ℕ) (g : Bool) (r r′ : WalkAnswer) → WalkC P Q j i g r → WalkC P Q j i g r′ → r ≡ r′
 walk-c-once P Q j i g r r′ a b = a .promised ∙ sym (b .promised)
 
-pub page-c-once : (P Q : List ℤ) (ask : Request) (w : List ℕ) (r r′ : Paged) (t t′ : List ℕ) → PageC P Q ask w r t → PageC P Q ask w r′ t′ → (r ≡ r′) × (t ≡ t′)
-page-c-once P Q ask w r r′ t t′ a b = once.page-once P Q ask w r r′ t t′ (page-over P Q ask w r t a) (page-over P Q ask w r′ t′ b)
+pub page-c-once : (P Q : List ℤ) (o : List ℕ) (ask : Request) (w : List ℕ) (r r′ : Paged) (t t′ : List ℕ) → PageC P Q o ask w r t → PageC P Q o ask w r′ t′ → (r ≡ r′) × (t ≡ t′)
+page-c-once P Q o ask w r r′ t t′ a b = once.page-once P Q o ask w r r′ t t′ (page-over P Q o ask w r t a) (page-over P Q o ask w r′ t′ b)
 
 pub own-c-once : (S : List ℤ) (key : Key) (size : ℕ) (g : Bool) (w : List ℕ) (r r′ : Paged) (t t′ : List ℕ) → OwnC S key size g w r t → OwnC S key size g w r′ t′ → (r ≡ r′) × (t ≡ t′)
 own-c-once S key size g w r r′ t t′ a b = once.own-once S key size g w r r′ t t′ (own-over S key size g w r t a) (own-over S key size g w r′ t′ b)

@@ -97,10 +97,10 @@ module _ {M : Type 1} (𝓤 : URA M) (H : Heap 𝓤) (A : Atoms 𝓤) (mem : Mem
       ≡ fact 𝓤 (ViewRings p q j i g r)
   view-ring-says κs p q j i g r = refl
 
-  pub view-page-says : (κs : Lfts 3) (l : Place) (p q : Sheet) (ask : Request) (w : List ℕ) (r : Paged) (w′ : List ℕ)
-      → view-page.ensures-1 𝓤 H κs A mem run p q ask (slice l w) (record { entry = p; exit = p }) (record { entry = q; exit = q }) (record { entry = ask; exit = ask }) (record { entry = slice l w; exit = slice l w′ }) r
-      ≡ fact 𝓤 (ViewPages p q ask w r w′)
-  view-page-says κs l p q ask w r w′ = refl
+  pub view-page-says : (κs : Lfts 4) (l b : Place) (p q : Sheet) (o : List ℕ) (ask : Request) (w : List ℕ) (r : Paged) (w′ : List ℕ)
+      → view-page.ensures-1 𝓤 H κs A mem run p q (slice l o) ask (slice b w) (record { entry = p; exit = p }) (record { entry = q; exit = q }) (record { entry = slice l o; exit = slice l o }) (record { entry = ask; exit = ask }) (record { entry = slice b w; exit = slice b w′ }) r
+      ≡ fact 𝓤 (ViewPages p q o ask w r w′)
+  view-page-says κs l b p q o ask w r w′ = refl
 
   pub view-own-page-says : (κs : Lfts 2) (l : Place) (d : Sheet) (key : Key) (size : ℕ) (g : Bool) (w : List ℕ) (r : Paged) (w′ : List ℕ)
       → view-own-page.ensures-1 𝓤 H κs A mem run d key size g (slice l w) (record { entry = d; exit = d }) (record { entry = key; exit = key }) (record { entry = size; exit = size }) (record { entry = g; exit = g }) (record { entry = slice l w; exit = slice l w′ }) r

@@ -64,7 +64,7 @@ filter-walk-takes κs a = tt
 pub ring-walk-takes : (κs : Lfts 2) (a : _) → ring-walk.Asked κs a
 ring-walk-takes κs a = tt
 
-pub page-takes : (κs : Lfts 3) (a : _) → page.Asked κs a
+pub page-takes : (κs : Lfts 4) (a : _) → page.Asked κs a
 page-takes κs a = tt
 
 pub shortest-takes : (κs : Lfts 3) (a : _) → shortest.Asked κs a
@@ -143,7 +143,7 @@ module _ {M : Type 1} (𝓤 : URA M) (H : Heap 𝓤) (A : Atoms 𝓤) (mem : Mem
   pub view-ring-takes : (κs : Lfts 2) (a : _) → view-ring.clauses 𝓤 H A mem run κs a .requires tt ≡ emp 𝓤
   view-ring-takes κs a = refl
 
-  pub view-page-takes : (κs : Lfts 3) (a : _) → view-page.clauses 𝓤 H A mem run κs a .requires tt ≡ emp 𝓤
+  pub view-page-takes : (κs : Lfts 4) (a : _) → view-page.clauses 𝓤 H A mem run κs a .requires tt ≡ emp 𝓤
   view-page-takes κs a = refl
 
   pub view-own-page-takes : (κs : Lfts 2) (a : _) → view-own-page.clauses 𝓤 H A mem run κs a .requires tt ≡ emp 𝓤

@@ -14,7 +14,7 @@ use Rattle.words.specs.Range.{idWord, editionWord, coordWord, editionOk}
 use Rattle.words.specs.All.{allB, tab}
 use Rattle.sheet.specs.Limits.{form1, limitsOf}
 use Rattle.words.specs.First.{given, first, answer}
-use Rattle.sheet.specs.Layout.{rootWord, countsOk, layoutOk, trailerNo}
+use Rattle.sheet.specs.Layout.{points, rootWord, countsOk, layoutOk, trailerNo}
 use Rattle.sheet.specs.Points.{fieldsOk, risesOk, pointOk, pointsOk}
 use Rattle.sheet.specs.Order.{orderOf, rankOf, placeOk, orderOk}
 use Rattle.sheet.specs.Nodes.{levelOf, firstOf, countOf, sameLevel, dueNext, dueOf, runOk, isLast, endOk, nodeRule, nodeOk, tableOk, nodesOk}
@@ -25,10 +25,11 @@ use Rattle.sheet.specs.Places.{spotOf, pointsOf}
 use Rattle.list.specs.declared.Pair.{Pair}
 use Rattle.list.specs.declared.Source.{Source}
 use Rattle.list.specs.Pairs.{none}
-use Rattle.list.specs.Pages.{thresholdNo}
+use Rattle.list.specs.Pages.{thresholdNo, contractorNo}
 use Rattle.list.specs.RingList.{unblocked, ringList, ringPairBy, ringListBy}
 use Rattle.list.specs.Rows.{row, rows, listBy}
 use Rattle.list.specs.Terms.{full, listFor}
+use Rattle.list.proofs.ContractorLaws.{owners-none}
 use Rattle.list.proofs.TermsLaws.{full-ring-list}
 use Rattle.book.specs.declared.Book.{Book}
 use Rattle.ring.specs.Page.{sourceOf}
@@ -47,7 +48,7 @@ unfolding limitsOf form1 editionWord eqZ within num allB rootWord countsOk layou
 empty-opens = refl
 
 pub emptyWorld : Editions
-emptyWorld = record { pumps = λ e. emptySheet; chambers = λ e. emptySheet; assets = λ e. emptySheet; pumps-open = λ e. empty-opens; chambers-open = λ e. empty-opens; assets-open = λ e. empty-opens }
+emptyWorld = record { pumps = λ e. emptySheet; chambers = λ e. emptySheet; owners = λ e. []; assets = λ e. emptySheet; pumps-open = λ e. empty-opens; chambers-open = λ e. empty-opens; assets-open = λ e. empty-opens }
 
 -- ---- the document's two sheets
 
@@ -67,7 +68,7 @@ q-opens = refl
 
 -- every edition number has these; a book is begun for 7 and 9
 unfoldable pub documentWorld : Editions
-documentWorld = record { pumps = λ e. documentP; chambers = λ e. documentQ; assets = λ e. emptySheet; pumps-open = λ e. p-opens; chambers-open = λ e. q-opens; assets-open = λ e. empty-opens }
+documentWorld = record { pumps = λ e. documentP; chambers = λ e. documentQ; owners = λ e. []; assets = λ e. emptySheet; pumps-open = λ e. p-opens; chambers-open = λ e. q-opens; assets-open = λ e. empty-opens }
 
 abbrev pub documentSource : Source
 documentSource = record { «p_edition» = 7; «q_edition» = 9; terms = full }
@@ -76,11 +77,11 @@ abbrev pub threePairs : List Pair
 threePairs = record { q = 5; p = 1; size = 16 } ∷ record { q = 5; p = 2; size = 36 } ∷ record { q = 6; p = 2; size = 37 } ∷ []
 
 begun-for : BeginAnswers documentSource (begun.Open (begunBook documentSource))
-unfolding begunFor beginNo first given answer begunBook editionOk thresholdNo
+unfolding begunFor beginNo first given answer begunBook editionOk thresholdNo contractorNo
 begun-for = record { promised = refl }
 
-list-is : listFor full (pointsOf documentP) (pointsOf documentQ) ≡ threePairs
-list-is = full-ring-list false (pointsOf documentP) (pointsOf documentQ) ∙ computed
+list-is : listFor full [] (pointsOf documentP) (pointsOf documentQ) ≡ threePairs
+list-is = full-ring-list false [] (pointsOf documentP) (pointsOf documentQ) ∙ computed
   where
     computed : ringList (pointsOf documentP) (pointsOf documentQ) ≡ threePairs
     computed = unfold ringListBy listBy rows row ringPairBy unblocked allB sameSpot blocks pointsOf spotOf tab num documentP documentQ in refl
@@ -95,9 +96,9 @@ unfolding begunBook documentWorld
 document-closed =
     let slots : List Pair = replicate 3 none in
     let h : History documentWorld (begunBook documentSource) slots = began documentSource (begunBook documentSource) slots begun-for in
-    let m = can-close documentWorld h (rw list-is (omega arith)) documentP documentQ (record { opens = p-opens; same = refl }, record { opens = q-opens; same = refl }) (circle-any-form documentP documentQ) (λ e. absurd (true≢false (sym e))) source-is in
+    let m = can-close documentWorld h (rw list-is (omega arith)) documentP documentQ (record { opens = p-opens; same = refl }, record { opens = q-opens; same = refl }) [] (record { divided = λ l. refl; undivided = λ e. refl }) (sym (owners-none 2 [] (points documentQ) refl refl)) (circle-any-form documentP documentQ) (λ e. absurd (true≢false (sym e))) source-is in
     let g = goes-on documentWorld h (m .2) in
     let c = closed-all documentWorld (g .0) (m .3) in
-    let l : bookList documentWorld (m .0) ≡ threePairs = ap (λ (x : Source). listFor (x .terms) (pumpsOf documentWorld x) (chambersOf documentWorld x)) (g .1) ∙ list-is in
+    let l : bookList documentWorld (m .0) ≡ threePairs = ap (λ (x : Source). listFor (x .terms) [] (pumpsOf documentWorld x) (chambersOf documentWorld x)) (g .1) ∙ list-is in
     let n : m .0 .held ≡ 3 = c .0 ∙ ap length l in
     (m .0, m .1, g .0, m .3, n, ap (λ (k : ℕ). take k (m .1)) (sym n) ∙ c .1 ∙ l, g .1)

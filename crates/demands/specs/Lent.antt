@@ -26,7 +26,7 @@ pub data Filters : List ℤ → List ℕ → ℕ → List ℕ → List ℕ → T
 
 -- An answer of any other call that is lent words: how many it needs, the number of the answer, the words lent and those at its exit.
 pub data Works : ℕ → ℕ → List ℕ → List ℕ → Type 0 where
-  works-page : (P Q : List ℤ) (ask : Request) (w : List ℕ) (r : Paged) (w′ : List ℕ) → PageAnswers P Q ask w r w′ → Works (need P) (r .number) w w′
+  works-page : (P Q : List ℤ) (o : List ℕ) (ask : Request) (w : List ℕ) (r : Paged) (w′ : List ℕ) → PageAnswers P Q o ask w r w′ → Works (need P) (r .number) w w′
   works-own : (S : List ℤ) (key : Key) (size : ℕ) (g : Bool) (w : List ℕ) (r : Paged) (w′ : List ℕ) → OwnAnswers S key size g w r w′ → Works (need S) (r .number) w w′
   works-partners : (P Q : List ℤ) (id t : ℕ) (w : List ℕ) (r : Partnered) (w′ : List ℕ) → PartnersAnswers P Q id t w r w′ → Works (need P) (r .number) w w′
   works-short : (P Q : List ℤ) (k : ℕ) (w : List ℕ) (r : Shortlist) (w′ : List ℕ) → ShortAnswers P Q k w r w′ → Works (need P) (r .number) w w′

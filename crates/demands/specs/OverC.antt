@@ -82,13 +82,17 @@ pub record WalkC (P Q : List ℤ) (j i : ℕ) (g : Bool) (r : WalkAnswer) : Type
   pub q-at : Place
   pub promised : walk-c.Post κs (slice p-at P, (slice q-at Q, (j, (i, (g, tt))))) r (slice p-at P, (slice q-at Q, (j, (i, (g, tt)))))
 
--- `ring_page(P, Q, ask, bits)` answers r, and the lent words are `bits′` at its exit [C1, D8]
-pub record PageC (P Q : List ℤ) (ask : Request) (bits : List ℕ) (r : Paged) (bits′ : List ℕ) : Type 0 where
-  pub κs : Lfts 3
+-- `ring_page(P, Q, o, ask, bits)` answers r, and the lent words are `bits′` at its exit [C1, D8]
+pub record PageC (P Q : List ℤ) (o : List ℕ) (ask : Request) (bits : List ℕ) (r : Paged) (bits′ : List ℕ) : Type 0 where
+  pub κs : Lfts 4
   pub p-at : Place
   pub q-at : Place
+  pub o-at : Place
   pub b-at : Place
-  pub promised : page-c.Post κs (slice p-at P, (slice q-at Q, (ask, (slice b-at bits, tt)))) r (slice p-at P, (slice q-at Q, (ask, (slice b-at bits′, tt))))
+  pub promised : page-c.Post κs
+      (slice p-at P, (slice q-at Q, (slice o-at o, (ask, (slice b-at bits, tt)))))
+      r
+      (slice p-at P, (slice q-at Q, (slice o-at o, (ask, (slice b-at bits′, tt)))))
 
 -- `ring_own_page(S, key, size, grid, bits)` answers r, and the lent words are `bits′` at its exit [C1, D8]
 pub record OwnC (S : List ℤ) (key : Key) (size : ℕ) (g : Bool) (bits : List ℕ) (r : Paged) (bits′ : List ℕ) : Type 0 where

@@ -1,5 +1,5 @@
--- What the shipped calls promise, under one name for each call: `PageAnswers P Q ask bits r bits′` says that r is an answer which the `ensures` of the page request
--- admits, where the words P and Q and the request are handed in and the words `bits` are lent, which are `bits′` at its exit. The theorems of this crate start from these, so whoever weakens an `ensures` breaks them.
+-- What the shipped calls promise, under one name for each call: `PageAnswers P Q o ask bits r bits′` says that r is an answer which the `ensures` of the page request
+-- admits, where the words P and Q, the owner bytes o and the request are handed in and the words `bits` are lent, which are `bits′` at its exit. The theorems of this crate start from these, so whoever weakens an `ensures` breaks them.
 --
 -- `Post` of a call is its `ensures`, read as a plain claim: of the lifetimes κs of what is lent, the arguments, the answer, and the arguments at exit.
 -- Words and slots that are lent are lists that stand at some place of memory, and no promise depends on the place.
@@ -7,7 +7,7 @@
 -- Theirs is stated here, and proofs/Says shows that it is their `ensures`, word for word.
 use mathlib.Core.Path.{_≡_}
 use mathlib.Core.Bool.{Bool, true, false}
-use mathlib.Core.List.{List}
+use mathlib.Core.List.{List, []}
 use Prim.Native.Nat.{ℕ}
 use lib.IntN.{ℤ}
 use lib.ListN.{length}
@@ -126,13 +126,17 @@ pub record RingAnswers (P Q : List ℤ) (j i : ℕ) (g : Bool) (r : Walked) : Ty
   pub q-at : Place
   pub promised : ring-walk.Post κs (slice p-at P, (slice q-at Q, (j, (i, (g, tt))))) r (slice p-at P, (slice q-at Q, (j, (i, (g, tt)))))
 
--- `ring::page::page(P, Q, ask, bits)` answers r, and the lent words are `bits′` at its exit [B1, D1, D7, D8]
-pub record PageAnswers (P Q : List ℤ) (ask : Request) (bits : List ℕ) (r : Paged) (bits′ : List ℕ) : Type 0 where
-  pub κs : Lfts 3
+-- `ring::page::page(P, Q, o, ask, bits)` answers r, and the lent words are `bits′` at its exit [B1, D1, D7, D8]
+pub record PageAnswers (P Q : List ℤ) (o : List ℕ) (ask : Request) (bits : List ℕ) (r : Paged) (bits′ : List ℕ) : Type 0 where
+  pub κs : Lfts 4
   pub p-at : Place
   pub q-at : Place
+  pub o-at : Place
   pub b-at : Place
-  pub promised : page.Post κs (slice p-at P, (slice q-at Q, (ask, (slice b-at bits, tt)))) r (slice p-at P, (slice q-at Q, (ask, (slice b-at bits′, tt))))
+  pub promised : page.Post κs
+      (slice p-at P, (slice q-at Q, (slice o-at o, (ask, (slice b-at bits, tt)))))
+      r
+      (slice p-at P, (slice q-at Q, (slice o-at o, (ask, (slice b-at bits′, tt)))))
 
 -- `ring::own::own_page(S, key, size, grid, bits)` answers r, and the lent words are `bits′` at its exit [D8]
 pub record OwnAnswers (S : List ℤ) (key : Key) (size : ℕ) (g : Bool) (bits : List ℕ) (r : Paged) (bits′ : List ℕ) : Type 0 where
@@ -141,13 +145,14 @@ pub record OwnAnswers (S : List ℤ) (key : Key) (size : ℕ) (g : Bool) (bits :
   pub b-at : Place
   pub promised : own-page.Post κs (slice w-at S, (key, (size, (g, (slice b-at bits, tt))))) r (slice w-at S, (key, (size, (g, (slice b-at bits′, tt)))))
 
--- An answer of the page request of these terms, for these lent words: of two sheets, or of a self join, which is of the one sheet in both places and has no t.
-abbrev pub OfKind : Bool → Terms → List ℤ → List ℤ → Key → ℕ → List ℕ → Paged → List ℕ → Type 0
-OfKind false a P Q key size bits r bits′ = PageAnswers P Q (requestOf a key size) bits r bits′
-OfKind true a P Q key size bits r bits′ = (P ≡ Q) × (a .threshold ≡ 0) × OwnAnswers P key size (a .grid) bits r bits′
+-- An answer of the page request of these terms and owner bytes, for these lent words: of two sheets, or of a self join, which is of the one sheet in both places, has no t, and is undivided, with no
+-- bytes.
+abbrev pub OfKind : Bool → Terms → List ℕ → List ℤ → List ℤ → Key → ℕ → List ℕ → Paged → List ℕ → Type 0
+OfKind false a o P Q key size bits r bits′ = PageAnswers P Q o (requestOf a key size) bits r bits′
+OfKind true a o P Q key size bits r bits′ = (P ≡ Q) × (a .threshold ≡ 0) × (a .contractor ≡ 2) × (o ≡ []) × OwnAnswers P key size (a .grid) bits r bits′
 
-abbrev pub TermsAnswers : Terms → List ℤ → List ℤ → Key → ℕ → List ℕ → Paged → List ℕ → Type 0
-TermsAnswers a P Q key size bits r bits′ = OfKind (a .own) a P Q key size bits r bits′
+abbrev pub TermsAnswers : Terms → List ℕ → List ℤ → List ℤ → Key → ℕ → List ℕ → Paged → List ℕ → Type 0
+TermsAnswers a o P Q key size bits r bits′ = OfKind (a .own) a o P Q key size bits r bits′
 
 -- `ring::partners::partners(P, Q, id, t, bits)` answers r, and the lent words are `bits′` at its exit [D8]
 pub record PartnersAnswers (P Q : List ℤ) (id t : ℕ) (bits : List ℕ) (r : Partnered) (bits′ : List ℕ) : Type 0 where
@@ -292,9 +297,9 @@ ViewFilters p q j bits r bits′ = (r ≡ filtered (now (p .words)) (now (q .wor
 abbrev pub ViewRings : Sheet → Sheet → ℕ → ℕ → Bool → Walked → Type 0
 ViewRings p q j i g r = r ≡ walked (now (p .words)) (now (q .words)) j i g
 
--- `view::page_at(p, q, ask, bits)` answers r, and the lent words are `bits′` at its exit [S28, N19, D8]
-abbrev pub ViewPages : Sheet → Sheet → Request → List ℕ → Paged → List ℕ → Type 0
-ViewPages p q ask bits r bits′ = (r ≡ pageAnswer (now (p .words)) (now (q .words)) ask (length bits)) × (bits′ ≡ pageBits (now (p .words)) (now (q .words)) ask bits)
+-- `view::page_at(p, q, o, ask, bits)` answers r, and the lent words are `bits′` at its exit [S28, N19, D8]
+abbrev pub ViewPages : Sheet → Sheet → List ℕ → Request → List ℕ → Paged → List ℕ → Type 0
+ViewPages p q o ask bits r bits′ = (r ≡ pageAnswer (now (p .words)) (now (q .words)) o ask (length bits)) × (bits′ ≡ pageBits (now (p .words)) (now (q .words)) o ask bits)
 
 -- `view::own_page_at(d, key, size, grid, bits)` answers r, and the lent words are `bits′` at its exit [S28, D8]
 abbrev pub ViewOwnPages : Sheet → Key → ℕ → Bool → List ℕ → Paged → List ℕ → Type 0

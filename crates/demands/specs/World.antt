@@ -1,16 +1,15 @@
 -- The world of demand 3, told by what the shipped calls answer. "Pages may be lost, repeated, late or out of order, but not altered or invented; P sheets with one
 -- edition number hold the same points, and Q sheets likewise; nobody else writes the book or hands in an older state of it." For self joins the premise is
--- "that all sheets given to self joins under one edition number hold the same points".
-use Rattle.ring.specs.Numbers.{gridNo}
+-- "that all sheets given to self joins under one edition number hold the same points". For a contractor's list there is one more, "the owner bytes being the same under one chamber edition".
 use mathlib.Core.Path.{_≡_}
 use mathlib.Core.Bool.{Bool, true, false, cond}
-use mathlib.Core.List.{List}
-use Prim.Native.Nat.{ℕ, zero, suc, _≤_}
+use mathlib.Core.List.{List, []}
+use Prim.Native.Nat.{ℕ, zero, suc, _≤_, _<_}
 use lib.IntN.{ℤ}
 use lib.ListN.{length, take}
 use Rattle.words.specs.Word.{num}
 use Rattle.plane.specs.Point.{Point}
-use Rattle.sheet.specs.Layout.{edition}
+use Rattle.sheet.specs.Layout.{edition, points}
 use Rattle.sheet.specs.Places.{pointsOf}
 use Rattle.sheet.specs.Open.{sheetNo}
 use Rattle.list.specs.declared.Key.{Key}
@@ -18,8 +17,10 @@ use Rattle.list.specs.declared.Pair.{Pair}
 use Rattle.list.specs.declared.Source.{Source}
 use Rattle.list.specs.declared.Page.{Page}
 use Rattle.list.specs.declared.Terms.{Terms}
+use Rattle.list.specs.Pages.{ownersNo}
 use Rattle.list.specs.Terms.{listFor}
 use Rattle.ring.specs.Lent.{need}
+use Rattle.ring.specs.Numbers.{gridNo}
 use Rattle.ring.specs.Page.{sourceOf}
 use Rattle.ring.specs.declared.Paged.{Paged}
 use Rattle.book.specs.declared.Book.{Book}
@@ -34,6 +35,8 @@ use Rattle.demands.specs.Promises.{TermsAnswers, BeginAnswers, NextAnswe
 pub record Editions : Type 0 where
   pub pumps : ℕ → List ℤ
   pub chambers : ℕ → List ℤ
+  -- "the owner bytes being the same under one chamber edition"
+  pub owners : ℕ → List ℕ
   pub assets : ℕ → List ℤ
   pub pumps-open : (e : ℕ) → sheetNo (pumps e) ≡ 0
   pub chambers-open : (e : ℕ) → sheetNo (chambers e) ≡ 0
@@ -63,6 +66,11 @@ module _ (w : Editions) where
   abbrev pub Sheets : Terms → List ℤ → List ℤ → Type 0
   Sheets a P Q = OfKind (a .own) P Q
 
+  -- the owner bytes that a request hands in, of these terms and this sheet of chambers: those of its edition for a contractor's list, none for an undivided one
+  pub record HandsIn (a : Terms) (Q : List ℤ) (o : List ℕ) : Type 0 where
+    pub divided : a .contractor < 2 → o ≡ w .owners (num (edition Q))
+    pub undivided : a .contractor ≡ 2 → o ≡ []
+
   -- the points in the two places of a book: of a self join those of its edition in both, else those of its two editions
   abbrev pub pumpsOf : Source → List Point
   pumpsOf s = cond (s .terms .own) (pointsOf (w .assets (s .«q_edition»))) (pointsOf (w .pumps (s .«p_edition»)))
@@ -70,9 +78,9 @@ module _ (w : Editions) where
   abbrev pub chambersOf : Source → List Point
   chambersOf s = cond (s .terms .own) (pointsOf (w .assets (s .«q_edition»))) (pointsOf (w .chambers (s .«q_edition»)))
 
-  -- the list of a book: that of its terms, of these points [T6, D4, D5]
+  -- the list of a book: that of its terms, of these points, by the owner bytes of its chamber edition (which do not matter for an undivided one) [T6, D4, D5]
   abbrev pub bookList : Book → List Pair
-  bookList b = listFor (b .source .terms) (pumpsOf (b .source)) (chambersOf (b .source))
+  bookList b = listFor (b .source .terms) (w .owners (b .source .«q_edition»)) (pumpsOf (b .source)) (chambersOf (b .source))
 
   -- a page "not altered or invented": one that the page request of some terms answered, at some time, for sheets of this world, some key and some size [D9]
   pub record Answered (g : Page) : Type 0 where
@@ -80,12 +88,14 @@ module _ (w : Editions) where
     pub P : List ℤ
     pub Q : List ℤ
     pub sheets : Sheets terms P Q
+    pub o : List ℕ
+    pub handed : HandsIn terms Q o
     pub key : Key
     pub size : ℕ
     pub bits : List ℕ
     pub r : Paged
     pub bits′ : List ℕ
-    pub answers : TermsAnswers terms P Q key size bits r bits′
+    pub answers : TermsAnswers terms o P Q key size bits r bits′
     pub given : r .number ≡ 0
     pub is : g ≡ r .page
 
@@ -103,13 +113,17 @@ module _ (w : Editions) where
     pub Q : List ℤ
     pub sheets : Sheets (of .terms) P Q
     pub of-book : sourceOf P Q (of .terms) ≡ of
+    pub o : List ℕ
+    pub handed : HandsIn (of .terms) Q o
+    -- of a contractor's list the bytes are one 0 or 1 a chamber: else the request is refused, by 26
+    pub whose : ownersNo (of .terms .contractor) o (points Q) ≡ 0
     -- of the street grid the sheets are of form 1: else the request is refused, by 29
     pub forms : gridNo (of .terms .grid) P Q ≡ 0
     -- as many words are lent as the points need: else the request is refused, by 24
     pub bits : List ℕ
     pub enough : need P ≤ length bits
     pub bits′ : List ℕ
-    pub answers : TermsAnswers (of .terms) P Q key size bits r bits′
+    pub answers : TermsAnswers (of .terms) o P Q key size bits r bits′
 
   -- a page "that answers its own next request": the book is asked for its next key, and a page of its list is asked for after it, of any size from 1 to 16 [D6]
   pub record OwnPage (b : Book) (slots : List Pair) (g : Page) : Type 0 where

@@ -7,20 +7,12 @@ use mathlib.Core.List.{List, [], _∷_, List·Memᴰ, List·Memᴰ·head, List·
 use lib.Dec.{eqb}
 use borrow.Author.Tests.{eqb-true, eq-eqb}
 use Rattle.integers.proofs.Bools.{decide, and-left, and-right, clash, test-iff}
+use Rattle.list.specs.Pages.{alike}
+use Rattle.list.proofs.SourceLaws.{alike-is, is-alike}
 use Rattle.depot.specs.declared.Form.{Form}
-use Rattle.depot.specs.Depot.{alike, sameForm, keyIn}
+use Rattle.depot.specs.Depot.{sameForm, keyIn}
 
 -- ---- one key
-
-pub alike-same : (x y : Bool) → alike x y ≡ true → x ≡ y
-alike-same true true e = refl
-alike-same true false e = clash e refl
-alike-same false true e = clash e refl
-alike-same false false e = refl
-
-pub alike-self : (x : Bool) → alike x x ≡ true
-alike-self true = refl
-alike-self false = refl
 
 -- the parts of the key are the same
 pub record OneKey (f g : Form) : Type 0 where
@@ -50,9 +42,9 @@ key-of-same f g e =
     record {
       p-edition-is = eqb-true _ _ (and-left a1 a2 e2);
       q-edition-is = eqb-true _ _ (and-right a1 a2 e2);
-      own-is = alike-same _ _ (and-right (a1 && a2) a3 e3);
+      own-is = alike-is _ _ (and-right (a1 && a2) a3 e3);
       contractor-is = eqb-true _ _ (and-right (a1 && a2 && a3) a4 e4);
-      grid-is = alike-same _ _ (and-right (a1 && a2 && a3 && a4) a5 e5);
+      grid-is = alike-is _ _ (and-right (a1 && a2 && a3 && a4) a5 e5);
       q-is = eqb-true _ _ (and-right (a1 && a2 && a3 && a4 && a5) a6 e6);
       p-is = eqb-true _ _ (and-right (a1 && a2 && a3 && a4 && a5 && a6) a7 e);
     }
@@ -60,7 +52,7 @@ key-of-same f g e =
 pub same-of-key : (f g : Form) → OneKey f g → sameForm f g ≡ true
 unfolding sameForm
 same-of-key f g k =
-    rw (k .p-edition-is, k .q-edition-is, k .own-is, k .contractor-is, k .grid-is, k .q-is, k .p-is, eq-eqb (g .«p_edition») _ refl, eq-eqb (g .«q_edition») _ refl, alike-self (g .own), eq-eqb (g .contractor) _ refl, alike-self (g .grid), eq-eqb (g .q) _ refl, eq-eqb (g .p) _ refl)
+    rw (k .p-edition-is, k .q-edition-is, k .own-is, k .contractor-is, k .grid-is, k .q-is, k .p-is, eq-eqb (g .«p_edition») _ refl, eq-eqb (g .«q_edition») _ refl, is-alike (g .own) _ refl, eq-eqb (g .contractor) _ refl, is-alike (g .grid) _ refl, eq-eqb (g .q) _ refl, eq-eqb (g .p) _ refl)
 
 -- whichever way it is asked, and through a third form
 key-turned : (f g : Form) → OneKey f g → OneKey g f

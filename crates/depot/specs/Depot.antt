@@ -7,6 +7,7 @@ use lib.ListN.{length, take, drop, set}
 use Rattle.words.specs.Range.{idOk, editionOk}
 use Rattle.words.specs.First.{given, first, answer}
 use Rattle.list.specs.Lent.{lentOf}
+use Rattle.list.specs.Pages.{alike}
 use Rattle.depot.specs.declared.Form.{Form}
 use Rattle.depot.specs.declared.Depot.{Depot}
 use Rattle.depot.specs.declared.Outcome.{Outcome}
@@ -22,10 +23,6 @@ unfoldable pub begunDepot : Depot
 begunDepot = record { held = 0 }
 
 -- ---- the key
-
--- both self joins or neither; both of the street grid or neither
-abbrev pub alike : Bool → Bool → Bool
-alike x y = (x && y) || (not x && not y)
 
 -- "its key being both editions, kind, contractor, profile and the two ids": two forms have one key. The size is no part of it. [I3, I4, I9]
 unfoldable pub sameForm : Form → Form → Bool

@@ -1,5 +1,4 @@
 -- Order forms, and how they are made from a book: "From a book it makes one order form per held pair in a lent slice".
-use mathlib.Core.Bool.{Bool}
 use mathlib.Core.List.{List, [], _∷_, _++_, map}
 use Prim.Native.Nat.{ℕ}
 use lib.Dec.{ltb}
@@ -15,14 +14,6 @@ use Rattle.depot.specs.declared.MadeArray.{MadeArray}
 
 -- ---- a form
 
--- whose list it is: one of two contractors', or 2 for an undivided one
-unfoldable pub contractorOf : Source → ℕ
-contractorOf s = 2
-
--- its profile: whether distances are those of a street grid
-unfoldable pub gridOf : Source → Bool
-gridOf s = s .terms .grid
-
 -- The form of a pair of a list: the key is "both editions, kind, contractor, profile and the two ids"; the size of the circle stands beside it. The t of the list is no part of
 -- a form: a pair of the full list and the same pair of the list of t = 3 are one order. [I1, I3, I4]
 unfoldable pub formOf : Source → Pair → Form
@@ -31,8 +22,8 @@ formOf s v =
       «p_edition» = s .«p_edition»;
       «q_edition» = s .«q_edition»;
       own = s .terms .own;
-      contractor = contractorOf s;
-      grid = gridOf s;
+      contractor = s .terms .contractor;
+      grid = s .terms .grid;
       q = v .q;
       p = v .p;
       size = v .size;

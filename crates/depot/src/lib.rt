@@ -5,7 +5,7 @@ use list::Source;
 ghost use mathlib.Core.Path.{_≡_};
 ghost use mathlib.Core.Bool.{_||_};
 ghost use Rattle.list.specs.Lent.{lentOf};
-ghost use Rattle.depot.specs.Forms.{contractorOf, gridOf, formOf, madeFor, formsAnswer, formsOut, withForms, madeArray};
+ghost use Rattle.depot.specs.Forms.{formOf, madeFor, formsAnswer, formsOut, withForms, madeArray};
 ghost use Rattle.depot.specs.Depot.{begunDepot, formOk, sameForm, decides, judged, stored, storedSlots, withSlots, storedArray};
 ghost use Rattle.depot.specs.Looks.{lookedAt};
 
@@ -29,32 +29,16 @@ pub struct Made {
     pub count: usize,
 }
 
-// Whose list it is: one of two contractors', or 2 for an undivided one.
-fn contractor_of(s: Source) -> u32
-    ensures { λ r. ⌜ r ≡ contractorOf s ⌝ }
-{
-    2
-}
-
-// Its profile: whether distances are those of a street grid.
-fn grid_of(s: Source) -> bool
-    ensures { λ r. ⌜ r ≡ gridOf s ⌝ }
-{
-    s.terms.grid
-}
-
 // The form of a pair of a list.
 fn form_of(source: Source, v: Pair) -> Form
     ensures { λ r. ⌜ r ≡ formOf source v ⌝ }
 {
-    let contractor = contractor_of(source);
-    let grid = grid_of(source);
     Form {
         p_edition: source.p_edition,
         q_edition: source.q_edition,
         own: source.terms.own,
-        contractor: contractor,
-        grid: grid,
+        contractor: source.terms.contractor,
+        grid: source.terms.grid,
         q: v.q,
         p: v.p,
         size: v.size,

@@ -12,7 +12,7 @@ use Rattle.words.specs.Word.{num}
 use Rattle.words.specs.First.{answer}
 use Rattle.sheet.specs.Layout.{points, nodes, edition, form}
 use Rattle.sheet.specs.Open.{sheetNo}
-use Rattle.list.specs.Terms.{full}
+use Rattle.ring.specs.Page.{noTerms}
 use Rattle.list.specs.Pairs.{start}
 use Rattle.walk.specs.declared.Hit.{Hit}
 use Rattle.walk.specs.declared.Hit.the-variants.{Clear, Point, Side}
@@ -69,7 +69,7 @@ walkOver (walked.Refused k) = record { number = k; kind = 0; set = 0; side = 0; 
 abbrev pub bookOver : Begun → BookAnswer
 bookOver (begun.Open b) = record { number = 0; book = b }
 bookOver (begun.Refused k) =
-    record { number = k; book = record { held = 0; closed = false; source = record { «p_edition» = 0; «q_edition» = 0; terms = full } } }
+    record { number = k; book = record { held = 0; closed = false; source = record { «p_edition» = 0; «q_edition» = 0; terms = noTerms } } }
 
 -- the next key: 0 and the key, or the number and (0, 0); with either the book, as it went in
 abbrev pub nextOver : Next → Book → KeyAnswer

@@ -179,6 +179,7 @@ fn of_begun(v: book::Begun) -> BookAnswer
                     q_edition: 0,
                     terms: Terms {
                         threshold: 0,
+                        contractor: 0,
                         own: false,
                         grid: false,
                     },
@@ -327,12 +328,19 @@ pub extern "C" fn ring_pair_walk(p: &[i32], q: &[i32], j: usize, i: usize, grid:
     of_walked(ring::ringwalk::ring_walk(p, q, j, i, grid))
 }
 
-// The page of the first `size` ring pairs after a key, of chambers with at least so many as the threshold says, of a profile: 0, or 1 to 8 of P, of Q, 29, 9, 10, 21, 24.
+// The page of the first `size` ring pairs after a key, of chambers with at least so many as the threshold says, of a profile, and of a contractor, whose chambers the owner bytes say, or with none of
+// all: 0, or 1 to 8 of P, of Q, 27, 26, 29, 9, 10, 21, 24.
 #[no_mangle]
-pub extern "C" fn ring_page(p: &[i32], q: &[i32], request: Request, bits: &mut [u64]) -> Paged
-    ensures { λ r. ⌜ (r ≡ pageAnswer (now (p .entry)) (now (q .entry)) request (length (now (bits .entry)))) × (now (bits .exit) ≡ pageBits (now (p .entry)) (now (q .entry)) request (now (bits .entry))) ⌝ }
+pub extern "C" fn ring_page(
+    p: &[i32],
+    q: &[i32],
+    owners: &[u8],
+    request: Request,
+    bits: &mut [u64],
+) -> Paged
+    ensures { λ r. ⌜ (r ≡ pageAnswer (now (p .entry)) (now (q .entry)) (now (owners .entry)) request (length (now (bits .entry)))) × (now (bits .exit) ≡ pageBits (now (p .entry)) (now (q .entry)) (now (owners .entry)) request (now (bits .entry))) ⌝ }
 {
-    ring::page::page(p, q, request, bits)
+    ring::page::page(p, q, owners, request, bits)
 }
 
 // The k ring pairs with the smallest squared size, in order: 0, or 1 to 8 of P, of Q, 10, 24.
@@ -399,7 +407,7 @@ pub extern "C" fn ring_near_filter(
     nearest::near_filter(p, q, id, waiting, bits)
 }
 
-// A book of two editions, a threshold and a kind with nothing held: 0, or 3, 21.
+// A book of two editions, a threshold, a contractor and a kind with nothing held: 0, or 3, 21, 27.
 #[no_mangle]
 pub extern "C" fn ring_book_begin(source: Source) -> BookAnswer
     ensures { λ r. ⌜ r ≡ bookOver (begunFor source) ⌝ }
@@ -423,7 +431,7 @@ pub extern "C" fn ring_book_next_key(b: Book, slots: &[Pair]) -> KeyAnswer
     of_asked(b.next_key(slots))
 }
 
-// A page's pairs are appended in the lent slots and the book goes on: 0, or 11, 12, 22, 13, 31, 14 to 16 with the slots and the book as they were.
+// A page's pairs are appended in the lent slots and the book goes on: 0, or 11, 12, 22, 28, 30, 13, 31, 14 to 16 with the slots and the book as they were.
 #[no_mangle]
 pub extern "C" fn ring_book_take(b: Book, slots: &mut [Pair], page: Page) -> Taken
     ensures { λ r. ⌜ (r ≡ taken b (now (slots .entry)) page) × (now (slots .exit) ≡ takenSlots b (now (slots .entry)) page) ⌝ }

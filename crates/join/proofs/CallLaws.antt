@@ -88,7 +88,7 @@ unfolding withTried
 with-no size v t u d e n = rw (← e, n)
 
 -- a pair of words that hold what is to be shown: it is, where it is after the key
-spent-none : (d : Draft) → d ≡ spent 0 d
+pub spent-none : (d : Draft) → d ≡ spent 0 d
 spent-none d = let e : d .opened ≡ d .opened + 0 = omega arith in λ s. record { pairs = d .pairs; count = d .count; more = d .more; opened = e s }
 
 module _ (φ : Profile) (ws : List ℕ) (P Q : List ℤ) (key : Key) (size j i : ℕ) (t : Bool) (et : t ≡ follows key (keyOf (pairAt (pointsOf P) (pointsOf Q) j i))) (d r : Draft) where

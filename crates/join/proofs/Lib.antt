@@ -5,6 +5,7 @@
 --     CallLaws     what the functions find, from what their calls answered
 --     ThresholdLaws the walks of a page of t, and a chamber of it
 --     CountLaws     a chamber's ring partners: those that stay kept, and how many they are
+--     OnlyLaws      the walks of a contractor's page
 --     Meaning      the theorems: `page-pairs`, `page-opened`, `list-by-points`
 --     KindLaws     the walks of the terms, whichever the kind
 pub mod MakerLaws
@@ -13,5 +14,6 @@ pub mod TurnLaws
 pub mod CallLaws
 pub mod ThresholdLaws
 pub mod CountLaws
+pub mod OnlyLaws
 pub mod Meaning
 pub mod KindLaws

@@ -2,8 +2,8 @@
 --
 --     points-rise       the ids of a sheet's points ascend, from 1 to 2,000,000,000: what the laws of the list ask for
 --     points-sound      and they stand where a sheet's points may: what demand 3 asks for
---     join-page-pairs        the pairs, their number and the end mark are those of the page of the terms' list, `listFor a (pointsOf P) (pointsOf Q)`
---     join-page-opened       the count is that of the walks, `pageOpened` of `walksFor` of `walksBy`
+--     join-page-pairs        the pairs, their number and the end mark are those of the page of the terms' list, `listFor a o (pointsOf P) (pointsOf Q)`, o having the owner bytes
+--     join-page-opened       the count is that of the walks, `pageOpened` of `pageWalks`: of the contractor's own chambers alone
 --     sheet-pages       following the pages from (0, 0), whatever their sizes, gives the list
 --     join-list-by-points    sheets with the same points give the same list, and the same pairs, number and end mark of every page
 -- Assumes nothing.
@@ -30,6 +30,7 @@ use Rattle.list.specs.Pages.{pageOf, followed}
 use Rattle.list.specs.Rows.{atLeast, listBy, Rising}
 use Rattle.list.specs.RingList.{pairBy, Sound}
 use Rattle.list.specs.declared.Terms.{Terms}
+use Rattle.list.specs.Contractor.{mine}
 use Rattle.list.specs.Terms.{ofKind, profileFor, pairFor, listedFor, listFor}
 use Rattle.list.proofs.RowLaws.{named}
 use Rattle.list.proofs.TermsLaws.{kind-of, for-pages}
@@ -37,9 +38,11 @@ use Rattle.join.specs.Work.{pageOpened}
 use Rattle.join.specs.Maker.{pageMade, pageFrom}
 use Rattle.join.specs.Sheets.{walksBy, Alone}
 use Rattle.join.specs.Threshold.{walksFor}
+use Rattle.join.specs.Only.{onlyFor, pageWalks}
 use Rattle.join.proofs.MakerLaws.{Exact, maker-page}
 use Rattle.join.proofs.WorkLaws.{maker-opened}
 use Rattle.join.proofs.ThresholdLaws.{exact-for, for-named, for-rising, for-pair}
+use Rattle.join.proofs.OnlyLaws.{exact-only, only-named, only-rising, only-pair}
 use Rattle.sheet.proofs.SheetLaws.{sheet-facts, by-counts}
 use Rattle.sheet.proofs.RangeLaws.{spot-in}
 
@@ -64,50 +67,57 @@ by-kind F a P Q al two one = go (a .own) refl
     go true e = subst (F a) (al .one e) (subst (λ (x : Terms). F x P) (kind-of a true e) (one a))
     go false e = subst (λ (x : Terms). F x Q) (kind-of a false e) (two a)
 
-module _ {P Q : List ℤ} {np mp nq mq : ℕ} (o : Opens P np mp) (o′ : Opens Q nq mq) where
+module _ {P Q : List ℤ} {np mp nq mq : ℕ} (p-opens : Opens P np mp) (q-opens : Opens Q nq mq) where
   module _ (a : Terms) (al : Alone a P Q) (words : ℕ) (enough : np ≤ 64 * words) where
     -- the walks find what the rule makes
     exact : Exact (walksBy a words P Q) (pairFor a (pointsOf P) (pointsOf Q)) np nq
     unfolding pairFor
     exact j i hj hi =
         by-kind (λ t R. j < points R → pairFor t (pointsOf P) (pointsOf R) j i ≡ (walksBy t words P R .kept j i && walksBy t words P R .clear j i)) a P Q al
-        (λ t h. walk-pair-exact (profileFor t) (profile-lawful (t .grid)) P Q (by-counts o) (by-counts o′) j i h (omega (arith, o .n-is)) words (omega (arith, o .n-is)))
-        (λ t h. self-walked words P (by-counts o) (omega (arith, o .n-is)) j (t .grid) i h (omega (arith, o .n-is)))
-        (omega (arith, o′ .n-is))
+        (λ t h. walk-pair-exact (profileFor t) (profile-lawful (t .grid)) P Q (by-counts p-opens) (by-counts q-opens) j i h (omega (arith, p-opens .n-is)) words (omega (arith, p-opens .n-is)))
+        (λ t h. self-walked words P (by-counts p-opens) (omega (arith, p-opens .n-is)) j (t .grid) i h (omega (arith, p-opens .n-is)))
+        (omega (arith, q-opens .n-is))
 
-    list-is : listBy (atLeast (pairFor a (pointsOf P) (pointsOf Q)) (pairBy (profileFor a) (pointsOf P) (pointsOf Q)) (a .threshold) np) (pairBy (profileFor a) (pointsOf P) (pointsOf Q)) np nq ≡ listFor a (pointsOf P) (pointsOf Q)
-    unfolding listFor listedFor
-    list-is =
-        let pair = pairBy (profileFor a) (pointsOf P) (pointsOf Q) in
-        let l : ℕ → ℕ → List Pair = λ n m. listBy (atLeast (pairFor a (pointsOf P) (pointsOf Q)) pair (a .threshold) n) pair n m in
-        ap (λ (k : ℕ). l k nq) (sym (length-points P ∙ o .n-is)) ∙ ap (λ (k : ℕ). l (length (pointsOf P)) k) (sym (length-points Q ∙ o′ .n-is))
+    module _ (o : List ℕ) where
+      -- the rule of the list, with so many positions of P
+      abbrev rule : ℕ → ℕ → ℕ → Bool
+      rule n j i = mine (a .contractor) o j && atLeast (pairFor a (pointsOf P) (pointsOf Q)) (pairBy (profileFor a) (pointsOf P) (pointsOf Q)) (a .threshold) n j i
 
-    pub join-page-pairs : (s : Source) (key : Key) (size : ℕ) → size ≤ 16
-        → pageFrom s key (pageMade (walksFor (walksBy a words P Q) np (a .threshold)) key size np nq) ≡ pageOf s (listFor a (pointsOf P) (pointsOf Q)) key size
-    join-page-pairs s key size h =
-        let w = walksFor (walksBy a words P Q) np (a .threshold) in
-        let rule = atLeast (pairFor a (pointsOf P) (pointsOf Q)) (pairBy (profileFor a) (pointsOf P) (pointsOf Q)) (a .threshold) np in
-        maker-page w key size rule np nq (exact-for (walksBy a words P Q) (pairFor a (pointsOf P) (pointsOf Q)) np nq exact (a .threshold)) (idAt (pointsOf P)) (for-named (walksBy a words P Q) np (a .threshold) (idAt (pointsOf P)) (named (profileFor a) (pointsOf P) (pointsOf Q))) s
-        (for-rising (walksBy a words P Q) np (a .threshold) nq (ids-rise o′)) (ids-rise o) h
-        ∙ ap (λ (pair : ℕ → ℕ → Pair). pageOf s (listBy rule pair np nq) key size) (for-pair (walksBy a words P Q) np (a .threshold))
-        ∙ ap (λ (l : List Pair). pageOf s l key size) list-is
+      list-is : listBy (rule np) (pairBy (profileFor a) (pointsOf P) (pointsOf Q)) np nq ≡ listFor a o (pointsOf P) (pointsOf Q)
+      unfolding listFor listedFor
+      list-is =
+          let l : ℕ → ℕ → List Pair = λ n m. listBy (rule n) (pairBy (profileFor a) (pointsOf P) (pointsOf Q)) n m in
+          ap (λ (k : ℕ). l k nq) (sym (length-points P ∙ p-opens .n-is)) ∙ ap (λ (k : ℕ). l (length (pointsOf P)) k) (sym (length-points Q ∙ q-opens .n-is))
 
-    pub join-page-opened : (key : Key) (size : ℕ) → pageMade (walksFor (walksBy a words P Q) np (a .threshold)) key size np nq .opened ≡ pageOpened (walksFor (walksBy a words P Q) np (a .threshold)) key size np nq
-    join-page-opened key size = maker-opened (walksFor (walksBy a words P Q) np (a .threshold)) key size np nq
+      pub join-page-pairs : (s : Source) (key : Key) (size : ℕ) → size ≤ 16 → pageFrom s key (pageMade (pageWalks a o words P Q np) key size np nq) ≡ pageOf s (listFor a o (pointsOf P) (pointsOf Q)) key size
+      join-page-pairs s key size h =
+          let all = walksBy a words P Q in
+          let t = a .threshold in
+          let w = walksFor all np t in
+          let m = mine (a .contractor) o in
+          let free = atLeast (pairFor a (pointsOf P) (pointsOf Q)) (pairBy (profileFor a) (pointsOf P) (pointsOf Q)) t np in
+          maker-page (onlyFor m w) key size (rule np) np nq (exact-only m w free np nq (exact-for all (pairFor a (pointsOf P) (pointsOf Q)) np nq exact t)) (idAt (pointsOf P))
+          (only-named m w (idAt (pointsOf P)) (for-named all np t (idAt (pointsOf P)) (named (profileFor a) (pointsOf P) (pointsOf Q)))) s
+          (only-rising m w nq (for-rising all np t nq (ids-rise q-opens))) (ids-rise p-opens) h
+          ∙ ap (λ (pair : ℕ → ℕ → Pair). pageOf s (listBy (rule np) pair np nq) key size) (only-pair m w ∙ for-pair all np t)
+          ∙ ap (λ (l : List Pair). pageOf s l key size) list-is
 
-  pub sheet-pages : (a : Terms) (sizes : ℕ → ℕ) (s : Source) → ((k : ℕ) → 0 < sizes k)
-      → followed (length (listFor a (pointsOf P) (pointsOf Q))) sizes (pageOf s (listFor a (pointsOf P) (pointsOf Q))) start ≡ listFor a (pointsOf P) (pointsOf Q)
-  sheet-pages a sizes s some = for-pages a (pointsOf P) (pointsOf Q) (points-rise o) (points-rise o′) sizes s some
+      pub join-page-opened : (key : Key) (size : ℕ) → pageMade (pageWalks a o words P Q np) key size np nq .opened ≡ pageOpened (pageWalks a o words P Q np) key size np nq
+      join-page-opened key size = maker-opened (pageWalks a o words P Q np) key size np nq
 
-module _ (P P′ Q Q′ : List ℤ) (ep : pointsOf P ≡ pointsOf P′) (eq : pointsOf Q ≡ pointsOf Q′) (a : Terms) where
-  pub join-same-list : listFor a (pointsOf P) (pointsOf Q) ≡ listFor a (pointsOf P′) (pointsOf Q′)
-  join-same-list = ap (λ (x : List Point). listFor a x (pointsOf Q)) ep ∙ ap (listFor a (pointsOf P′)) eq
+  pub sheet-pages : (a : Terms) (o : List ℕ) (sizes : ℕ → ℕ) (s : Source) → ((k : ℕ) → 0 < sizes k)
+      → followed (length (listFor a o (pointsOf P) (pointsOf Q))) sizes (pageOf s (listFor a o (pointsOf P) (pointsOf Q))) start ≡ listFor a o (pointsOf P) (pointsOf Q)
+  sheet-pages a o sizes s some = for-pages a o (pointsOf P) (pointsOf Q) (points-rise p-opens) (points-rise q-opens) sizes s some
+
+module _ (P P′ Q Q′ : List ℤ) (ep : pointsOf P ≡ pointsOf P′) (eq : pointsOf Q ≡ pointsOf Q′) (a : Terms) (o : List ℕ) where
+  pub join-same-list : listFor a o (pointsOf P) (pointsOf Q) ≡ listFor a o (pointsOf P′) (pointsOf Q′)
+  join-same-list = ap (λ (x : List Point). listFor a o x (pointsOf Q)) ep ∙ ap (listFor a o (pointsOf P′)) eq
 
   -- whatever the editions and the trees
   pub join-list-by-points : (s s′ : Source) (key : Key) (size : ℕ)
-      → (pageOf s (listFor a (pointsOf P) (pointsOf Q)) key size .pairs ≡ pageOf s′ (listFor a (pointsOf P′) (pointsOf Q′)) key size .pairs)
-      × (pageOf s (listFor a (pointsOf P) (pointsOf Q)) key size .count ≡ pageOf s′ (listFor a (pointsOf P′) (pointsOf Q′)) key size .count)
-      × (pageOf s (listFor a (pointsOf P) (pointsOf Q)) key size .end ≡ pageOf s′ (listFor a (pointsOf P′) (pointsOf Q′)) key size .end)
+      → (pageOf s (listFor a o (pointsOf P) (pointsOf Q)) key size .pairs ≡ pageOf s′ (listFor a o (pointsOf P′) (pointsOf Q′)) key size .pairs)
+      × (pageOf s (listFor a o (pointsOf P) (pointsOf Q)) key size .count ≡ pageOf s′ (listFor a o (pointsOf P′) (pointsOf Q′)) key size .count)
+      × (pageOf s (listFor a o (pointsOf P) (pointsOf Q)) key size .end ≡ pageOf s′ (listFor a o (pointsOf P′) (pointsOf Q′)) key size .end)
   unfolding pageOf
   join-list-by-points s s′ key size =
       (ap (λ (l : List Pair). pageOf s l key size .pairs) join-same-list, ap (λ (l : List Pair). pageOf s l key size .count) join-same-list, ap (λ (l : List Pair). pageOf s l key size .end) join-same-list)

@@ -126,7 +126,7 @@ for-some w n (suc t) ne = refl
 
 module _ (key : Key) (size : ℕ) where
   -- nothing kept, nothing done
-  partners-none : (w : Walks) (j k i : ℕ) (d : Draft) → ((x : ℕ) → w .kept j x ≡ false) → partners w key size j k i d ≡ d
+  pub partners-none : (w : Walks) (j k i : ℕ) (d : Draft) → ((x : ℕ) → w .kept j x ≡ false) → partners w key size j k i d ≡ d
   unfolding partners partner
   partners-none w j zero i d none = refl
   partners-none w j (suc k) i d none =
@@ -138,7 +138,7 @@ module _ (key : Key) (size : ℕ) where
       ∙ partners-none w j k (i + 1) d none)
       (decide (d .more))
 
-  partners-same : (w v : Walks) (j : ℕ) → ((i : ℕ) (d : Draft) → partner w key size j i d ≡ partner v key size j i d) → (k i : ℕ) (d : Draft) → partners w key size j k i d ≡ partners v key size j k i d
+  pub partners-same : (w v : Walks) (j : ℕ) → ((i : ℕ) (d : Draft) → partner w key size j i d ≡ partner v key size j i d) → (k i : ℕ) (d : Draft) → partners w key size j k i d ≡ partners v key size j k i d
   unfolding partners
   partners-same w v j e zero i d = refl
   partners-same w v j e (suc k) i d =

@@ -23,6 +23,7 @@ ghost use Rattle.join.specs.Maker.{found, tried, partners, chamber, page
 ghost use Rattle.join.specs.Sheets.{walksOf, startFor, Alone, walksBy};
 ghost use Rattle.list.specs.Terms.{profileFor};
 ghost use Rattle.join.specs.Threshold.{foundFor, ringOpened, walksFor, smaller, onWords};
+ghost use Rattle.join.specs.Only.{pageWalks};
 
 // What is asked for: the pairs after a key, how many, and of which list.
 pub struct Ask {
@@ -308,10 +309,18 @@ fn first_from(q: &[i32], hq: Size, key: Key) -> usize
     j
 }
 
-// The page maker's work, the kept sets on the words lent.
-pub fn made_on(p: &[i32], hp: Size, q: &[i32], hq: Size, ask: Ask, bits: &mut [u64]) -> Draft
+// The page maker's work, the kept sets on the words lent. Only chambers of the contractor, by the owner bytes, are filtered and counted.
+pub fn made_on(
+    p: &[i32],
+    hp: Size,
+    q: &[i32],
+    hq: Size,
+    owners: &[u8],
+    ask: Ask,
+    bits: &mut [u64],
+) -> Draft
     requires { ⌜ Opens (now p) (hp .n) (hp .m) × Opens (now q) (hq .n) (hq .m) × (ask .size ≤ 16) × Holds (now bits) (hp .n) × Alone (ask .terms) (now p) (now q) ⌝ }
-    ensures { λ r. ⌜ r ≡ pageMade (walksFor (walksBy (ask .terms) (length (now (bits .entry))) (now (p .entry)) (now (q .entry))) (hp .n) (ask .terms .threshold)) (ask .key) (ask .size) (hp .n) (hq .n) ⌝ }
+    ensures { λ r. ⌜ r ≡ pageMade (pageWalks (ask .terms) (now (owners .entry)) (length (now (bits .entry))) (now (p .entry)) (now (q .entry)) (hp .n)) (ask .key) (ask .size) (hp .n) (hq .n) ⌝ }
 {
     let mut r = Draft {
         pairs: [Pair {
@@ -325,12 +334,15 @@ pub fn made_on(p: &[i32], hp: Size, q: &[i32], hq: Size, ask: Ask, bits: &mut [u
     };
     let n = hq.n;
     let key = ask.key;
+    let c = ask.terms.contractor;
     let mut j = first_from(q, hq, key);
     while j < n {
         if r.more {
             return r;
         }
-        r = with_chamber(p, hp, q, hq, ask, j, bits, r);
+        if list::is_mine(owners, c, j) {
+            r = with_chamber(p, hp, q, hq, ask, j, bits, r);
+        }
         j += 1;
     }
     r

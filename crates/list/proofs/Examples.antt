@@ -17,7 +17,7 @@ use Rattle.list.specs.Pairs.{start, none, follows, after, lastOr, isNone
 use Rattle.list.specs.Pages.{padded, shown, pageOf}
 use Rattle.list.specs.Rows.{row, rows, atLeast, listBy}
 use Rattle.list.specs.RingList.{unblocked, ringPairBy, ringPair, ringListBy, ringList}
-use Rattle.list.specs.Terms.{full, withT, pairFor, listedFor, listFor}
+use Rattle.list.specs.Terms.{full, withT, ofContractor, pairFor, listedFor, listFor}
 
 abbrev at : ℕ → ℕ → ℕ → Point
 at i x y = record { id = i; spot = spot (pos x) (pos y) }
@@ -55,14 +55,17 @@ pub record Listed : Type 0 where
   -- "a full last page has it too"
   full : page (key 5 2) 1 ≡ last (key 5 2)
   -- chamber 5 has two partners, chamber 6 has one
-  of-none : listFor (withT 0) pumps chambers ≡ ringList pumps chambers
-  of-one : listFor (withT 1) pumps chambers ≡ ringList pumps chambers
-  of-two : listFor (withT 2) pumps chambers ≡ to 5 1 16 ∷ to 5 2 36 ∷ []
-  of-three : listFor (withT 3) pumps chambers ≡ []
+  of-none : listFor (withT 0) [] pumps chambers ≡ ringList pumps chambers
+  of-one : listFor (withT 1) [] pumps chambers ≡ ringList pumps chambers
+  of-two : listFor (withT 2) [] pumps chambers ≡ to 5 1 16 ∷ to 5 2 36 ∷ []
+  of-three : listFor (withT 3) [] pumps chambers ≡ []
+  -- chamber 5 is the first contractor's, chamber 6 the second's
+  of-first : listFor (ofContractor 0 (withT 0)) (0 ∷ 1 ∷ []) pumps chambers ≡ to 5 1 16 ∷ to 5 2 36 ∷ []
+  of-second : listFor (ofContractor 1 (withT 0)) (0 ∷ 1 ∷ []) pumps chambers ≡ to 6 2 37 ∷ []
 
 pub listed : Listed
 unfolding ringListBy listBy rows row ringPairBy unblocked allB sameSpot blocks pageOf padded shown after follows lastOr isNone atLeast pairFor listedFor listFor
-listed = record { listing = refl; first = refl; second = refl; third = refl; between = refl; full = refl; of-none = refl; of-one = refl; of-two = refl; of-three = refl }
+listed = record { listing = refl; first = refl; second = refl; third = refl; between = refl; full = refl; of-none = refl; of-one = refl; of-two = refl; of-three = refl; of-first = refl; of-second = refl }
 
 -- "01's two examples with records on one spot turn round": a record of either set at the place of an end doesn't count as another point
 pub record Starred : Type 0 where

@@ -5,7 +5,7 @@
 --     for-ids, for-keys, for-size, for-sizes      what a listed pair says is in range, and its size is that of its two places
 --     for-pages                 its pages, followed from (0, 0), give it
 --     kind-of                   terms are those of their own kind
---     full-ring-list            the list of a profile's full terms is the list of its ring pairs
+--     full-ring-list            the list of a profile's full terms, which is undivided, is the list of its ring pairs
 --     threshold-iff             a pair stands in the list of t exactly if it stands in the ring pairs' list, and its chamber has at least t pairs there; threshold-pairs: with all its pairs
 --     partners-listed           `partnersOf` is the number of the chamber's pairs in the ring pairs' list
 --     self-iff, self-exact      two records of one set, the lower id first, are listed exactly if no record of it, no other record of it, blocks the pair; self-low: never the higher id first
@@ -39,43 +39,43 @@ use Rattle.list.proofs.RowLaws.{Placed, made-ascends, made-iff, made-on
 use Rattle.list.proofs.ThresholdLaws as of-least
 
 pub kind-of : (a : Terms) (k : Bool) → a .own ≡ k → ofKind k a ≡ a
-kind-of a k e = λ i. record { threshold = a .threshold; own = sym e i; grid = a .grid }
+kind-of a k e = λ i. record { threshold = a .threshold; contractor = a .contractor; own = sym e i; grid = a .grid }
 
-module _ (a : Terms) (P Q : List Point) (rp : Rising (idAt P) (length P)) (rq : Rising (idAt Q) (length Q)) where
-  pub for-ascends : ascends start (listFor a P Q) ≡ true
+module _ (a : Terms) (o : List ℕ) (P Q : List Point) (rp : Rising (idAt P) (length P)) (rq : Rising (idAt Q) (length Q)) where
+  pub for-ascends : ascends start (listFor a o P Q) ≡ true
   unfolding listFor
-  for-ascends = made-ascends (profileFor a) (listedFor a P Q) P Q rp rq
+  for-ascends = made-ascends (profileFor a) (listedFor a o P Q) P Q rp rq
 
-  pub for-iff : (j i : ℕ) → j < length Q → i < length P → List·Memᴰ (pairBy (profileFor a) P Q j i) (listFor a P Q) ↔ (listedFor a P Q j i ≡ true)
+  pub for-iff : (j i : ℕ) → j < length Q → i < length P → List·Memᴰ (pairBy (profileFor a) P Q j i) (listFor a o P Q) ↔ (listedFor a o P Q j i ≡ true)
   unfolding listFor
-  for-iff = made-iff (profileFor a) (listedFor a P Q) P Q rp rq
+  for-iff = made-iff (profileFor a) (listedFor a o P Q) P Q rp rq
 
-  pub for-only : (v : Pair) → List·Memᴰ v (listFor a P Q) → Placed (listedFor a P Q) (pairBy (profileFor a) P Q) (length P) (length Q) v
+  pub for-only : (v : Pair) → List·Memᴰ v (listFor a o P Q) → Placed (listedFor a o P Q) (pairBy (profileFor a) P Q) (length P) (length Q) v
   unfolding listFor
-  for-only = made-only (profileFor a) (listedFor a P Q) P Q rp rq
+  for-only = made-only (profileFor a) (listedFor a o P Q) P Q rp rq
 
-  pub for-ids : (v : Pair) → List·Memᴰ v (listFor a P Q) → (idOk (v .q) ≡ true) × (idOk (v .p) ≡ true)
+  pub for-ids : (v : Pair) → List·Memᴰ v (listFor a o P Q) → (idOk (v .q) ≡ true) × (idOk (v .p) ≡ true)
   unfolding listFor
-  for-ids = made-ids (profileFor a) (listedFor a P Q) P Q rp rq
+  for-ids = made-ids (profileFor a) (listedFor a o P Q) P Q rp rq
 
-  pub for-keys : (v : Pair) → List·Memᴰ v (listFor a P Q) → (v .q ≤ lastId) × (v .p ≤ lastId)
+  pub for-keys : (v : Pair) → List·Memᴰ v (listFor a o P Q) → (v .q ≤ lastId) × (v .p ≤ lastId)
   unfolding listFor
-  for-keys = made-keys (profileFor a) (listedFor a P Q) P Q rp rq
+  for-keys = made-keys (profileFor a) (listedFor a o P Q) P Q rp rq
 
-  pub for-size : (v : Pair) → List·Memᴰ v (listFor a P Q) → (j i : ℕ) → j < length Q → i < length P → idAt Q j ≡ v .q → idAt P i ≡ v .p → v .size ≡ profileFor a .size (spotAt Q j) (spotAt P i)
+  pub for-size : (v : Pair) → List·Memᴰ v (listFor a o P Q) → (j i : ℕ) → j < length Q → i < length P → idAt Q j ≡ v .q → idAt P i ≡ v .p → v .size ≡ profileFor a .size (spotAt Q j) (spotAt P i)
   unfolding listFor
-  for-size = made-size (profileFor a) (listedFor a P Q) P Q rp rq
+  for-size = made-size (profileFor a) (listedFor a o P Q) P Q rp rq
 
   -- no two pairs of it have the same ids
-  pub for-once : (k h : ℕ) → k < h → h < length (listFor a P Q) → keyOf (getD (listFor a P Q) k none) ≡ keyOf (getD (listFor a P Q) h none) → ⊥
-  for-once k h l g e = once-key start (listFor a P Q) for-ascends k h l g e
+  pub for-once : (k h : ℕ) → k < h → h < length (listFor a o P Q) → keyOf (getD (listFor a o P Q) k none) ≡ keyOf (getD (listFor a o P Q) h none) → ⊥
+  for-once k h l g e = once-key start (listFor a o P Q) for-ascends k h l g e
 
-  pub for-pages : (sizes : ℕ → ℕ) (s : Source) → ((k : ℕ) → 0 < sizes k) → followed (length (listFor a P Q)) sizes (pageOf s (listFor a P Q)) start ≡ listFor a P Q
-  for-pages sizes s some = list-pages-list sizes s (listFor a P Q) some for-ascends
+  pub for-pages : (sizes : ℕ → ℕ) (s : Source) → ((k : ℕ) → 0 < sizes k) → followed (length (listFor a o P Q)) sizes (pageOf s (listFor a o P Q)) start ≡ listFor a o P Q
+  for-pages sizes s some = list-pages-list sizes s (listFor a o P Q) some for-ascends
 
-pub for-sizes : (a : Terms) (P Q : List Point) → Rising (idAt P) (length P) → Rising (idAt Q) (length Q) → Reached (profileFor a) P → Reached (profileFor a) Q → (v : Pair) → List·Memᴰ v (listFor a P Q) → sizeOk (a .grid) (v .size) ≡ true
+pub for-sizes : (a : Terms) (o : List ℕ) (P Q : List Point) → Rising (idAt P) (length P) → Rising (idAt Q) (length Q) → Reached (profileFor a) P → Reached (profileFor a) Q → (v : Pair) → List·Memᴰ v (listFor a o P Q) → sizeOk (a .grid) (v .size) ≡ true
 unfolding listFor
-for-sizes a P Q = made-sizes (a .grid) (listedFor a P Q) P Q
+for-sizes a o P Q = made-sizes (a .grid) (listedFor a o P Q) P Q
 
 -- ---- the list of t
 
@@ -84,53 +84,53 @@ full-rule : (g : Bool) (t : ℕ) (P Q : List Point) → pairFor (withBy g t) P Q
 unfolding pairFor
 full-rule g t P Q = refl
 
-listed-t : (g : Bool) (t : ℕ) (P Q : List Point) → listedFor (withBy g t) P Q ≡ atLeast (ringPairBy (profileOf g) P Q) (pairBy (profileOf g) P Q) t (length P)
+listed-t : (g : Bool) (t : ℕ) (o : List ℕ) (P Q : List Point) → listedFor (withBy g t) o P Q ≡ atLeast (ringPairBy (profileOf g) P Q) (pairBy (profileOf g) P Q) t (length P)
 unfolding listedFor
-listed-t g t P Q = ap (λ (rule : ℕ → ℕ → Bool). atLeast rule (pairBy (profileOf g) P Q) t (length P)) (full-rule g t P Q)
+listed-t g t o P Q = ap (λ (rule : ℕ → ℕ → Bool). atLeast rule (pairBy (profileOf g) P Q) t (length P)) (full-rule g t P Q)
 
 -- the list of t, of the ring rule
-list-t : (g : Bool) (t : ℕ) (P Q : List Point) → listFor (withBy g t) P Q ≡ listBy (atLeast (ringPairBy (profileOf g) P Q) (pairBy (profileOf g) P Q) t (length P)) (pairBy (profileOf g) P Q) (length P) (length Q)
+list-t : (g : Bool) (t : ℕ) (o : List ℕ) (P Q : List Point) → listFor (withBy g t) o P Q ≡ listBy (atLeast (ringPairBy (profileOf g) P Q) (pairBy (profileOf g) P Q) t (length P)) (pairBy (profileOf g) P Q) (length P) (length Q)
 unfolding listFor
-list-t g t P Q = ap (λ (rule : ℕ → ℕ → Bool). listBy rule (pairBy (profileOf g) P Q) (length P) (length Q)) (listed-t g t P Q)
+list-t g t o P Q = ap (λ (rule : ℕ → ℕ → Bool). listBy rule (pairBy (profileOf g) P Q) (length P) (length Q)) (listed-t g t o P Q)
 
-pub full-ring-list : (g : Bool) (P Q : List Point) → listFor (withBy g 0) P Q ≡ ringListBy (profileOf g) P Q
+pub full-ring-list : (g : Bool) (o : List ℕ) (P Q : List Point) → listFor (withBy g 0) o P Q ≡ ringListBy (profileOf g) P Q
 unfolding ringListBy
-full-ring-list g P Q = list-t g 0 P Q ∙ ap (λ (rule : ℕ → ℕ → Bool). listBy rule (pairBy (profileOf g) P Q) (length P) (length Q)) (of-least.least-none (ringPairBy (profileOf g) P Q) (pairBy (profileOf g) P Q) (length P))
+full-ring-list g o P Q = list-t g 0 o P Q ∙ ap (λ (rule : ℕ → ℕ → Bool). listBy rule (pairBy (profileOf g) P Q) (length P) (length Q)) (of-least.least-none (ringPairBy (profileOf g) P Q) (pairBy (profileOf g) P Q) (length P))
 
 module _ (P Q : List Point) (rp : Rising (idAt P) (length P)) (rq : Rising (idAt Q) (length Q)) where
   pub partners-listed : (j : ℕ) → j < length Q → partnersOf P Q j ≡ length (chamberPairs (idAt Q j) (ringList P Q))
   unfolding partnersOf ringListBy
   partners-listed = of-least.row-listed circle (ringPair P Q) P Q rp rq
 
-  pub threshold-pairs : (g : Bool) (t j : ℕ) → j < length Q
-      → chamberPairs (idAt Q j) (listFor (withBy g t) P Q) ≡ cond (leb t (length (chamberPairs (idAt Q j) (ringListBy (profileOf g) P Q)))) (chamberPairs (idAt Q j) (ringListBy (profileOf g) P Q)) []
+  pub threshold-pairs : (g : Bool) (t : ℕ) (o : List ℕ) (j : ℕ) → j < length Q
+      → chamberPairs (idAt Q j) (listFor (withBy g t) o P Q) ≡ cond (leb t (length (chamberPairs (idAt Q j) (ringListBy (profileOf g) P Q)))) (chamberPairs (idAt Q j) (ringListBy (profileOf g) P Q)) []
   unfolding ringListBy
-  threshold-pairs g t j h = ap (chamberPairs (idAt Q j)) (list-t g t P Q) ∙ of-least.least-pairs (profileOf g) (ringPairBy (profileOf g) P Q) P Q rp rq t j h
+  threshold-pairs g t o j h = ap (chamberPairs (idAt Q j)) (list-t g t o P Q) ∙ of-least.least-pairs (profileOf g) (ringPairBy (profileOf g) P Q) P Q rp rq t j h
 
-  pub threshold-iff : (g : Bool) (t : ℕ) (v : Pair) → List·Memᴰ v (listFor (withBy g t) P Q) ↔ (List·Memᴰ v (ringListBy (profileOf g) P Q) × (t ≤ length (chamberPairs (v .q) (ringListBy (profileOf g) P Q))))
+  pub threshold-iff : (g : Bool) (t : ℕ) (o : List ℕ) (v : Pair) → List·Memᴰ v (listFor (withBy g t) o P Q) ↔ (List·Memᴰ v (ringListBy (profileOf g) P Q) × (t ≤ length (chamberPairs (v .q) (ringListBy (profileOf g) P Q))))
   unfolding ringListBy
-  threshold-iff g t v = rw (list-t g t P Q) (of-least.least-iff (profileOf g) (ringPairBy (profileOf g) P Q) P Q rp rq t v)
+  threshold-iff g t o v = rw (list-t g t o P Q) (of-least.least-iff (profileOf g) (ringPairBy (profileOf g) P Q) P Q rp rq t v)
 
 -- ---- the self join
 
-alone-rule : (g : Bool) (S : List Point) (j i : ℕ) → listedFor (aloneBy g) S S j i ≡ (ltb (idAt S j) (idAt S i) && ringPairBy (profileOf g) S S j i)
+alone-rule : (g : Bool) (o : List ℕ) (S : List Point) (j i : ℕ) → listedFor (aloneBy g) o S S j i ≡ (ltb (idAt S j) (idAt S i) && ringPairBy (profileOf g) S S j i)
 unfolding listedFor pairFor
-alone-rule g S j i = ap (λ (rule : ℕ → ℕ → Bool). rule j i) (of-least.least-none (λ (j i : ℕ). ltb (idAt S j) (idAt S i) && ringPairBy (profileOf g) S S j i) (pairBy (profileOf g) S S) (length S))
+alone-rule g o S j i = ap (λ (rule : ℕ → ℕ → Bool). rule j i) (of-least.least-none (λ (j i : ℕ). ltb (idAt S j) (idAt S i) && ringPairBy (profileOf g) S S j i) (pairBy (profileOf g) S S) (length S))
 
-module _ (g : Bool) (S : List Point) (r : Rising (idAt S) (length S)) where
+module _ (g : Bool) (o : List ℕ) (S : List Point) (r : Rising (idAt S) (length S)) where
   -- two records, the lower id first, are listed exactly if no record of the set blocks their pair
-  pub self-iff : (j i : ℕ) → j < length S → i < length S → List·Memᴰ (pairBy (profileOf g) S S j i) (listFor (aloneBy g) S S) ↔ ((idAt S j < idAt S i) × (unblocked (profileOf g) S (spotAt S j) (spotAt S i) ≡ true))
+  pub self-iff : (j i : ℕ) → j < length S → i < length S → List·Memᴰ (pairBy (profileOf g) S S j i) (listFor (aloneBy g) o S S) ↔ ((idAt S j < idAt S i) × (unblocked (profileOf g) S (spotAt S j) (spotAt S i) ≡ true))
   unfolding ringPairBy
   self-iff j i a b =
       let low = ltb (idAt S j) (idAt S i) in
       let free = unblocked (profileOf g) S (spotAt S j) (spotAt S i) in (
-        λ m. let e = sym (alone-rule g S j i) ∙ for-iff (aloneBy g) S S r r j i a b .0 m in (ltb-true (idAt S j) (idAt S i) (and-left low (free && free) e), and-left free free (and-right low (free && free) e)),
-        λ x. for-iff (aloneBy g) S S r r j i a b .1 (alone-rule g S j i ∙ and-both low (free && free) (lt-ltb (idAt S j) (idAt S i) (x .0)) (and-both free free (x .1) (x .1))),
+        λ m. let e = sym (alone-rule g o S j i) ∙ for-iff (aloneBy g) o S S r r j i a b .0 m in (ltb-true (idAt S j) (idAt S i) (and-left low (free && free) e), and-left free free (and-right low (free && free) e)),
+        λ x. for-iff (aloneBy g) o S S r r j i a b .1 (alone-rule g o S j i ∙ and-both low (free && free) (lt-ltb (idAt S j) (idAt S i) (x .0)) (and-both free free (x .1) (x .1))),
       )
 
   -- .. that is, if no other record does: neither end stands in the way of its own pair
   pub self-exact : (j i : ℕ) → j < length S → i < length S → idAt S j < idAt S i
-      → List·Memᴰ (pairBy (profileOf g) S S j i) (listFor (aloneBy g) S S) ↔ ((k : ℕ) → k < length S → (k ≡ j → ⊥) → (k ≡ i → ⊥) → profileOf g .blocks (spotAt S j) (spotAt S i) (spotAt S k) ≡ false)
+      → List·Memᴰ (pairBy (profileOf g) S S j i) (listFor (aloneBy g) o S S) ↔ ((k : ℕ) → k < length S → (k ≡ j → ⊥) → (k ≡ i → ⊥) → profileOf g .blocks (spotAt S j) (spotAt S i) (spotAt S k) ≡ false)
   unfolding unblocked
   self-exact j i a b low =
       let test : ℕ → Bool = λ k. not (profileOf g .blocks (spotAt S j) (spotAt S i) (spotAt S k)) in (
@@ -144,8 +144,8 @@ module _ (g : Bool) (S : List Point) (r : Rising (idAt S) (length S)) where
       other f k h (no x) (no y) = f k h x y
 
   -- a listed pair has the lower id first: a record is never listed with itself, nor two records both ways
-  pub self-low : (v : Pair) → List·Memᴰ v (listFor (aloneBy g) S S) → v .q < v .p
+  pub self-low : (v : Pair) → List·Memᴰ v (listFor (aloneBy g) o S S) → v .q < v .p
   self-low v m =
-      let z = for-only (aloneBy g) S S r r v m in
-      let e = sym (alone-rule g S (z .at-q) (z .at-p)) ∙ z .holds in
+      let z = for-only (aloneBy g) o S S r r v m in
+      let e = sym (alone-rule g o S (z .at-q) (z .at-p)) ∙ z .holds in
       rw (z .is) (ltb-true (idAt S (z .at-q)) (idAt S (z .at-p)) (and-left (ltb (idAt S (z .at-q)) (idAt S (z .at-p))) (ringPairBy (profileOf g) S S (z .at-q) (z .at-p)) e))

@@ -10,6 +10,7 @@ use Rattle.list.specs.declared.Pair.{Pair}
 use Rattle.list.specs.declared.Source.{Source}
 use Rattle.list.specs.declared.Page.{Page}
 use Rattle.list.specs.Pairs.{none, after, lastOr, isNone}
+use Rattle.list.specs.Contractor.{oneEach}
 
 -- 21 "t outside 0 to 1,000"; "Request 5's threshold goes to 60,000": the number for the list of t, 0 where t is in range [Y13]
 abbrev pub lastThreshold : ℕ
@@ -23,6 +24,14 @@ thresholdNo t = given (not (leb t lastThreshold)) 21
 unfoldable pub sizeNo : ℕ → ℕ
 sizeNo size = given (not (leb 1 size && leb size 16)) 10
 
+-- 27 "contractor outside 0 to 2, or not 2 for a self join": "Pages and books carry the contractor, or 2 for an undivided list; self joins stay undivided"
+unfoldable pub contractorNo : Bool → ℕ → ℕ
+contractorNo own c = given (not (leb c 2 && (not own || eqb c 2))) 27
+
+-- 26 "owner bytes not one 0 or 1 a chamber, or any for 2": of a contractor, its bytes, and so many chambers
+unfoldable pub ownersNo : ℕ → List ℕ → ℕ → ℕ
+ownersNo c o n = given (not (cond (eqb c 2) (eqb (length o) 0) (oneEach o n))) 26
+
 -- both or neither
 abbrev pub alike : Bool → Bool → Bool
 alike a b = (a && b) || (not a && not b)
@@ -35,12 +44,14 @@ sameKind a b = alike (a .terms .own) (b .terms .own)
 abbrev pub sameProfile : Source → Source → Bool
 sameProfile a b = alike (a .terms .grid) (b .terms .grid)
 
--- 22 "wrong kind", then 30 "page of the other profile", then 13 "page of other editions", then 31 "page of another t": the number for a page of `b` and a book of `a`, 0 where they are of one list
+-- 22 "wrong kind", then 28 "page of another contractor", then 30 "page of the other profile", then 13 "page of other editions", then 31 "page of another t": the number for a page of `b`
+-- and a book of `a`, 0 where they are of one list
 -- [N28, N32, O7, T11, J11, A14]
 unfoldable pub sourceNo : Source → Source → ℕ
 sourceNo a b =
     first
     (given (not (sameKind a b)) 22
+    ∷ given (not (eqb (a .terms .contractor) (b .terms .contractor))) 28
     ∷ given (not (sameProfile a b)) 30
     ∷ given (not (eqb (a .«p_edition») (b .«p_edition») && eqb (a .«q_edition») (b .«q_edition»))) 13
     ∷ given (not (eqb (a .terms .threshold) (b .terms .threshold))) 31

@@ -1,7 +1,9 @@
 // The list of ring pairs and its pages, with no tree in sight: keys, pairs, what list a page is of, and the page.
 ghost use mathlib.Core.Path.{_≡_};
+ghost use lib.ListN.{getD};
 ghost use Rattle.list.specs.Pairs.{keyOf, follows};
-ghost use Rattle.list.specs.Pages.{thresholdNo, sizeNo, sourceNo};
+ghost use Rattle.list.specs.Pages.{thresholdNo, sizeNo, contractorNo, ownersNo, sourceNo};
+ghost use Rattle.list.specs.Contractor.{mine, oneEach};
 ghost use Rattle.list.specs.Lent.{lentOf};
 
 // A place in the list: a chamber's id, then a pump house's.
@@ -19,11 +21,12 @@ pub struct Pair {
     pub size: u64,
 }
 
-// What is asked of a list beside its points: the number of partners that a chamber must have to be listed, 0 for the full list; the kind: whether it is the self join of
-// one sheet; and the profile: whether it is the street grid's. [T5, A8]
+// What is asked of a list beside its points: the number of partners that a chamber must have to be listed, 0 for the full list; the contractor whose chambers are listed,
+// 0 or 1, 2 for an undivided list; the kind: whether it is the self join of one sheet; and the profile: whether it is the street grid's. [T5, A8]
 #[repr(C)]
 pub struct Terms {
     pub threshold: u32,
+    pub contractor: u32,
     pub own: bool,
     pub grid: bool,
 }
@@ -42,6 +45,7 @@ pub struct Request {
     pub key: Key,
     pub size: usize,
     pub threshold: u32,
+    pub contractor: u32,
     pub grid: bool,
 }
 
@@ -89,6 +93,72 @@ pub fn size_no(size: usize) -> u32
     0
 }
 
+// The number of refusal for a contractor, 0 where it is 0 to 2, and 2 for a self join.
+pub fn contractor_no(own: bool, c: u32) -> u32
+    ensures { λ r. ⌜ r ≡ contractorNo own c ⌝ }
+{
+    if !((c <= 2) & (!own | (c == 2))) {
+        return 27;
+    }
+    0
+}
+
+fn wide(b: u8) -> u32
+    ensures { λ r. ⌜ r ≡ b ⌝ }
+{
+    b as u32
+}
+
+// Whose the chamber at position j is, by its byte; 2, nobody's, where there is none.
+fn owner_of(owners: &[u8], j: usize) -> u32
+    ensures { λ r. ⌜ r ≡ getD (now (owners .entry)) j 2 ⌝ }
+{
+    if j < owners.len() {
+        return wide(owners[j]);
+    }
+    2
+}
+
+// Whether contractor c has the chamber at position j; 2 has all.
+pub fn is_mine(owners: &[u8], c: u32, j: usize) -> bool
+    ensures { λ r. ⌜ r ≡ mine c (now (owners .entry)) j ⌝ }
+{
+    (c == 2) | (owner_of(owners, j) == c)
+}
+
+// Whether there is one byte for each of n chambers, 0 or 1.
+fn is_one_each(owners: &[u8], n: usize) -> bool
+    ensures { λ r. ⌜ r ≡ oneEach (now (owners .entry)) n ⌝ }
+{
+    if owners.len() != n {
+        return false;
+    }
+    let mut i = 0;
+    while i < n {
+        if 1 < owner_of(owners, i) {
+            return false;
+        }
+        i += 1;
+    }
+    true
+}
+
+// The number of refusal for the owner bytes of n chambers, 0 where they are one 0 or 1 a chamber, and none for an undivided list.
+pub fn owners_no(c: u32, owners: &[u8], n: usize) -> u32
+    ensures { λ r. ⌜ r ≡ ownersNo c (now (owners .entry)) n ⌝ }
+{
+    if c == 2 {
+        if owners.len() == 0 {
+            return 0;
+        }
+        return 26;
+    }
+    if !is_one_each(owners, n) {
+        return 26;
+    }
+    0
+}
+
 // How many of so many slots are lent: `len`, or all where it exceeds them.
 pub fn lent_of(slots: usize, len: usize) -> usize
     ensures { λ r. ⌜ r ≡ lentOf slots len ⌝ }
@@ -105,6 +175,9 @@ pub fn source_no(a: Source, b: Source) -> u32
 {
     if !((a.terms.own & b.terms.own) | (!a.terms.own & !b.terms.own)) {
         return 22;
+    }
+    if a.terms.contractor != b.terms.contractor {
+        return 28;
     }
     if !((a.terms.grid & b.terms.grid) | (!a.terms.grid & !b.terms.grid)) {
         return 30;

@@ -1,7 +1,7 @@
 -- What a page of two sheets' list shows. Assumes nothing.
 use mathlib.Core.Path.{_≡_, refl, sym, ap, subst, _∙_}
 use mathlib.Core.Bool.{false, true}
-use mathlib.Core.List.{List, List·Memᴰ}
+use mathlib.Core.List.{List, [], List·Memᴰ}
 use Prim.Native.Nat.{ℕ, suc, _≤_, _<_}
 use native.Mathlib.Omega.{arith}
 use borrow.Author.Tests.{eq-eqb, eqb-true}
@@ -12,6 +12,7 @@ use lib.Dec.{eqb}
 use Rattle.plane.specs.Profile.{circle}
 use Rattle.words.proofs.AllLaws.{first-in, first-hit}
 use Rattle.plane.specs.Point.{Point, idAt}
+use Rattle.sheet.specs.Layout.{points}
 use Rattle.sheet.specs.Places.{pointsOf}
 use Rattle.list.specs.declared.Key.{Key}
 use Rattle.list.specs.declared.Pair.{Pair}
@@ -24,6 +25,7 @@ use Rattle.list.proofs.Order.{at-member, last-holds, last-at}
 use Rattle.list.proofs.PageLaws.{page-shows, shown-count, shown-member}
 use Rattle.list.proofs.RowLaws.{ring-ascends, ring-only, ring-size, ring-keys}
 use Rattle.list.specs.Terms.{full, requestOf}
+use Rattle.list.proofs.ContractorLaws.{owners-none}
 use Rattle.list.proofs.TermsLaws.{full-ring-list}
 use Rattle.join.proofs.Meaning.{points-rise}
 use Rattle.ring.specs.declared.Head.{Head}
@@ -57,13 +59,13 @@ last-some k l n m e h = sym (last-at k l m h) ∙ ap (λ (i : ℕ). lastOr k (ta
 -- ---- two sheets that open
 
 -- a request for sixteen pairs after a key in range, for which sixteen words are lent, is answered
-pub page-is : (P Q : List ℤ) → firstNo P ≡ 0 → firstNo Q ≡ 0 → (key : Key) → InRange key → (a : Paged) → a ≡ pageAnswer P Q (requestOf full key 16) 16
+pub page-is : (P Q : List ℤ) → firstNo P ≡ 0 → firstNo Q ≡ 0 → (key : Key) → InRange key → (a : Paged) → a ≡ pageAnswer P Q [] (requestOf full key 16) 16
     → a .page ≡ pageOf (sourceOf P Q full) (pairsOf P Q) key 16
 unfolding pageGiven
 page-is P Q p q key h a e =
     ap (λ (x : Paged). x .page)
-    (e ∙ ring-page-served P Q (requestOf full key 16) 16 (sheets-both P Q (listed-first P p) (listed-first Q q)) (circle-any-form P Q) (h .0) (h .1) (omega arith) (omega arith) (omega arith) (first-need P p))
-    ∙ ap (λ (l : List Pair). pageOf (sourceOf P Q full) l key 16) (full-ring-list false (pointsOf P) (pointsOf Q))
+    (e ∙ ring-page-served P Q [] (requestOf full key 16) 16 (sheets-both P Q (listed-first P p) (listed-first Q q)) (omega arith) (sym (owners-none 2 [] (points Q) refl refl)) (circle-any-form P Q) (h .0) (h .1) (omega arith) (omega arith) (omega arith) (first-need P p))
+    ∙ ap (λ (l : List Pair). pageOf (sourceOf P Q full) l key 16) (full-ring-list false [] (pointsOf P) (pointsOf Q))
 
 module _ {P Q : List ℤ} {hp hq : Head} (b : Both P hp Q hq) where
   pub ascending : ascends start (pairsOf P Q) ≡ true

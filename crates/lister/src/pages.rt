@@ -37,10 +37,11 @@ fn page_after(p: &[i32], q: &[i32], key: Key) -> Page
         key: key,
         size: 16,
         threshold: 0,
+        contractor: 2,
         grid: false,
     };
     let mut bits = [0u64; 16];
-    let a = ring::page::page(p, q, request, &mut bits);
+    let a = ring::page::page(p, q, b"", request, &mut bits);
     a.page
 }
 

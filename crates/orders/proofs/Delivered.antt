@@ -16,7 +16,7 @@ use Rattle.book.specs.declared.Book.{Book}
 use Rattle.depot.specs.declared.Form.{Form}
 use Rattle.depot.specs.declared.Depot.{Depot}
 use Rattle.depot.specs.declared.Outcome.the-variants.{Issued, Known}
-use Rattle.depot.specs.Forms.{contractorOf, gridOf, formOf, formsAnswer, formsOf, formsOut}
+use Rattle.depot.specs.Forms.{formOf, formsAnswer, formsOf, formsOut}
 use Rattle.depot.specs.Depot.{begunDepot, sameForm, keyIn, formOk, storeNoAt, judged, isKnown, verdict, stored, storedSlots}
 use Rattle.depot.proofs.FormLaws.{blank}
 use Rattle.depot.proofs.TakeLaws.{forms-given, forms-made}
@@ -40,7 +40,7 @@ abbrev third-form : Form
 third-form = order 6 2 37
 
 three : map (formOf documentSource) threePairs ≡ first-form ∷ second-form ∷ third-form ∷ []
-unfolding formOf contractorOf gridOf
+unfolding formOf
 three = refl
 
 abbrev out : List Form

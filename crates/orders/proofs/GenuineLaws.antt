@@ -31,7 +31,7 @@ use Rattle.book.proofs.Once.{book-begin-no}
 use Rattle.book.proofs.TakeLaws.{same-book-source}
 use Rattle.depot.specs.declared.Form.{Form}
 use Rattle.depot.specs.declared.Made.{Made}
-use Rattle.depot.specs.Forms.{contractorOf, gridOf, formOf, formsAnswer, formsOf}
+use Rattle.depot.specs.Forms.{formOf, formsAnswer, formsOf}
 use Rattle.depot.specs.Depot.{lastContractor, formOk}
 use Rattle.depot.proofs.TakeLaws.{forms-made}
 use Rattle.depot.proofs.KeyLaws.{OneKey}
@@ -123,7 +123,7 @@ module _ (w : Editions) where
     pub contractor-fine : leb (contractorOf s) lastContractor ≡ true
 
   begun-fine : (s : Source) → beginNo s ≡ 0 → InRange s
-  unfolding beginNo contractorOf
+  unfolding beginNo
   begun-fine s e =
       let x = editionOk (s .«p_edition») in
       let y = editionOk (s .«q_edition») in
@@ -171,7 +171,7 @@ module _ (w : Editions) where
 
   -- "genuine forms with one key are one form, sizes too"
   pub same-form : (f g : Form) → Formed f → Formed g → OneKey f g → f ≡ g
-  unfolding formOf gridOf
+  unfolding formOf
   same-form f g x y k =
       let s = x .b .source in
       let t = y .b .source in
@@ -187,7 +187,7 @@ module _ (w : Editions) where
 
   -- a form under a book's editions, kind, contractor and profile is that of a pair of the full list under them
   pub under-listed : (b : Book) (f : Form) → Formed f → Under (b .source) f → (v : Pair) × List·Memᴰ v (fullList w b) × (f ≡ formOf (b .source) v)
-  unfolding formOf gridOf
+  unfolding formOf
   under-listed b f x u =
       let s = b .source in
       let t = x .b .source in

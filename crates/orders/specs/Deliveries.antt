@@ -16,7 +16,7 @@ use Rattle.depot.specs.declared.Depot.{Depot}
 use Rattle.depot.specs.declared.Outcome.{Outcome}
 use Rattle.depot.specs.declared.Outcome.the-variants.{Issued, Known, Refused}
 use Rattle.depot.specs.declared.Stored.{Stored}
-use Rattle.depot.specs.Forms.{contractorOf, gridOf, formOf}
+use Rattle.depot.specs.Forms.{formOf}
 use Rattle.depot.specs.Depot.{sameForm}
 use Rattle.demands.specs.Promises.{FormsAnswers, DepotBegins, StoreAnswers}
 use Rattle.demands.specs.World.{Editions, pumpsOf, chambersOf, bookList, History}
@@ -65,8 +65,8 @@ pub record Under (s : Source) (f : Form) : Type 0 where
   pub p-edition : f .«p_edition» ≡ s .«p_edition»
   pub q-edition : f .«q_edition» ≡ s .«q_edition»
   pub kind : f .own ≡ s .terms .own
-  pub contractor : f .contractor ≡ contractorOf s
-  pub profile : f .grid ≡ gridOf s
+  pub contractor : f .contractor ≡ s .terms .contractor
+  pub profile : f .grid ≡ s .terms .grid
 
 -- an order of a chamber and a pump house, by their ids, under these [I12]
 pub record OrderOf (s : Source) (chamber pump : ℕ) (f : Form) : Type 0 where

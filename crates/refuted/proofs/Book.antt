@@ -15,7 +15,7 @@ use Rattle.list.specs.declared.Source.{Source}
 use Rattle.list.specs.declared.Terms.{Terms}
 use Rattle.list.specs.declared.Page.{Page}
 use Rattle.list.specs.Pairs.{start, none, keyOf, follows, ascends}
-use Rattle.list.specs.Pages.{thresholdNo, sourceNo, pagePairs}
+use Rattle.list.specs.Pages.{thresholdNo, contractorNo, sourceNo, pagePairs}
 use Rattle.list.specs.Terms.{full, withT, alone}
 use Rattle.book.specs.declared.Book.{Book}
 use Rattle.book.specs.declared.Begun.{Begun}
@@ -44,7 +44,7 @@ isShut (begun.Refused n) = false
 
 -- A book is begun closed. "A book is begun for two editions with nothing held, open, key (0, 0)." [K1, D5]
 pub begun-closed-wrong : begunFor (source 7 9 full) ≡ begun.Open (book 0 true) → ⊥
-unfolding begunFor beginNo first given answer begunBook editionOk thresholdNo
+unfolding begunFor beginNo first given answer begunBook editionOk thresholdNo contractorNo
 begun-closed-wrong e = true≢false (sym (ap isShut e))
 
 -- Two editions of a self join. "Begin gives 3 for a self join of two editions, 21 with a t." [J12, J13]
@@ -60,7 +60,7 @@ abbrev inRange : Source → ℕ
 inRange s = first (editionsAlone s ∷ thresholdNo (s .terms .threshold) ∷ [])
 
 abbrev ownWith : ℕ → Source
-ownWith t = source 7 7 (record { threshold = t; own = true; grid = false })
+ownWith t = source 7 7 (record { threshold = t; contractor = 2; own = true; grid = false })
 
 pub own-with-t-wrong : (inRange (ownWith 2) ≡ 0) × (beginNo (ownWith 2) ≡ 21)
 unfolding beginNo first given editionOk thresholdNo

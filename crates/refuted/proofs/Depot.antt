@@ -16,7 +16,7 @@ use Rattle.depot.specs.declared.Form.{Form}
 use Rattle.depot.specs.declared.Depot.{Depot}
 use Rattle.depot.specs.declared.Outcome.{Outcome}
 use Rattle.depot.specs.declared.Outcome.the-variants.{Issued, Known, Refused}
-use Rattle.depot.specs.Forms.{contractorOf, gridOf, formOf, formsNo, formsOf}
+use Rattle.depot.specs.Forms.{formOf, formsNo, formsOf}
 use Rattle.depot.specs.Depot.{begunDepot, sameForm, keyIn, formOk, storeNoAt, judged, isKnown, storeNo, verdict, stored, storedSlots}
 use Rattle.refuted.proofs.Cases.{to}
 
@@ -81,7 +81,7 @@ abbrev keyWithT : Source → Source → Pair → Bool
 keyWithT a b v = sameForm (formOf a v) (formOf b v) && eqb (a .terms .threshold) (b .terms .threshold)
 
 pub key-with-t-wrong : (keyWithT (source 0) (source 3) (to 5 1 16) ≡ false) × (sameForm (formOf (source 0) (to 5 1 16)) (formOf (source 3) (to 5 1 16)) ≡ true)
-unfolding sameForm formOf contractorOf gridOf
+unfolding sameForm formOf
 key-with-t-wrong = (refl, refl)
 
 -- ---- begin
@@ -182,7 +182,7 @@ forms-just-fit-wrong = (refl, refl)
 
 -- A form for each slot, held or not. "one order form per held pair". [I1]
 pub each-slot-wrong : (map (formOf (source 0)) pairs ≡ order 5 1 16 ∷ order 5 2 36 ∷ []) × (formsOf (book 1) pairs ≡ order 5 1 16 ∷ [])
-unfolding formsOf formOf contractorOf gridOf
+unfolding formsOf formOf
 each-slot-wrong = (refl, refl)
 
 -- An open book makes no forms. "one order form per held pair", of an open book too. [I1]

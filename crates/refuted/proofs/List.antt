@@ -74,15 +74,15 @@ own-nearest-wrong e = true≢false (sym e)
 abbrev moreThan : ℕ → List Point → List Point → List Pair
 moreThan t P Q = listBy (atLeast (ringPair P Q) (pairAt P Q) (suc t) (length P)) (pairAt P Q) (length P) (length Q)
 
-pub more-than-t-wrong : (moreThan 2 pumps chambers ≡ []) × (listFor (withT 2) pumps chambers ≡ to 5 1 16 ∷ to 5 2 36 ∷ [])
+pub more-than-t-wrong : (moreThan 2 pumps chambers ≡ []) × (listFor (withT 2) [] pumps chambers ≡ to 5 1 16 ∷ to 5 2 36 ∷ [])
 unfolding listBy rows row atLeast pairFor listedFor listFor ringPairBy unblocked allB sameSpot blocks
 more-than-t-wrong = (refl, refl)
 
 -- The first t pairs of such a chamber. "with all their pairs". [T3]
 abbrev firstOnes : ℕ → List Point → List Point → List Pair
-firstOnes t P Q = take t (listFor (withT t) P Q)
+firstOnes t P Q = take t (listFor (withT t) [] P Q)
 
-pub first-t-wrong : (firstOnes 1 pumps chambers ≡ to 5 1 16 ∷ []) × (listFor (withT 1) pumps chambers ≡ to 5 1 16 ∷ to 5 2 36 ∷ to 6 2 37 ∷ [])
+pub first-t-wrong : (firstOnes 1 pumps chambers ≡ to 5 1 16 ∷ []) × (listFor (withT 1) [] pumps chambers ≡ to 5 1 16 ∷ to 5 2 36 ∷ to 6 2 37 ∷ [])
 unfolding listBy rows row atLeast pairFor listedFor listFor ringPairBy unblocked allB sameSpot blocks
 first-t-wrong = (refl, refl)
 
@@ -98,7 +98,7 @@ below-thousand-wrong = (refl, refl)
 
 -- The list of one sheet in both places. "One sheet used as both P and Q doesn't give a self join": each record is listed with itself, and two both ways. [B4, J1]
 pub both-ways-wrong :
-    (ringList pumps pumps ≡ to 1 1 0 ∷ to 1 2 100 ∷ to 2 1 100 ∷ to 2 2 0 ∷ []) × (listFor alone pumps pumps ≡ to 1 2 100 ∷ [])
+    (ringList pumps pumps ≡ to 1 1 0 ∷ to 1 2 100 ∷ to 2 1 100 ∷ to 2 2 0 ∷ []) × (listFor alone [] pumps pumps ≡ to 1 2 100 ∷ [])
 unfolding ringListBy listBy rows row atLeast pairFor listedFor listFor ringPairBy unblocked allB sameSpot blocks
 both-ways-wrong = (refl, refl)
 
@@ -106,7 +106,7 @@ both-ways-wrong = (refl, refl)
 abbrev highFirst : List Point → List Pair
 highFirst S = listBy (λ j i. ltb (idAt S i) (idAt S j) && ringPair S S j i) (pairAt S S) (length S) (length S)
 
-pub high-first-wrong : (highFirst pumps ≡ to 2 1 100 ∷ []) × (listFor alone pumps pumps ≡ to 1 2 100 ∷ [])
+pub high-first-wrong : (highFirst pumps ≡ to 2 1 100 ∷ []) × (listFor alone [] pumps pumps ≡ to 1 2 100 ∷ [])
 unfolding listBy rows row atLeast pairFor listedFor listFor ringPairBy unblocked allB sameSpot blocks
 high-first-wrong = (refl, refl)
 
@@ -117,7 +117,7 @@ anyTwo S = listBy (λ j i. ltb (idAt S j) (idAt S i)) (pairAt S S) (length S) (l
 abbrev inLine : List Point
 inLine = at 1 0 0 ∷ at 2 5 0 ∷ at 3 10 0 ∷ []
 
-pub any-two-wrong : (anyTwo inLine ≡ to 1 2 25 ∷ to 1 3 100 ∷ to 2 3 25 ∷ []) × (listFor alone inLine inLine ≡ to 1 2 25 ∷ to 2 3 25 ∷ [])
+pub any-two-wrong : (anyTwo inLine ≡ to 1 2 25 ∷ to 1 3 100 ∷ to 2 3 25 ∷ []) × (listFor alone [] inLine inLine ≡ to 1 2 25 ∷ to 2 3 25 ∷ [])
 unfolding listBy rows row atLeast pairFor listedFor listFor ringPairBy unblocked allB sameSpot blocks
 any-two-wrong = (refl, refl)
 

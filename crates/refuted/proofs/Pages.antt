@@ -28,7 +28,7 @@ use Rattle.list.specs.declared.Key.{Key}
 use Rattle.list.specs.declared.Pair.{Pair}
 use Rattle.list.specs.declared.Request.{Request}
 use Rattle.list.specs.Pairs.{start, none as nonePair, follows, after, chamberPairs}
-use Rattle.list.specs.Pages.{thresholdNo, sizeNo, padded, shown, pageOf}
+use Rattle.list.specs.Pages.{thresholdNo, sizeNo, contractorNo, ownersNo, padded, shown, pageOf}
 use Rattle.list.specs.Rows.{row, rows, atLeast, listBy}
 use Rattle.list.specs.RingList.{unblocked, ringPairBy, ringListBy, ringList}
 use Rattle.list.specs.Terms.{pairFor, listedFor, listFor}
@@ -123,16 +123,16 @@ walked-twice-wrong = (refl, refl)
 -- ---- numbers of refusal
 
 abbrev request : Request
-request = record { key = start; size = 2; threshold = 0; grid = false }
+request = record { key = start; size = 2; threshold = 0; contractor = 2; grid = false }
 
 -- "refusing all": the document's own request, with the one word that two points need, is served. [N22, D2, V1]
-pub refusing-all-wrong : (k : ℕ) → pageAnswer pumpSheet chamberSheet request 1 ≡ pageRefused (suc k) → ⊥
-unfolding pageAnswer pageNo gridNo pageGiven pageRefused answer keyNo sizeNo thresholdNo bitsNo wordsFor openNo bodyNo trailerNo first given countsOk within editionWord layoutOk rootWord pointsOk pointOk fieldsOk risesOk idWord coordWord before orderOk placeOk isBelow rankOf orderOf nodesOk tableOk nodeOk nodeRule runOk endOk isLast sameLevel dueOf dueNext tightOk tightSide best better minZ maxZ coordOf sideOf levelOf firstOf countOf eqZ num allB limitsOf form1
+pub refusing-all-wrong : (k : ℕ) → pageAnswer pumpSheet chamberSheet [] request 1 ≡ pageRefused (suc k) → ⊥
+unfolding pageAnswer pageNo gridNo pageGiven pageRefused answer contractorNo ownersNo keyNo sizeNo thresholdNo bitsNo wordsFor openNo bodyNo trailerNo first given countsOk within editionWord layoutOk rootWord pointsOk pointOk fieldsOk risesOk idWord coordWord before orderOk placeOk isBelow rankOf orderOf nodesOk tableOk nodeOk nodeRule runOk endOk isLast sameLevel dueOf dueNext tightOk tightSide best better minZ maxZ coordOf sideOf levelOf firstOf countOf eqZ num allB limitsOf form1
 refusing-all-wrong k e = let z : 0 ≡ suc k = ap (λ (r : Paged). r .number) e in omega arith
 
 -- "an unchanging list", of what ships: of sheets that open, the pages' pairs are not always the same. [D2, V2]
-pub unchanging-page-wrong : (l : List Pair) → ((P Q : List ℤ) → sheetsNo P Q ≡ 0 → pageAnswer P Q request (need P) .page .pairs ≡ l) → ⊥
-unfolding pageAnswer pageNo gridNo pageGiven pageRefused answer keyNo sizeNo thresholdNo bitsNo wordsFor openNo bodyNo trailerNo first given countsOk within editionWord layoutOk rootWord pointsOk pointOk fieldsOk risesOk idWord coordWord before orderOk placeOk isBelow rankOf orderOf nodesOk tableOk nodeOk nodeRule runOk endOk isLast sameLevel dueOf dueNext tightOk tightSide best better minZ maxZ coordOf sideOf levelOf firstOf countOf eqZ num allB limitsOf form1 sheetsNo pageOf shown padded after follows listFor listedFor pairFor atLeast listBy rows row ringPairBy unblocked blocks sameSpot pointsOf tab spotOf
+pub unchanging-page-wrong : (l : List Pair) → ((P Q : List ℤ) → sheetsNo P Q ≡ 0 → pageAnswer P Q [] request (need P) .page .pairs ≡ l) → ⊥
+unfolding pageAnswer pageNo gridNo pageGiven pageRefused answer contractorNo ownersNo keyNo sizeNo thresholdNo bitsNo wordsFor openNo bodyNo trailerNo first given countsOk within editionWord layoutOk rootWord pointsOk pointOk fieldsOk risesOk idWord coordWord before orderOk placeOk isBelow rankOf orderOf nodesOk tableOk nodeOk nodeRule runOk endOk isLast sameLevel dueOf dueNext tightOk tightSide best better minZ maxZ coordOf sideOf levelOf firstOf countOf eqZ num allB limitsOf form1 sheetsNo pageOf shown padded after follows listFor listedFor pairFor atLeast listBy rows row ringPairBy unblocked blocks sameSpot pointsOf tab spotOf
 unchanging-page-wrong l same =
     true≢false (ap (λ (k : List Pair). eqb (getD k 0 nonePair .q) 5) (same pumpSheet chamberSheet refl ∙ sym (same nothing chamberSheet refl)))
 
@@ -174,8 +174,8 @@ bits-before-position-wrong = (refl, refl)
 abbrev allCleared : List ℕ → List ℕ
 allCleared ws = replicate (length ws) 0
 
-pub clears-all-wrong : (allCleared (9 ∷ 9 ∷ []) ≡ 0 ∷ 0 ∷ []) × (pageBits pumpSheet chamberSheet request (9 ∷ 9 ∷ []) ≡ 0 ∷ 9 ∷ [])
-unfolding pageBits wipedBy wiped pageNo gridNo answer keyNo sizeNo thresholdNo bitsNo wordsFor openNo bodyNo trailerNo first given countsOk within editionWord layoutOk rootWord pointsOk pointOk fieldsOk risesOk idWord coordWord before orderOk placeOk isBelow rankOf orderOf nodesOk tableOk nodeOk nodeRule runOk endOk isLast sameLevel dueOf dueNext tightOk tightSide best better minZ maxZ coordOf sideOf levelOf firstOf countOf eqZ num allB limitsOf form1
+pub clears-all-wrong : (allCleared (9 ∷ 9 ∷ []) ≡ 0 ∷ 0 ∷ []) × (pageBits pumpSheet chamberSheet [] request (9 ∷ 9 ∷ []) ≡ 0 ∷ 9 ∷ [])
+unfolding pageBits wipedBy wiped pageNo gridNo answer contractorNo ownersNo keyNo sizeNo thresholdNo bitsNo wordsFor openNo bodyNo trailerNo first given countsOk within editionWord layoutOk rootWord pointsOk pointOk fieldsOk risesOk idWord coordWord before orderOk placeOk isBelow rankOf orderOf nodesOk tableOk nodeOk nodeRule runOk endOk isLast sameLevel dueOf dueNext tightOk tightSide best better minZ maxZ coordOf sideOf levelOf firstOf countOf eqZ num allB limitsOf form1
 clears-all-wrong = (refl, refl)
 
 -- A filter walk leaves zeros, as any other call does. "a filter walk leaves its kept set there": chamber 5 keeps both pump houses. [Y9]

@@ -8,7 +8,8 @@
 --     Once          one input, one answer, and its number
 --     PageLaws      the page request
 --     PartnersLaws  the question for a chamber's partners
---     OwnLaws        the page request of a self join
+--     OwnLaws       the page request of a self join
+--     BlindLaws     a contractor's page does not depend on the ids of the other's chambers
 pub mod NumberLaws
 pub mod LentLaws
 pub mod HeadLaws
@@ -19,3 +20,4 @@ pub mod Once
 pub mod PageLaws
 pub mod PartnersLaws
 pub mod OwnLaws
+pub mod BlindLaws

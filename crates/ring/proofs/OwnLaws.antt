@@ -53,7 +53,7 @@ module _ (S : List ℤ) (key : Key) (size : ℕ) (g : Bool) (len : ℕ) where
   unfolding ownAnswer
   own-refused k e ne = answer-refused _ pageRefused _ k e ne
 
-  pub own-answered : ownNo S key size g len ≡ 0 → ownAnswer S key size g len ≡ pageGiven (aloneBy g) S S key size
+  pub own-answered : ownNo S key size g len ≡ 0 → ownAnswer S key size g len ≡ pageGiven (aloneBy g) [] S S key size
   unfolding ownAnswer
   own-answered e = answer-given _ pageRefused _ e
 
@@ -62,14 +62,14 @@ module _ (S : List ℤ) (key : Key) (size : ℕ) (g : Bool) (len : ℕ) where
   ring-own-once r r′ e f = e ∙ sym f
 
   -- No other request is refused: a sheet that opens, each id of the key at most 2,000,000,000, a size from 1 to 16 and as many words as the points need are served.
-  pub own-served : sheetNo S ≡ 0 → gridNo g S S ≡ 0 → key .q ≤ lastId → key .p ≤ lastId → 1 ≤ size → size ≤ 16 → need S ≤ len → ownAnswer S key size g len ≡ pageGiven (aloneBy g) S S key size
+  pub own-served : sheetNo S ≡ 0 → gridNo g S S ≡ 0 → key .q ≤ lastId → key .p ≤ lastId → 1 ≤ size → size ≤ 16 → need S ≤ len → ownAnswer S key size g len ≡ pageGiven (aloneBy g) [] S S key size
   unfolding ownNo keyNo first given
   own-served opens forms a b c d f = own-answered (rw (opens, forms, le-leb (key .q) lastId a, le-leb (key .p) lastId b, size-taken size c d, bits-enough (need S) len f))
 
   -- the number is the first that applies
   pub ring-own-no : ownAnswer S key size g len .number ≡ ownNo S key size g len
   unfolding ownAnswer pageGiven pageRefused
-  ring-own-no = answer-number (pageGiven (aloneBy g) S S key size) pageRefused (λ r. r .number) refl (λ k. refl) (ownNo S key size g len)
+  ring-own-no = answer-number (pageGiven (aloneBy g) [] S S key size) pageRefused (λ r. r .number) refl (λ k. refl) (ownNo S key size g len)
 
 -- what a request answers and leaves in the words lent
 abbrev pub OwnDone : List ℤ → Key → ℕ → Bool → List ℕ → Paged → List ℕ → Type 0
@@ -107,7 +107,7 @@ module _ (S : List ℤ) (key : Key) (size : ℕ) (g : Bool) (ws : List ℕ) (h :
       pub own-short : length ws < w → r ≡ pageRefused 24 → OwnDone S key size g ws r ws
       own-short short f = stops 24 (last ∙ bits-short (need S) (length ws) (omega (arith, needed))) (λ x. omega arith) f
 
-      pub own-made : w ≤ length ws → r ≡ pageGiven (aloneBy g) S S key size → (b : List ℕ) → b ≡ none (length (take w ws)) → OwnDone S key size g ws r (b ++ drop w ws)
+      pub own-made : w ≤ length ws → r ≡ pageGiven (aloneBy g) [] S S key size → (b : List ℕ) → b ≡ none (length (take w ws)) → OwnDone S key size g ws r (b ++ drop w ws)
       unfolding ownBits
       own-made fits f b k =
           let no : ownNo S key size g (length ws) ≡ 0 = last ∙ bits-enough (need S) (length ws) (omega (arith, needed)) in
@@ -119,7 +119,7 @@ of-one g S = record { one = λ e. refl; no-t = λ e. refl }
 
 -- Following the answers from (0, 0), whatever their sizes from 1 to 16, gives the self join's list, each pair once: no request on the way is refused.
 pub own-list : (g : Bool) (S : List ℤ) → sheetNo S ≡ 0 → gridNo g S S ≡ 0 → (len : ℕ) → need S ≤ len → (sizes : ℕ → ℕ) → ((i : ℕ) → sizeNo (sizes i) ≡ 0)
-    → followed (length (listFor (aloneBy g) (pointsOf S) (pointsOf S))) sizes (λ k n. ownAnswer S k n g len .page) start ≡ listFor (aloneBy g) (pointsOf S) (pointsOf S)
+    → followed (length (listFor (aloneBy g) [] (pointsOf S) (pointsOf S))) sizes (λ k n. ownAnswer S k n g len .page) start ≡ listFor (aloneBy g) [] (pointsOf S) (pointsOf S)
 own-list g S opens forms len enough sizes s =
     let o = sheet-facts S opens in
-    followed-list (aloneBy g) S S o o (λ k n. ownAnswer S k n g len) (λ k n x y c d. own-served S k n g len opens forms x y c d enough) sizes s
+    followed-list (aloneBy g) [] S S o o (λ k n. ownAnswer S k n g len) (λ k n x y c d. own-served S k n g len opens forms x y c d enough) sizes s

@@ -5,9 +5,11 @@
 --     Page       the page request
 --     Partners   whether a chamber has at least t partners
 --     Own        the page request of a self join
+--     Blind      a sheet in two runs
 pub mod Lent
 pub mod Numbers
 pub mod Answers
 pub mod Page
 pub mod Partners
 pub mod Own
+pub mod Blind

@@ -8,7 +8,7 @@ ghost use mathlib.Core.Path.{_≡_};
 ghost use lib.ListN.{length};
 ghost use Rattle.ring.specs.Own.{ownAnswer, ownBits};
 
-// The first `size` pairs of the sheet's self join strictly after the key, lower id first, of a profile, and the nodes opened to find them.
+// The first `size` pairs of the sheet's self join strictly after the key, lower id first, of a profile, and the nodes opened to find them. It is undivided: its pages say contractor 2.
 // The words lent for kept sets, as many as the points need, are zeros after an answer.
 // Refused by 1 to 8 of the sheet, then by 29 where the street grid is asked of a sheet of form 2, then by 9 for the key, then by 10 for the size, then by 24 where fewer words are lent; no word is touched then, nor ever one past them.
 pub fn own_page(s: &[i32], key: Key, size: usize, grid: bool, bits: &mut [u64]) -> Paged
@@ -29,6 +29,7 @@ pub fn own_page(s: &[i32], key: Key, size: usize, grid: bool, bits: &mut [u64]) 
     let hs = Size { n: h.n, m: h.m };
     let terms = Terms {
         threshold: 0,
+        contractor: 2,
         own: true,
         grid: grid,
     };
@@ -37,5 +38,5 @@ pub fn own_page(s: &[i32], key: Key, size: usize, grid: bool, bits: &mut [u64]) 
         size: size,
         terms: terms,
     };
-    crate::page::given(s, hs, s, hs, ask, &mut bits[..w])
+    crate::page::given(s, hs, s, hs, b"", ask, &mut bits[..w])
 }

@@ -15,7 +15,7 @@ ghost use Rattle.bits.specs.Set.{wordsFor, none};
 ghost use Rattle.sheet.specs.Open.{Opens};
 ghost use Rattle.join.specs.Sheets.{Alone};
 ghost use Rattle.ring.specs.Numbers.{gridNo};
-ghost use Rattle.ring.specs.Page.{askedNo, sourceOf, pageGiven, pageRefused, pageAnswer, pageBits};
+ghost use Rattle.ring.specs.Page.{askedNo, requestNo, sourceOf, pageGiven, pageRefused, pageAnswer, pageBits};
 
 // A refused request: its number, and zeros.
 pub(crate) fn refused(number: u32) -> Paged
@@ -30,6 +30,7 @@ pub(crate) fn refused(number: u32) -> Paged
                 q_edition: 0,
                 terms: Terms {
                     threshold: 0,
+                    contractor: 0,
                     own: false,
                     grid: false,
                 },
@@ -56,7 +57,7 @@ pub(crate) fn grid_no(p: &[i32], q: &[i32], grid: bool) -> u32
     0
 }
 
-// The number that a request is refused by, of sheets that open: 29 by their forms, 9 by its key, 10 by its size, 21 by its threshold, or 0.
+// The number that a request of an undivided list is refused by, of sheets that open: 29 by their forms, 9 by its key, 10 by its size, 21 by its threshold, or 0.
 pub(crate) fn asked_no(
     p: &[i32],
     q: &[i32],
@@ -81,6 +82,23 @@ pub(crate) fn asked_no(
     list::threshold_no(threshold)
 }
 
+// The number that any request is refused by, of sheets that open of which Q has n chambers: 27 by its contractor, 26 by the owner bytes, then as that of an undivided list.
+fn request_no(p: &[i32], q: &[i32], owners: &[u8], n: usize, request: Request) -> u32
+    ensures { λ r. ⌜ r ≡ requestNo (now (p .entry)) (now (q .entry)) (now (owners .entry)) n request ⌝ }
+{
+    let c = request.contractor;
+    let whose = list::contractor_no(false, c);
+    if whose != 0 {
+        return whose;
+    }
+    let bytes = list::owners_no(c, owners, n);
+    if bytes != 0 {
+        return bytes;
+    }
+    let key = request.key;
+    asked_no(p, q, request.grid, key, request.size, request.threshold)
+}
+
 // The editions of two sheets that open, and the terms.
 fn source_of(p: &[i32], hp: Size, q: &[i32], hq: Size, terms: Terms) -> Source
     requires { ⌜ Opens (now p) (hp .n) (hp .m) × Opens (now q) (hq .n) (hq .m) ⌝ }
@@ -93,14 +111,22 @@ fn source_of(p: &[i32], hp: Size, q: &[i32], hq: Size, terms: Terms) -> Source
     }
 }
 
-// The page that two sheets that open give, or one in both places. The words lent are as many as the kept set needs, and zeros after it.
-pub(crate) fn given(p: &[i32], hp: Size, q: &[i32], hq: Size, ask: Ask, bits: &mut [u64]) -> Paged
+// The page that two sheets that open give, or one in both places, by the owner bytes. The words lent are as many as the kept set needs, and zeros after it.
+pub(crate) fn given(
+    p: &[i32],
+    hp: Size,
+    q: &[i32],
+    hq: Size,
+    owners: &[u8],
+    ask: Ask,
+    bits: &mut [u64],
+) -> Paged
     requires { ⌜ Opens (now p) (hp .n) (hp .m) × Opens (now q) (hq .n) (hq .m) × (ask .size ≤ 16) × (length (now bits) ≡ wordsFor (hp .n)) × Alone (ask .terms) (now p) (now q) ⌝ }
-    ensures { λ r. ⌜ (r ≡ pageGiven (ask .terms) (now (p .entry)) (now (q .entry)) (ask .key) (ask .size)) × (now (bits .exit) ≡ none (length (now (bits .entry)))) ⌝ }
+    ensures { λ r. ⌜ (r ≡ pageGiven (ask .terms) (now (owners .entry)) (now (p .entry)) (now (q .entry)) (ask .key) (ask .size)) × (now (bits .exit) ≡ none (length (now (bits .entry)))) ⌝ }
 {
     let key = ask.key;
     let terms = ask.terms;
-    let d = join::made_on(p, hp, q, hq, ask, bits);
+    let d = join::made_on(p, hp, q, hq, owners, ask, bits);
     bits::clear(bits);
     let source = source_of(p, hp, q, hq, terms);
     let page = join::page_from(source, key, d);
@@ -111,19 +137,19 @@ pub(crate) fn given(p: &[i32], hp: Size, q: &[i32], hq: Size, ask: Ask, bits: &m
     }
 }
 
-// The first `size` ring pairs strictly after the key, of chambers with at least so many as the threshold says (0: of all), and the nodes opened to find them.
+// The first `size` ring pairs strictly after the key, of the contractor's chambers, a byte of 0 or 1 for each by position (2 and no byte: of all chambers), with at least so
+// many pairs as the threshold says (0: with any), and the nodes opened to find them, which are not for the contractor.
 // The words lent for kept sets, as many as the points of P need, are zeros after an answer.
-// Refused by 1 to 8 of P, then of Q, then by 29 where the street grid is asked of a sheet of form 2, then by 9 for the key, then by 10 for the size, then by 21 for the threshold, then by 24 where fewer words are lent; no word is touched then,
-// nor ever one past them.
-pub fn page(p: &[i32], q: &[i32], request: Request, bits: &mut [u64]) -> Paged
-    ensures { λ r. ⌜ (r ≡ pageAnswer (now (p .entry)) (now (q .entry)) request (length (now (bits .entry)))) × (now (bits .exit) ≡ pageBits (now (p .entry)) (now (q .entry)) request (now (bits .entry))) ⌝ }
+// Refused by 1 to 8 of P, then of Q, then by 27 for the contractor, then by 26 for the bytes, then by 29 where the street grid is asked of a sheet of form 2, then by 9 for the key,
+// then by 10 for the size, then by 21 for the threshold, then by 24 where fewer words are lent; no word is touched then, nor ever one past them.
+pub fn page(p: &[i32], q: &[i32], owners: &[u8], request: Request, bits: &mut [u64]) -> Paged
+    ensures { λ r. ⌜ (r ≡ pageAnswer (now (p .entry)) (now (q .entry)) (now (owners .entry)) request (length (now (bits .entry)))) × (now (bits .exit) ≡ pageBits (now (p .entry)) (now (q .entry)) (now (owners .entry)) request (now (bits .entry))) ⌝ }
 {
     let h = crate::open::heads_of(p, q);
     if h.number != 0 {
         return refused(h.number);
     }
-    let key = request.key;
-    let asked = asked_no(p, q, request.grid, key, request.size, request.threshold);
+    let asked = request_no(p, q, owners, h.nq, request);
     if asked != 0 {
         return refused(asked);
     }
@@ -135,13 +161,15 @@ pub fn page(p: &[i32], q: &[i32], request: Request, bits: &mut [u64]) -> Paged
     let hq = Size { n: h.nq, m: h.mq };
     let terms = Terms {
         threshold: request.threshold,
+        contractor: request.contractor,
         own: false,
         grid: request.grid,
     };
+    let key = request.key;
     let ask = Ask {
         key: key,
         size: request.size,
         terms: terms,
     };
-    given(p, hp, q, hq, ask, &mut bits[..w])
+    given(p, hp, q, hq, owners, ask, &mut bits[..w])
 }

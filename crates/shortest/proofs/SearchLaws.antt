@@ -27,8 +27,7 @@ use Rattle.list.proofs.PageLaws.{after-shown, none-drop, shown-count}
 use Rattle.list.proofs.RowLaws.{ring-ascends}
 use Rattle.join.specs.declared.Draft.{Draft}
 use Rattle.join.specs.Maker.{pageMade, pageFrom}
-use Rattle.join.specs.Sheets.{walksOf}
-use Rattle.join.specs.Threshold.{walksFor}
+use Rattle.join.specs.Only.{pageWalks}
 use Rattle.list.specs.Terms.{full}
 use Rattle.list.proofs.TermsLaws.{full-ring-list}
 use Rattle.ring.proofs.PageLaws.{of-two}
@@ -48,11 +47,11 @@ pub record Made (l : List Pair) (key : Key) (d : Draft) : Type 0 where
   pub pairs : d .pairs ≡ padded (shown l key 16)
   pub end : not (d .more) ≡ isNone (after (lastOr key (shown l key 16)) l)
 
-pub made : {P Q : List ℤ} {np mp nq mq : ℕ} → Opens P np mp → Opens Q nq mq → (words : ℕ) → np ≤ 64 * words → (key : Key) (d : Draft) → d ≡ pageMade (walksFor (walksOf false words P Q) np 0) key 16 np nq → Made (pairsOf P Q) key d
+pub made : {P Q : List ℤ} {np mp nq mq : ℕ} → Opens P np mp → Opens Q nq mq → (words : ℕ) → np ≤ 64 * words → (key : Key) (d : Draft) → d ≡ pageMade (pageWalks full [] words P Q np) key 16 np nq → Made (pairsOf P Q) key d
 unfolding pageFrom pageOf
 made {P} {Q} o o′ words enough key d e =
     let s : Source = record { «p_edition» = 0; «q_edition» = 0; terms = full } in
-    let g : pageFrom s key d ≡ pageOf s (pairsOf P Q) key 16 = ap (pageFrom s key) e ∙ join-page-pairs o o′ full (of-two full refl P Q) words enough s key 16 (omega arith) ∙ ap (λ (l : List Pair). pageOf s l key 16) (full-ring-list false (pointsOf P) (pointsOf Q)) in
+    let g : pageFrom s key d ≡ pageOf s (pairsOf P Q) key 16 = ap (pageFrom s key) e ∙ join-page-pairs o o′ full (of-two full refl P Q) words enough [] s key 16 (omega arith) ∙ ap (λ (l : List Pair). pageOf s l key 16) (full-ring-list false [] (pointsOf P) (pointsOf Q)) in
     record { count = ap (λ (x : Page). x .count) g; pairs = ap (λ (x : Page). x .pairs) g; end = ap (λ (x : Page). x .end) g }
 
 -- ---- a search that holds s

@@ -74,6 +74,7 @@ fn with_page(
     let key = g.key;
     let terms = Terms {
         threshold: 0,
+        contractor: 2,
         own: false,
         grid: false,
     };
@@ -82,7 +83,7 @@ fn with_page(
         size: 16,
         terms: terms,
     };
-    let d = join::made_on(p, hp, q, hq, ask, bits);
+    let d = join::made_on(p, hp, q, hq, b"", ask, bits);
     let n = d.count;
     let mut r = g;
     let mut i = 0;

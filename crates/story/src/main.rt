@@ -198,7 +198,11 @@ fn is_profile(a: Source, b: Source) -> bool {
 }
 
 fn is_source(a: Source, b: Source) -> bool {
-    is_kind(a, b) & is_profile(a, b) & is_edition(a, b) & (a.terms.threshold == b.terms.threshold)
+    is_kind(a, b)
+        & (a.terms.contractor == b.terms.contractor)
+        & is_profile(a, b)
+        & is_edition(a, b)
+        & (a.terms.threshold == b.terms.threshold)
 }
 
 // The number of refusal, read from the rules a second time.
@@ -215,6 +219,9 @@ fn expected(b: Book, len: usize, last: Key, g: Page) -> u32 {
     }
     if !is_kind(own, other) {
         return 22;
+    }
+    if own.terms.contractor != other.terms.contractor {
+        return 28;
     }
     if !is_profile(own, other) {
         return 30;
@@ -393,6 +400,7 @@ fn of_others(g: Page) -> Page {
         q_edition: 9,
         terms: Terms {
             threshold: 1,
+            contractor: 2,
             own: g.source.terms.own,
             grid: g.source.terms.grid,
         },
@@ -410,6 +418,7 @@ fn of_kind(g: Page, grid: bool) -> Page {
         q_edition: 8,
         terms: Terms {
             threshold: 0,
+            contractor: 2,
             own: !source.terms.own,
             grid: grid,
         },
@@ -427,6 +436,7 @@ fn of_profile(g: Page, p_edition: u32) -> Page {
         q_edition: 9,
         terms: Terms {
             threshold: source.terms.threshold,
+            contractor: 2,
             own: source.terms.own,
             grid: !source.terms.grid,
         },
@@ -443,6 +453,7 @@ fn of_another(g: Page) -> Page {
         q_edition: 9,
         terms: Terms {
             threshold: 3,
+            contractor: 2,
             own: g.source.terms.own,
             grid: g.source.terms.grid,
         },
@@ -623,6 +634,7 @@ fn opened(seed: u64, tally: Tally) -> Game {
         q_edition: 9,
         terms: Terms {
             threshold: some_threshold(mixed(seed)),
+            contractor: 2,
             own: false,
             grid: grid,
         },
@@ -633,6 +645,7 @@ fn opened(seed: u64, tally: Tally) -> Game {
         q_edition: 9,
         terms: Terms {
             threshold: 60001,
+            contractor: 2,
             own: false,
             grid: grid,
         },
@@ -642,6 +655,7 @@ fn opened(seed: u64, tally: Tally) -> Game {
         q_edition: 9,
         terms: Terms {
             threshold: 60001,
+            contractor: 2,
             own: false,
             grid: grid,
         },
@@ -651,6 +665,7 @@ fn opened(seed: u64, tally: Tally) -> Game {
         q_edition: 9,
         terms: Terms {
             threshold: 1,
+            contractor: 2,
             own: true,
             grid: grid,
         },
@@ -660,6 +675,7 @@ fn opened(seed: u64, tally: Tally) -> Game {
         q_edition: 7,
         terms: Terms {
             threshold: 1,
+            contractor: 2,
             own: true,
             grid: grid,
         },

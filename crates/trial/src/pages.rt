@@ -48,9 +48,10 @@ pub fn page_case(p: &[i32], q: &[i32], bits: &mut [u64]) {
         key: key,
         size: size,
         threshold: threshold,
+        contractor: 2,
         grid: grid,
     };
-    let r = ring::page::page(p, q, request, bits);
+    let r = ring::page::page(p, q, b"", request, bits);
     say::number(r.number as u64);
     say::number(r.opened);
     let page = r.page;

@@ -163,10 +163,11 @@ fn page_through(
     q: &[i32],
     nq: usize,
     mq: usize,
+    owners: &[u8],
     request: Request,
     bits: &mut [u64],
 ) -> Paged
-    ensures { λ r. ⌜ (r ≡ pageAnswer (now (p .entry)) (now (q .entry)) request (length (now (bits .entry)))) × (now (bits .exit) ≡ pageBits (now (p .entry)) (now (q .entry)) request (now (bits .entry))) ⌝ }
+    ensures { λ r. ⌜ (r ≡ pageAnswer (now (p .entry)) (now (q .entry)) (now (owners .entry)) request (length (now (bits .entry)))) × (now (bits .exit) ≡ pageBits (now (p .entry)) (now (q .entry)) (now (owners .entry)) request (now (bits .entry))) ⌝ }
 {
     view::page_at(
         Sheet {
@@ -179,6 +180,7 @@ fn page_through(
             n: nq,
             m: mq,
         },
+        owners,
         request,
         bits,
     )
@@ -273,9 +275,10 @@ pub fn view_case(p: &[i32], q: &[i32], bits: &mut [u64]) {
             key: key,
             size: size,
             threshold: 0,
+            contractor: 2,
             grid: grid,
         };
-        show_page(page_through(p, np, mp, q, nq, mq, request, bits));
+        show_page(page_through(p, np, mp, q, nq, mq, b"", request, bits));
     } else if call == 7 {
         ask_near(p, np, mp, q, nq, mq, a, size);
     } else {

@@ -67,12 +67,12 @@ pub filter-through-once : (p p′ q q′ : Sheet) (j : ℕ) (ws : List ℕ) (r r
 filter-through-once p p′ q q′ j ws r r′ t t′ v w e f =
     (e .0 ∙ (λ i. filtered (v i) (w i) j (length ws)) ∙ sym (f .0), e .1 ∙ (λ i. filteredBits (v i) (w i) j ws) ∙ sym (f .1))
 
-pub page-through-once : (p p′ q q′ : Sheet) (ask : Request) (ws : List ℕ) (r r′ : Paged) (t t′ : List ℕ) → now (p .words) ≡ now (p′ .words) → now (q .words) ≡ now (q′ .words)
-    → (r ≡ pageAnswer (now (p .words)) (now (q .words)) ask (length ws)) × (t ≡ pageBits (now (p .words)) (now (q .words)) ask ws)
-    → (r′ ≡ pageAnswer (now (p′ .words)) (now (q′ .words)) ask (length ws)) × (t′ ≡ pageBits (now (p′ .words)) (now (q′ .words)) ask ws)
+pub page-through-once : (p p′ q q′ : Sheet) (o : List ℕ) (ask : Request) (ws : List ℕ) (r r′ : Paged) (t t′ : List ℕ) → now (p .words) ≡ now (p′ .words) → now (q .words) ≡ now (q′ .words)
+    → (r ≡ pageAnswer (now (p .words)) (now (q .words)) o ask (length ws)) × (t ≡ pageBits (now (p .words)) (now (q .words)) o ask ws)
+    → (r′ ≡ pageAnswer (now (p′ .words)) (now (q′ .words)) o ask (length ws)) × (t′ ≡ pageBits (now (p′ .words)) (now (q′ .words)) o ask ws)
     → (r ≡ r′) × (t ≡ t′)
-page-through-once p p′ q q′ ask ws r r′ t t′ v w e f =
-    (e .0 ∙ (λ i. pageAnswer (v i) (w i) ask (length ws)) ∙ sym (f .0), e .1 ∙ (λ i. pageBits (v i) (w i) ask ws) ∙ sym (f .1))
+page-through-once p p′ q q′ o ask ws r r′ t t′ v w e f =
+    (e .0 ∙ (λ i. pageAnswer (v i) (w i) o ask (length ws)) ∙ sym (f .0), e .1 ∙ (λ i. pageBits (v i) (w i) o ask ws) ∙ sym (f .1))
 
 pub own-through-once : (d d′ : Sheet) (key : Key) (size : ℕ) (g : Bool) (ws : List ℕ) (r r′ : Paged) (t t′ : List ℕ) → now (d .words) ≡ now (d′ .words)
     → (r ≡ ownAnswer (now (d .words)) key size g (length ws)) × (t ≡ ownBits (now (d .words)) key size g ws)

@@ -89,16 +89,18 @@ pub fn ring_walk_at<'a, 'b>(p: Sheet<'a>, q: Sheet<'b>, j: usize, i: usize, grid
     ring::ringwalk::ring_walk(p.words, q.words, j, i, grid)
 }
 
-// The page that follows a key; refused by 1 to 8 of P's words, then of Q's, then by 29, by 9 for the key, by 10 for the size, by 21 for the threshold, by 24 for the words lent.
-pub fn page_at<'a, 'b, 'c>(
+// The page that follows a key, of the contractor's list or of the undivided one; refused by 1 to 8 of P's words, then of Q's, then by 27 for the contractor, by 26 for the owner bytes, by 29, by 9 for
+// the key, by 10 for the size, by 21 for the threshold, by 24 for the words lent.
+pub fn page_at<'a, 'b, 'c, 'd>(
     p: Sheet<'a>,
     q: Sheet<'b>,
+    owners: &'c [u8],
     request: Request,
-    bits: &'c mut [u64],
+    bits: &'d mut [u64],
 ) -> Paged
-    ensures { λ r. ⌜ (r ≡ pageAnswer (now (p .entry .words)) (now (q .entry .words)) request (length (now (bits .entry)))) × (now (bits .exit) ≡ pageBits (now (p .entry .words)) (now (q .entry .words)) request (now (bits .entry))) ⌝ }
+    ensures { λ r. ⌜ (r ≡ pageAnswer (now (p .entry .words)) (now (q .entry .words)) (now (owners .entry)) request (length (now (bits .entry)))) × (now (bits .exit) ≡ pageBits (now (p .entry .words)) (now (q .entry .words)) (now (owners .entry)) request (now (bits .entry))) ⌝ }
 {
-    ring::page::page(p.words, q.words, request, bits)
+    ring::page::page(p.words, q.words, owners, request, bits)
 }
 
 // The page of a self join that follows a key; of a profile; refused by 1 to 8 of the words, then by 29, by 9 for the key, by 10 for the size, by 24 for the words lent.

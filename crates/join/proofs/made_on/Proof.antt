@@ -1,12 +1,17 @@
 -- `join::made_on` meets its contract. The loop's invariant is `Rounds`: what is left of the chambers, and room for the count. Assumes nothing.
-use mathlib.Core.Path.{_≡_, refl, _∙_}
+use mathlib.Core.Path.{_≡_, refl, sym, ap, _∙_}
+use mathlib.Core.Logic.{⊎-elim}
 use Prim.Native.Nat.{_+_, _*_, _-_}
 use native.Mathlib.Omega.{arith}
 use native.Mathlib.Nat.{lt-of-le-of-lt}
 use lib.ListN.{length}
+use borrow.Author.Needs.{needs}
+use Rattle.list.specs.Contractor.{mine}
 use Rattle.join.specs.Sheets.{walksBy}
 use Rattle.join.specs.Threshold.{walksFor}
+use Rattle.join.specs.Only.{pageWalks}
 use Rattle.join.proofs.ThresholdLaws.{for-cap, first-for}
+use Rattle.join.proofs.OnlyLaws.{only-other, only-own, only-cap, first-only}
 use Rattle.join.proofs.TurnLaws.{Rounds, join-rounds-start, join-rounds-room, rounds-on, rounds-stop, join-rounds-end}
 use Rattle.walk.proofs.FilterCode.{still-holds}
 use Rattle.join.proofs.CallLaws.{chamber-same, page-room}
@@ -15,16 +20,16 @@ use Rattle.join.proofs.made_on.Statement.{statement}
 use Rattle.join.proofs.made_on.Tie as tie
 
 abbrev Inv-loop : tie.InvT-loop
-Inv-loop p hp q hq ask bits₀ r₀ n j₀ bits r j = (length bits ≡ length bits₀) × Rounds (walksFor (walksBy (ask .terms) (length bits₀) p q) (hp .n) (ask .terms .threshold)) (ask .key) (ask .size) (hp .m + hp .n * (hp .m + hq .m)) (hp .n) (hq .n) r j
+Inv-loop p hp q hq owners ask bits₀ r₀ n c j₀ bits r j = (length bits ≡ length bits₀) × Rounds (pageWalks (ask .terms) owners (length bits₀) p q (hp .n)) (ask .key) (ask .size) (hp .m + hp .n * (hp .m + hq .m)) (hp .n) (hq .n) r j
 
 abbrev μ-loop : tie.MeasureT-loop
-μ-loop p hp q hq ask bits₀ r₀ n j₀ bits r j = hq .n - j
+μ-loop p hp q hq owners ask bits₀ r₀ n c j₀ bits r j = hq .n - j
 
 first-from-requires : tie.Need-first-from-requires Inv-loop μ-loop
-first-from-requires c κs = c .before .before .pre .1
+first-from-requires c κs = c .before .before .before .pre .1
 
 loop-holds : tie.Need-loop-holds Inv-loop μ-loop
-loop-holds c = (refl, join-rounds-start _ _ _ _ _ _ _ (first-for _ _ _ _ _ _ (c .first-from .ensures)))
+loop-holds c = (refl, join-rounds-start _ _ _ _ _ _ _ (first-only _ _ _ _ _ (first-for _ _ _ _ _ _ (c .first-from .ensures))))
 
 same-length : tie.Need-same-length Inv-loop μ-loop
 same-length c = c .before .before .loop .inv .0
@@ -32,27 +37,39 @@ same-length c = c .before .before .loop .inv .0
 returns : tie.Need-returns Inv-loop μ-loop
 returns c = rounds-stop _ _ _ _ _ _ _ _ (c .if1 .taken) (c .before .before .loop .inv .1)
 
+is-mine-requires : tie.Need-is-mine-requires Inv-loop μ-loop
+is-mine-requires c κs = search needs
+
 with-chamber-requires : tie.Need-with-chamber-requires Inv-loop μ-loop
 with-chamber-requires c κs =
-    let l = c .before .before .before in
-    let s = l .before .before .before .before in
-    let in-loop = c .before .before .loop-test .taken in
+    let l = c .before .before .before .before .before in
+    let s = l .before .before .before .before .before in
+    let in-loop = c .before .before .before .before .loop-test .taken in
     (s .pre .0, s .pre .1, in-loop, s .pre .2, still-holds _ _ _ (l .loop .inv .0) (s .pre .3), lt-of-le-of-lt (join-rounds-room _ _ _ _ _ _ _ (l .loop .j) in-loop (l .loop .inv .1)) (page-room (s .pre .0) (s .pre .1)), s .pre .4)
 
 add-j : tie.Need-add-j Inv-loop μ-loop
-add-j c = omega arith
+add-j c = omega (arith, c .before .before .before .loop-test .taken)
 
 loop-less : tie.Need-loop-less Inv-loop μ-loop
-loop-less c = omega arith
+loop-less c = omega (arith, c .before .before .before .loop-test .taken)
 
 loop-again : tie.Need-loop-again Inv-loop μ-loop
 loop-again c =
-    let k = c .before .before in
-    let l = k .before .before .before .before in
-    let s = l .before .before .before .before in
-    let long = l .loop .inv .0 in (
-      k .with-chamber .kept .1 .1 .1 .1 .1 .1 .0 ∙ long,
-      rounds-on _ _ _ _ _ _ _ (l .loop .j) (for-cap _ _ _ _ (by-capped (s .pre .0) (s .pre .1) _ (s .pre .4) (length (s .args .bits .now)) (s .pre .3 .enough)) _ _ _ _ _) (k .before .before .before .loop-test .taken) (k .before .before .if1 .left) (l .loop .inv .1) _ (chamber-same (s .args .ask .terms) (s .args .p .now) (s .args .q .now) _ _ _ _ _ _ _ _ _ long (k .with-chamber .ensures)),
+    let l = c .before .before .before .before in
+    let s = l .before .before .before .before .before in
+    let a = s .args .ask .terms in
+    let w = walksFor (walksBy a (length (s .args .bits .now)) (s .args .p .now) (s .args .q .now)) (s .args .hp .n) (a .threshold) in
+    let m = mine (a .contractor) (s .args .owners .now) in
+    let long = l .loop .inv .0 in
+    let told = c .before .is-mine .ensures in (
+      ⊎-elim (λ x. ap length (x .5) ∙ x .2 .kept .1 .1 .1 .1 .1 .1 .0 ∙ long) (λ x. ap length (x .1) ∙ long) (c .if2 .came),
+      rounds-on _ _ _ _ _ _ _ (l .loop .j)
+          (only-cap m w _ _ _ _ _ _ (for-cap _ _ _ _ (by-capped (s .pre .0) (s .pre .1) _ (s .pre .4) (length (s .args .bits .now)) (s .pre .3 .enough)) _ _ _ _ _))
+          (c .before .before .before .loop-test .taken) (c .before .before .if1 .left) (l .loop .inv .1) _
+          (⊎-elim
+          (λ x. x .6 ∙ chamber-same a (s .args .p .now) (s .args .q .now) _ _ _ _ _ _ _ _ _ long (x .2 .ensures) ∙ sym (only-own m w _ _ _ _ _ (sym told ∙ x .0 .taken)))
+          (λ x. x .2 ∙ sym (only-other m w _ _ _ _ _ (sym told ∙ x .0 .left)))
+          (c .if2 .came)),
     )
 
 same-length-2 : tie.Need-same-length-2 Inv-loop μ-loop
@@ -71,6 +88,7 @@ made-on-spec =
     loop-holds
     same-length
     returns
+    is-mine-requires
     with-chamber-requires
     add-j
     loop-less

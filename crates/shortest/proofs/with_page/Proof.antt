@@ -26,7 +26,7 @@ abbrev μ-loop : tie.MeasureT-loop
 -- the list of the two sheets, and the page of it that was made
 module _ (a : tie.After-made-on Inv-loop μ-loop) where
   abbrev start : tie.Start Inv-loop μ-loop
-  start = a .before .before .before .before
+  start = a .before .before .before .before .before
 
   abbrev list : List Pair
   list = pairsOf (start .args .p .now) (start .args .q .now)
@@ -41,8 +41,11 @@ module _ (a : tie.After-made-on Inv-loop μ-loop) where
 abbrev work : tie.At-loop Inv-loop μ-loop → tie.After-made-on Inv-loop μ-loop
 work l = l .before .before .before
 
+slice-aggregate-made-on : tie.Need-slice-aggregate-made-on Inv-loop μ-loop
+slice-aggregate-made-on c = search needs
+
 made-on-requires : tie.Need-made-on-requires Inv-loop μ-loop
-made-on-requires c κs = let p = c .before .before .before .pre in (p .0, p .1, omega arith, p .2, of-two _ refl _ _)
+made-on-requires c κs = let p = c .before .before .before .before .pre in (p .0, p .1, omega arith, p .2, of-two _ refl _ _)
 
 loop-holds : tie.Need-loop-holds Inv-loop μ-loop
 loop-holds c = let p = start (c .before .before) .pre in passed-start _ (p .3) (p .4) _ _ (p .5)
@@ -118,7 +121,7 @@ key-of-requires : tie.Need-key-of-requires Inv-loop μ-loop
 key-of-requires c κs = search needs
 
 same-length : tie.Need-same-length Inv-loop μ-loop
-same-length c = work (c .before .before) .made-on .kept .1 .1 .1 .1 .1 .0
+same-length c = work (c .before .before) .made-on .kept .1 .1 .1 .1 .1 .1 .0
 
 returns : tie.Need-returns Inv-loop μ-loop
 returns c =
@@ -142,6 +145,7 @@ with-page-spec =
     (tie.spec
     Inv-loop
     μ-loop
+    slice-aggregate-made-on
     made-on-requires
     loop-holds
     mul-v

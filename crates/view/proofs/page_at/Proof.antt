@@ -25,10 +25,10 @@ use types.Run.{addr, hop, look, init, forget, stop, fld, from, load, of-opd, and
 use sound.WpLaws.{FmC, fmOf, WpFn-mono}
 use denote.RattleType.{owns}
 use denote.Laws.{Is, shows}
-use denote.Builtin.{i32, u64}
+use denote.Builtin.{i32, u8, u64}
 use denote.Ref.{RefT, NamedLft, now}
 use denote.Signature.{plain, namedLft}
-use denote.Slice.{sliceVal, ShrSlice, MutSlice, Room, finally, slice-vals, mut-slice-tells}
+use denote.Slice.{sliceVal, ShrSlice, MutSlice, Room, finally, slice-vals, shr-slice-tells, mut-slice-tells, shr-slice-lawful, shr-slice-copy}
 use denote.Steps.{owned, peeks, heard, nothing}
 use denote.Struct.Laws as LL
 use denote.Triple.Statement.{Contract, Triple}
@@ -36,7 +36,7 @@ use denote.Triple.Call.{calls-at}
 use denote.Triple.Entry.{Vals, onEntry}
 use denote.Triple.Spec.{Meets, tripleOf}
 use denote.Triple.Table.{entered, cited}
-use denote.Triple.Walked.{says, Stays, stay-none, gave-slice, walkOf, goes-none, goes-gave-slice, Walks, ends-at, walked, walk-meets}
+use denote.Triple.Walked.{says, Stays, stay-none, stay-none-slice, gave-slice, walkOf, goes-none, goes-none-slice, goes-gave-slice, Walks, ends-at, walked, walk-meets}
 use denote.Exit.{yes}
 use denote.Triple.Clauses.{ensured, lasts}
 use Rattle.ring.specs.Page.{pageAnswer, pageBits}
@@ -59,96 +59,96 @@ use Rattle.view.proofs.page_at as page-at′
 use Rattle.view.proofs.page_at.Statement as stated
 use Rattle.view.proofs.page_at.Code as code
 
-abbrev α : Lfts 3 → NamedLft
-α κs = namedLft 3 0 tt κs
+abbrev α : Lfts 4 → NamedLft
+α κs = namedLft 4 0 tt κs
 
-abbrev β : Lfts 3 → NamedLft
-β κs = namedLft 3 1 tt κs
+abbrev β : Lfts 4 → NamedLft
+β κs = namedLft 4 1 tt κs
 
 abbrev stayed : Stays (page-at′.ended .signature .params) (page-at′.ended .kept)
-stayed = (stay-none (λ κs. T.the-row (α κs)) yes, (stay-none (λ κs. T.the-row (β κs)) yes, (stay-none (λ κs. tRequest.the-row) yes, (gave-slice (2 ∷ []) tt (plain (λ _. u64)), tt))))
+stayed = (stay-none (λ κs. T.the-row (α κs)) yes, (stay-none (λ κs. T.the-row (β κs)) yes, (stay-none-slice (2 ∷ []) tt (plain (λ _. u8)) yes, (stay-none (λ κs. tRequest.the-row) yes, (gave-slice (3 ∷ []) tt (plain (λ _. u64)), tt)))))
 
 abbrev Callee : {M : Type 1} (𝓤 : URA M) (H : Heap 𝓤) (A : Atoms 𝓤) (mem : Memory → SProp 𝓤) (run : Routine → Fun 𝓤) → Contract 𝓤
 Callee 𝓤 H A mem run = tripleOf 𝓤 H A page″.signature (page″.spec 𝓤 H A mem run)
 
-module _ {M : Type 1} (𝓤 : URA M) (H : Heap 𝓤) (A : Atoms 𝓤) (W : Given 𝓤 H A) (mem : Memory → SProp 𝓤) (run : Routine → Fun 𝓤) (κ κ′ κ′′ : Lft) (π π′ π′′ : Share) (p : Sheet) (q : Sheet) (request : Request) (bits : RefT (List ℕ)) where
-  abbrev κs : Lfts 3
-  κs = (κ, (κ′, (κ′′, tt)))
+module _ {M : Type 1} (𝓤 : URA M) (H : Heap 𝓤) (A : Atoms 𝓤) (W : Given 𝓤 H A) (mem : Memory → SProp 𝓤) (run : Routine → Fun 𝓤) (κ κ′ κ′′ κ′′′ : Lft) (π π′ π′′ π′′′ : Share) (p : Sheet) (q : Sheet) (owners : RefT (List ℕ)) (request : Request) (bits : RefT (List ℕ)) where
+  abbrev κs : Lfts 4
+  κs = (κ, (κ′, (κ′′, (κ′′′, tt))))
 
-  abbrev a : Sheet × (Sheet × (Request × (RefT (List ℕ) × (Unit {0}))))
-  a = (p, (q, (request, (bits, tt))))
+  abbrev a : Sheet × (Sheet × (RefT (List ℕ) × (Request × (RefT (List ℕ) × (Unit {0})))))
+  a = (p, (q, (owners, (request, (bits, tt)))))
 
-  abbrev vals : List Val × (List Val × (List Val × (List Val × (Unit {0}))))
-  vals = (T′.lowered p ∷ [], (T′.lowered q ∷ [], (LL.val tRequest.the-type tRequest-laws.the-laws request ∷ [], (sliceVal (bits .ptr) (length (bits .now)) ∷ [], tt))))
+  abbrev vals : List Val × (List Val × (List Val × (List Val × (List Val × (Unit {0})))))
+  vals = (T′.lowered p ∷ [], (T′.lowered q ∷ [], (sliceVal (owners .ptr) (length (owners .now)) ∷ [], (LL.val tRequest.the-type tRequest-laws.the-laws request ∷ [], (sliceVal (bits .ptr) (length (bits .now)) ∷ [], tt)))))
 
   abbrev Told : Paged → List ℕ → Type 0
-  Told r bits′ = (r ≡ pageAnswer (now (p .words)) (now (q .words)) request (length (now bits))) × (bits′ ≡ pageBits (now (p .words)) (now (q .words)) request (now bits))
+  Told r bits′ = (r ≡ pageAnswer (now (p .words)) (now (q .words)) (now owners) request (length (now bits))) × (bits′ ≡ pageBits (now (p .words)) (now (q .words)) (now owners) request (now bits))
 
   abbrev Post : Val → SProp 𝓤
-  Post = walkOf 𝓤 H A page-at′.ended stayed (page-at′.clauses 𝓤 H A mem run) .post ((κs, (π, (π′, (π′′, tt))), tt, a, vals), tt)
+  Post = walkOf 𝓤 H A page-at′.ended stayed (page-at′.clauses 𝓤 H A mem run) .post ((κs, (π, (π′, (π′′, (π′′′, tt)))), tt, a, vals), tt)
 
   abbrev Toks : Item 𝓤
-  Toks = ‵ (flft κ π) ⊛ ‵ (flft κ′ π′) ⊛ ‵ (flft κ′′ π′′) ⊛ ‵ ftrue
+  Toks = ‵ (flft κ π) ⊛ ‵ (flft κ′ π′) ⊛ ‵ (flft κ′′ π′′) ⊛ ‵ (flft κ′′′ π′′′) ⊛ ‵ ftrue
 
-  abbrev args : RefT (List ℤ) × (RefT (List ℤ) × (Request × (RefT (List ℕ) × (Unit {0}))))
-  args = (p .words, (q .words, (request, (bits, tt))))
+  abbrev args : RefT (List ℤ) × (RefT (List ℤ) × (RefT (List ℕ) × (Request × (RefT (List ℕ) × (Unit {0})))))
+  args = (p .words, (q .words, (owners, (request, (bits, tt)))))
 
   abbrev passed : Vals page″.signature κs
-  passed = (wv p ∷ [], (wv q ∷ [], (LL.val tRequest.the-type tRequest-laws.the-laws request ∷ [], (sliceVal (bits .ptr) (length (bits .now)) ∷ [], tt))))
+  passed = (wv p ∷ [], (wv q ∷ [], (sliceVal (owners .ptr) (length (owners .now)) ∷ [], (LL.val tRequest.the-type tRequest-laws.the-laws request ∷ [], (sliceVal (bits .ptr) (length (bits .now)) ∷ [], tt)))))
 
   abbrev to : Callee 𝓤 H A mem run .Ghost
-  to = ((κs, (π, (π′, (π′′, tt))), tt, args, passed), tt)
+  to = ((κs, (π, (π′, (π′′, (π′′′, tt)))), tt, args, passed), tt)
 
-  asked : ent 𝓤 (onEntry 𝓤 H A page″.signature κs (π, (π′, (π′′, tt))) args passed) (Callee 𝓤 H A mem run .pre to)
-  asked = qed W (Toks ∷ ‵ (owns (ShrSlice (named 0) (κs .0) i32 ∷ ShrSlice (named 1) (κs .1 .0) i32 ∷ tRequest.the-row ∷ MutSlice (named 2) (κs .1 .1 .0) u64 ∷ []) args passed) ∷ []) ∵ join ! $ frame ! $ done !
+  asked : ent 𝓤 (onEntry 𝓤 H A page″.signature κs (π, (π′, (π′′, (π′′′, tt)))) args passed) (Callee 𝓤 H A mem run .pre to)
+  asked = qed W (Toks ∷ ‵ (owns (ShrSlice (named 0) (κs .0) i32 ∷ ShrSlice (named 1) (κs .1 .0) i32 ∷ ShrSlice (named 2) (κs .1 .1 .0) u8 ∷ tRequest.the-row ∷ MutSlice (named 3) (κs .1 .1 .1 .0) u64 ∷ []) args passed) ∷ []) ∵ join ! $ frame ! $ done !
 
-  module _ (p-is : Holds (hasTy (T′.mir (named 0)) (T′.lowered p)) × WT (T′.lowered p)) (q-is : Holds (hasTy (T′.mir (named 1)) (T′.lowered q)) × WT (T′.lowered q)) (request-is : Is (tRequest.the-row) request (LL.val tRequest.the-type tRequest-laws.the-laws request ∷ [])) (bits-is : Room u64 (length (bits .now))) where
+  module _ (p-is : Holds (hasTy (T′.mir (named 0)) (T′.lowered p)) × WT (T′.lowered p)) (q-is : Holds (hasTy (T′.mir (named 1)) (T′.lowered q)) × WT (T′.lowered q)) (owners-is : Is (ShrSlice (named 2) (κs .1 .1 .0) u8) owners (sliceVal (owners .ptr) (length (owners .now)) ∷ [])) (request-is : Is (tRequest.the-row) request (LL.val tRequest.the-type tRequest-laws.the-laws request ∷ [])) (bits-is : Room u64 (length (bits .now))) where
     -- what the parameters own gives what the call asks, and is kept
-    apart : ent 𝓤 (onEntry 𝓤 H A page-at′.signature κs (π, (π′, (π′′, tt))) a vals) (sep 𝓤 (Callee 𝓤 H A mem run .pre to) (sep 𝓤 (sem 𝓤 H A (Own (β κs) q)) (sem 𝓤 H A (Own (α κs) p))))
+    apart : ent 𝓤 (onEntry 𝓤 H A page-at′.signature κs (π, (π′, (π′′, (π′′′, tt)))) a vals) (sep 𝓤 (Callee 𝓤 H A mem run .pre to) (sep 𝓤 (sem 𝓤 H A (ShrSlice (named 2) (κs .1 .1 .0) u8 .own owners (sliceVal (owners .ptr) (length (owners .now)) ∷ []))) (sep 𝓤 (sem 𝓤 H A (Own (β κs) q)) (sem 𝓤 H A (Own (α κs) p)))))
     apart =
-        qed W (Toks ∷ ‵ (owns (T.the-row (α κs) ∷ T.the-row (β κs) ∷ tRequest.the-row ∷ MutSlice (named 2) (κs .1 .1 .0) u64 ∷ []) a vals) ∷ []) ∵
-        move ! (1 ∷ []) $ fsplit ! $ use1 W (‵ (S (α κs) p) ⊛ ‵ (Own (α κs) p)) (out 𝓤 H A W (α κs) p) $ split ! $ move ! (2 ∷ []) $ fsplit ! $ use1 W (‵ (S (β κs) q) ⊛ ‵ (Own (β κs) q)) (out 𝓤 H A W (β κs) q) $ split ! $ move ! (2 ∷ []) $ fsplit ! $ drop ! $ fsplit ! $ move ! (1 ∷ []) $ drop ! $ nothing ! $
-        move ! (1 ∷ 0 ∷ []) $ fjoin ! $ owned ! tRequest.the-row (Is tRequest.the-row) (LL.makes tRequest.the-type tRequest-laws.the-plain 𝓤 H A) request _ request-is $ fjoin ! $ move ! (1 ∷ 0 ∷ []) $ fjoin ! $ move ! (2 ∷ 0 ∷ []) $ fjoin ! $
-        move ! (3 ∷ 0 ∷ []) $ use2 W (raw (Callee 𝓤 H A mem run .pre to)) asked $ frame ! $ done !
+        qed W (Toks ∷ ‵ (owns (T.the-row (α κs) ∷ T.the-row (β κs) ∷ ShrSlice (named 2) (κs .1 .1 .0) u8 ∷ tRequest.the-row ∷ MutSlice (named 3) (κs .1 .1 .1 .0) u64 ∷ []) a vals) ∷ []) ∵
+        move ! (1 ∷ []) $ fsplit ! $ use1 W (‵ (S (α κs) p) ⊛ ‵ (Own (α κs) p)) (out 𝓤 H A W (α κs) p) $ split ! $ move ! (2 ∷ []) $ fsplit ! $ use1 W (‵ (S (β κs) q) ⊛ ‵ (Own (β κs) q)) (out 𝓤 H A W (β κs) q) $ split ! $ move ! (2 ∷ []) $ fsplit ! $ use1 W (‵ (ShrSlice (named 2) (κs .1 .1 .0) u8 .own owners (sliceVal (owners .ptr) (length (owners .now)) ∷ [])) ⊛ ‵ (ShrSlice (named 2) (κs .1 .1 .0) u8 .own owners (sliceVal (owners .ptr) (length (owners .now)) ∷ []))) (shr-slice-copy 𝓤 H A W (named 2) (κs .1 .1 .0) u8 .twice owners (sliceVal (owners .ptr) (length (owners .now)) ∷ [])) $ split ! $ move ! (2 ∷ []) $ fsplit ! $ drop ! $ fsplit ! $ move ! (1 ∷ []) $ drop ! $ nothing ! $
+        move ! (1 ∷ 0 ∷ []) $ fjoin ! $ owned ! tRequest.the-row (Is tRequest.the-row) (LL.makes tRequest.the-type tRequest-laws.the-plain 𝓤 H A) request _ request-is $ fjoin ! $ move ! (1 ∷ 0 ∷ []) $ fjoin ! $ move ! (2 ∷ 0 ∷ []) $ fjoin ! $ move ! (3 ∷ 0 ∷ []) $ fjoin ! $
+        move ! (4 ∷ 0 ∷ []) $ use2 W (raw (Callee 𝓤 H A mem run .pre to)) asked $ frame ! $ done !
 
-    exits : (r : Paged) (u : Val) (bits′ : List ℕ) (bits-long : length bits′ ≡ length (bits .now)) → Told r bits′ → ent 𝓤 (⋆ 𝓤 H A (‵ (tPaged.the-row .own r (u ∷ [])) ∷ Toks ∷ ‵ (finally u64 (bits .name) bits′) ∷ ‵ (Own (β κs) q) ∷ ‵ (Own (α κs) p) ∷ [])) (Post u)
+    exits : (r : Paged) (u : Val) (bits′ : List ℕ) (bits-long : length bits′ ≡ length (bits .now)) → Told r bits′ → ent 𝓤 (⋆ 𝓤 H A (‵ (tPaged.the-row .own r (u ∷ [])) ∷ Toks ∷ ‵ (finally u64 (bits .name) bits′) ∷ ‵ (ShrSlice (named 2) (κs .1 .1 .0) u8 .own owners (sliceVal (owners .ptr) (length (owners .now)) ∷ [])) ∷ ‵ (Own (β κs) q) ∷ ‵ (Own (α κs) p) ∷ [])) (Post u)
     exits r u bits′ bits-long e =
-        qed W (‵ (tPaged.the-row .own r (u ∷ [])) ∷ Toks ∷ ‵ (finally u64 (bits .name) bits′) ∷ ‵ (Own (β κs) q) ∷ ‵ (Own (α κs) p) ∷ []) ∵
-        suffices ! _ (ends-at 𝓤 H A page-at′.ended stayed (page-at′.clauses 𝓤 H A mem run) W ((κs, (π, (π′, (π′′, tt))), tt, a, vals), tt) u r (tt, (tt, (tt, (bits′, tt)))) (tt, (tt, (tt, (bits-long, tt))))) $ says ! e $
-        move ! (1 ∷ []) $ frame ! $ nothing ! $ move ! (2 ∷ 0 ∷ []) $ fjoin ! $ owned ! tRequest.the-row (Is tRequest.the-row) (LL.makes tRequest.the-type tRequest-laws.the-plain 𝓤 H A) request _ request-is $ fjoin ! $ move ! (2 ∷ 0 ∷ []) $ fjoin ! $ move ! (2 ∷ 0 ∷ []) $ fjoin ! $ frame ! $ done !
+        qed W (‵ (tPaged.the-row .own r (u ∷ [])) ∷ Toks ∷ ‵ (finally u64 (bits .name) bits′) ∷ ‵ (ShrSlice (named 2) (κs .1 .1 .0) u8 .own owners (sliceVal (owners .ptr) (length (owners .now)) ∷ [])) ∷ ‵ (Own (β κs) q) ∷ ‵ (Own (α κs) p) ∷ []) ∵
+        suffices ! _ (ends-at 𝓤 H A page-at′.ended stayed (page-at′.clauses 𝓤 H A mem run) W ((κs, (π, (π′, (π′′, (π′′′, tt)))), tt, a, vals), tt) u r (tt, (tt, (tt, (tt, (bits′, tt))))) (tt, (tt, (tt, (tt, (bits-long, tt)))))) $ says ! e $
+        move ! (1 ∷ []) $ frame ! $ nothing ! $ move ! (2 ∷ 0 ∷ []) $ fjoin ! $ owned ! tRequest.the-row (Is tRequest.the-row) (LL.makes tRequest.the-type tRequest-laws.the-plain 𝓤 H A) request _ request-is $ fjoin ! $ move ! (2 ∷ 0 ∷ []) $ fjoin ! $ move ! (2 ∷ 0 ∷ []) $ fjoin ! $ move ! (2 ∷ 0 ∷ []) $ fjoin ! $ frame ! $ done !
 
     module _ (C : Calls 𝓤 H) (Λ : Loops 𝓤 H) (fm : FmC 𝓤 H (W .laws) C) (known : Triple 𝓤 (C #callee) (Callee 𝓤 H A mem run)) where
-      walk : ent 𝓤 (onEntry 𝓤 H A page-at′.signature κs (π, (π′, (π′′, tt))) a vals) (WpFn 𝓤 H C Λ code.function (T′.lowered p ∷ T′.lowered q ∷ LL.val tRequest.the-type tRequest-laws.the-laws request ∷ sliceVal (bits .ptr) (length (bits .now)) ∷ []) Post)
+      walk : ent 𝓤 (onEntry 𝓤 H A page-at′.signature κs (π, (π′, (π′′, (π′′′, tt)))) a vals) (WpFn 𝓤 H C Λ code.function (T′.lowered p ∷ T′.lowered q ∷ sliceVal (owners .ptr) (length (owners .now)) ∷ LL.val tRequest.the-type tRequest-laws.the-laws request ∷ sliceVal (bits .ptr) (length (bits .now)) ∷ []) Post)
       walk =
-          qed W (raw (onEntry 𝓤 H A page-at′.signature κs (π, (π′, (π′′, tt))) a vals) ∷ []) ∵ enter ! C Λ code.function (T′.lowered p ∷ T′.lowered q ∷ LL.val tRequest.the-type tRequest-laws.the-laws request ∷ sliceVal (bits .ptr) (length (bits .now)) ∷ []) _ $
-          alloc1 ! (λ l0. alloc1 ! (λ l1. alloc1 ! (λ l2. alloc1 ! (λ l3. alloc1 ! (λ l4. alloc1 ! (λ l5. alloc1 ! (λ l6. alloc1 ! (λ l7. alloc1 ! (λ l8. alloc0 ! $ params1 ! $
-          pass1 ! (init ! 14 refl p-is) $ pass1 ! (init ! 12 refl q-is) $ pass1 ! (init ! 10 refl (LL.lawful tRequest.the-type tRequest-laws.the-laws 𝓤 H A W .typed request _ request-is .0)) $ pass1 ! (init ! 8 refl (tt, (tt, (record { fits = bits-is .0 }, tt)))) $ pass0 ! $
-          assigns ! (of-opd ! (load ! (from ! (fld ! refl (stop !))) (look-in ! 14 (sub ! 0 refl (whole !))))) (from ! (stop !)) (init ! 6 refl (tt, p-is .1 .0)) $
-          assigns ! (of-opd ! (load ! (from ! (fld ! refl (stop !))) (look-in ! 12 (sub ! 0 refl (whole !))))) (from ! (stop !)) (init ! 4 refl (tt, q-is .1 .0)) $
+          qed W (raw (onEntry 𝓤 H A page-at′.signature κs (π, (π′, (π′′, (π′′′, tt)))) a vals) ∷ []) ∵ enter ! C Λ code.function (T′.lowered p ∷ T′.lowered q ∷ sliceVal (owners .ptr) (length (owners .now)) ∷ LL.val tRequest.the-type tRequest-laws.the-laws request ∷ sliceVal (bits .ptr) (length (bits .now)) ∷ []) _ $
+          alloc1 ! (λ l0. alloc1 ! (λ l1. alloc1 ! (λ l2. alloc1 ! (λ l3. alloc1 ! (λ l4. alloc1 ! (λ l5. alloc1 ! (λ l6. alloc1 ! (λ l7. alloc1 ! (λ l8. alloc1 ! (λ l9. alloc0 ! $ params1 ! $
+          pass1 ! (init ! 16 refl p-is) $ pass1 ! (init ! 14 refl q-is) $ pass1 ! (init ! 12 refl (shr-slice-lawful 𝓤 H A W (named 2) (κs .1 .1 .0) u8 .typed owners _ owners-is .0)) $ pass1 ! (init ! 10 refl (LL.lawful tRequest.the-type tRequest-laws.the-laws 𝓤 H A W .typed request _ request-is .0)) $ pass1 ! (init ! 8 refl (tt, (tt, (record { fits = bits-is .0 }, tt)))) $ pass0 ! $
+          assigns ! (of-opd ! (load ! (from ! (fld ! refl (stop !))) (look-in ! 16 (sub ! 0 refl (whole !))))) (from ! (stop !)) (init ! 6 refl (tt, p-is .1 .0)) $
+          assigns ! (of-opd ! (load ! (from ! (fld ! refl (stop !))) (look-in ! 14 (sub ! 0 refl (whole !))))) (from ! (stop !)) (init ! 4 refl (tt, q-is .1 .0)) $
           assigns ! (addr ! (from ! (fld ! refl (hop ! (look-in ! 8 (sub ! 0 refl (whole !))) (stop !))))) (from ! (stop !)) (init ! 2 refl (tt, tt)) $ assigns ! (agg ! (and-then ! (load ! (from ! (stop !)) (look ! 2 refl)) (and-then ! (load ! (from ! (fld ! refl (stop !))) (look-in ! 8 (sub ! 1 refl (whole !)))) (no-more !)))) (from ! (stop !)) (init ! 0 refl (tt, (tt, (record { fits = bits-is .0 }, tt)))) $
-          move ! (18 ∷ []) $ use1 W (raw (Callee 𝓤 H A mem run .pre to) ⊛ (‵ (Own (β κs) q) ⊛ ‵ (Own (α κs) p))) apart $ split ! $
-          calls-at ! fm (Callee 𝓤 H A mem run) known to (and-then ! (load ! (from ! (stop !)) (look ! 8 refl)) (and-then ! (load ! (from ! (stop !)) (look ! 6 refl)) (and-then ! (load ! (from ! (stop !)) (look ! 12 refl)) (and-then ! (load ! (from ! (stop !)) (look ! 2 refl)) (no-more !))))) (λ u.
+          move ! (20 ∷ []) $ use1 W (raw (Callee 𝓤 H A mem run .pre to) ⊛ (‵ (ShrSlice (named 2) (κs .1 .1 .0) u8 .own owners (sliceVal (owners .ptr) (length (owners .now)) ∷ [])) ⊛ (‵ (Own (β κs) q) ⊛ ‵ (Own (α κs) p)))) apart $ split ! $
+          calls-at ! fm (Callee 𝓤 H A mem run) known to (and-then ! (load ! (from ! (stop !)) (look ! 8 refl)) (and-then ! (load ! (from ! (stop !)) (look ! 6 refl)) (and-then ! (load ! (from ! (stop !)) (look ! 14 refl)) (and-then ! (load ! (from ! (stop !)) (look ! 12 refl)) (and-then ! (load ! (from ! (stop !)) (look ! 2 refl)) (no-more !)))))) (λ u.
           use1 W (later (some (λ (r : Paged). (Toks ⊛ ‵ (tPaged.the-row .own r (u ∷ []))) ⊛ raw (ensured 𝓤 H A page″.ended (page″.clauses 𝓤 H A mem run) κs args tt r)))) (id⊢ 𝓤 _) $ await ! tt $ pick ! (λ r.
-          split ! $ move ! (1 ∷ []) $ use1 W (some (λ (zs : Unit {0} × (Unit {0} × (Unit {0} × (List ℕ × (Unit {0}))))). ‵ (lasts page″.ended κs args zs) ⊛ raw (fact 𝓤 (Told r (zs .1 .1 .1 .0))))) (id⊢ 𝓤 _) $ pick ! (λ zs.
-          split ! $ move ! (1 ∷ []) $ heard ! (Told r (zs .1 .1 .1 .0)) (λ e. fsplit ! $ drop ! $ fsplit ! $ drop ! $ fsplit ! $ drop ! $ fsplit ! $ fsplit ! $ move ! (1 ∷ []) $ feqL ! (λ bits-long. move ! (1 ∷ []) $ drop ! $ move ! (1 ∷ []) $ split ! $ move ! (1 ∷ []) $
-          peeks ! tPaged.the-row (Is tPaged.the-row) (shows 𝓤 H A tPaged.the-row) r (u ∷ []) (λ is. move ! (3 ∷ []) $ split ! $ move ! (2 ∷ 3 ∷ 4 ∷ 0 ∷ 1 ∷ []) $
+          split ! $ move ! (1 ∷ []) $ use1 W (some (λ (zs : Unit {0} × (Unit {0} × (Unit {0} × (Unit {0} × (List ℕ × (Unit {0})))))). ‵ (lasts page″.ended κs args zs) ⊛ raw (fact 𝓤 (Told r (zs .1 .1 .1 .1 .0))))) (id⊢ 𝓤 _) $ pick ! (λ zs.
+          split ! $ move ! (1 ∷ []) $ heard ! (Told r (zs .1 .1 .1 .1 .0)) (λ e. fsplit ! $ drop ! $ fsplit ! $ drop ! $ fsplit ! $ drop ! $ fsplit ! $ drop ! $ fsplit ! $ fsplit ! $ move ! (1 ∷ []) $ feqL ! (λ bits-long. move ! (1 ∷ []) $ drop ! $ move ! (1 ∷ []) $ split ! $ move ! (1 ∷ []) $
+          peeks ! tPaged.the-row (Is tPaged.the-row) (shows 𝓤 H A tPaged.the-row) r (u ∷ []) (λ is. move ! (3 ∷ []) $ split ! $ move ! (1 ∷ []) $ split ! $ move ! (3 ∷ 4 ∷ 5 ∷ 2 ∷ 0 ∷ 1 ∷ []) $
           -- [the answer; the tokens; the lent slices; what was kept; the locals, the last first]
-          land ! (from ! (stop !)) (init ! 21 refl (LL.lawful tPaged.the-type tPaged-laws.the-laws 𝓤 H A W .typed r _ is .0)) $
-          returns ! (look ! 21 refl) $ forget ! 5 refl $ forget ! 7 refl $ forget ! 9 refl $ forget ! 11 refl $ forget ! 13 refl $ forget ! 15 refl $ forget ! 17 refl $ forget ! 19 refl $ forget ! 21 refl $
-          move ! (21 ∷ 22 ∷ []) $ free1 ! $ move ! (19 ∷ 20 ∷ []) $ free1 ! $ move ! (17 ∷ 18 ∷ []) $ free1 ! $ move ! (15 ∷ 16 ∷ []) $ free1 ! $ move ! (13 ∷ 14 ∷ []) $ free1 ! $ move ! (11 ∷ 12 ∷ []) $ free1 ! $ move ! (9 ∷ 10 ∷ []) $ free1 ! $ move ! (7 ∷ 8 ∷ []) $ free1 ! $ move ! (5 ∷ 6 ∷ []) $ free1 ! $ free0 ! $
-          by ! (exits r u (zs .1 .1 .1 .0) bits-long e))))))))))))))))
+          land ! (from ! (stop !)) (init ! 24 refl (LL.lawful tPaged.the-type tPaged-laws.the-laws 𝓤 H A W .typed r _ is .0)) $
+          returns ! (look ! 24 refl) $ forget ! 6 refl $ forget ! 8 refl $ forget ! 10 refl $ forget ! 12 refl $ forget ! 14 refl $ forget ! 16 refl $ forget ! 18 refl $ forget ! 20 refl $ forget ! 22 refl $ forget ! 24 refl $
+          move ! (24 ∷ 25 ∷ []) $ free1 ! $ move ! (22 ∷ 23 ∷ []) $ free1 ! $ move ! (20 ∷ 21 ∷ []) $ free1 ! $ move ! (18 ∷ 19 ∷ []) $ free1 ! $ move ! (16 ∷ 17 ∷ []) $ free1 ! $ move ! (14 ∷ 15 ∷ []) $ free1 ! $ move ! (12 ∷ 13 ∷ []) $ free1 ! $ move ! (10 ∷ 11 ∷ []) $ free1 ! $ move ! (8 ∷ 9 ∷ []) $ free1 ! $ move ! (6 ∷ 7 ∷ []) $ free1 ! $ free0 ! $
+          by ! (exits r u (zs .1 .1 .1 .1 .0) bits-long e)))))))))))))))))
 
 module _ {M : Type 1} (𝓤 : URA M) (H : Heap 𝓤) (A : Atoms 𝓤) (W : Given 𝓤 H A) (mem : Memory → SProp 𝓤) (run : Routine → Fun 𝓤) where
   walks : (C : Calls 𝓤 H) (Λ : Loops 𝓤 H) → FmC 𝓤 H (W .laws) C → Triple 𝓤 (C #callee) (Callee 𝓤 H A mem run) → Walks 𝓤 H A page-at′.ended stayed (WpFn 𝓤 H C Λ code.function) (page-at′.clauses 𝓤 H A mem run)
   walks C Λ fm known = walked 𝓤 H A page-at′.ended stayed (page-at′.clauses 𝓤 H A mem run) (WpFn 𝓤 H C Λ code.function)
-      (λ κs. (LL.vals (T.the-type (α κs)) (T′.the-laws (α κs)), (LL.vals (T.the-type (β κs)) (T′.the-laws (β κs)), (LL.vals tRequest.the-type tRequest-laws.the-laws, (slice-vals, tt))))) (λ κs. (LL.tells (T.the-type (α κs)) (T′.the-laws (α κs)), (LL.tells (T.the-type (β κs)) (T′.the-laws (β κs)), (LL.tells tRequest.the-type tRequest-laws.the-laws, (mut-slice-tells (named 2) (κs .1 .1 .0) u64, tt)))))
-      (λ κs qs bounds a g are. via 𝓤 _ (fst∗ 𝓤 _ (emp 𝓤)) (walk 𝓤 H A W mem run (κs .0) (κs .1 .0) (κs .1 .1 .0) (qs .0) (qs .1 .0) (qs .1 .1 .0) (a .0) (a .1 .0) (a .1 .1 .0) (a .1 .1 .1 .0)
-      (LL.lawful (T.the-type (α κs)) (T′.the-laws (α κs)) 𝓤 H A W .typed (a .0) _ (are .0) .0) (LL.lawful (T.the-type (β κs)) (T′.the-laws (β κs)) 𝓤 H A W .typed (a .1 .0) _ (are .1 .0) .0) (are .1 .1 .0) (are .1 .1 .1 .0 .0 .1) C Λ fm known))
+      (λ κs. (LL.vals (T.the-type (α κs)) (T′.the-laws (α κs)), (LL.vals (T.the-type (β κs)) (T′.the-laws (β κs)), (slice-vals, (LL.vals tRequest.the-type tRequest-laws.the-laws, (slice-vals, tt)))))) (λ κs. (LL.tells (T.the-type (α κs)) (T′.the-laws (α κs)), (LL.tells (T.the-type (β κs)) (T′.the-laws (β κs)), (shr-slice-tells (named 2) (κs .1 .1 .0) u8, (LL.tells tRequest.the-type tRequest-laws.the-laws, (mut-slice-tells (named 3) (κs .1 .1 .1 .0) u64, tt))))))
+      (λ κs qs bounds a g are. via 𝓤 _ (fst∗ 𝓤 _ (emp 𝓤)) (walk 𝓤 H A W mem run (κs .0) (κs .1 .0) (κs .1 .1 .0) (κs .1 .1 .1 .0) (qs .0) (qs .1 .0) (qs .1 .1 .0) (qs .1 .1 .1 .0) (a .0) (a .1 .0) (a .1 .1 .0) (a .1 .1 .1 .0) (a .1 .1 .1 .1 .0)
+      (LL.lawful (T.the-type (α κs)) (T′.the-laws (α κs)) 𝓤 H A W .typed (a .0) _ (are .0) .0) (LL.lawful (T.the-type (β κs)) (T′.the-laws (β κs)) 𝓤 H A W .typed (a .1 .0) _ (are .1 .0) .0) (are .1 .1 .0) (are .1 .1 .1 .0) (are .1 .1 .1 .1 .0 .0 .1) C Λ fm known))
 
 meets : {M : Type 1} (𝓤 : URA M) (H : Heap 𝓤) (A : Atoms 𝓤) (W : Given 𝓤 H A) (mem : Memory → SProp 𝓤) (run : Routine → Fun 𝓤) (𝓣 : Tables 𝓤 H) → Triple 𝓤 (𝓣 .C #callee) (Callee 𝓤 H A mem run)
     → Meets 𝓤 H A page-at′.signature (WpFn 𝓤 H (𝓣 .C) (𝓣 .Λ) code.function) (page-at′.spec 𝓤 H A mem run)
 meets 𝓤 H A W mem run 𝓣 known =
-    walk-meets 𝓤 H A page-at′.ended stayed W (goes-none 𝓤 H A W 3 (λ κs. T.the-row (α κs)) yes (λ κs x f. refl), (goes-none 𝓤 H A W 3 (λ κs. T.the-row (β κs)) yes (λ κs x f. refl), (goes-none 𝓤 H A W 3 (λ κs. tRequest.the-row) yes (λ κs x f. refl), (goes-gave-slice 𝓤 H A W 3 2 tt (plain (λ _. u64)), tt)))) (page-at′.clauses 𝓤 H A mem run)
+    walk-meets 𝓤 H A page-at′.ended stayed W (goes-none 𝓤 H A W 4 (λ κs. T.the-row (α κs)) yes (λ κs x f. refl), (goes-none 𝓤 H A W 4 (λ κs. T.the-row (β κs)) yes (λ κs x f. refl), (goes-none-slice 𝓤 H A W 4 (2 ∷ []) tt (plain (λ _. u8)) yes, (goes-none 𝓤 H A W 4 (λ κs. tRequest.the-row) yes (λ κs x f. refl), (goes-gave-slice 𝓤 H A W 4 3 tt (plain (λ _. u64)), tt))))) (page-at′.clauses 𝓤 H A mem run)
     (WpFn 𝓤 H (𝓣 .C) (𝓣 .Λ) code.function) (WpFn-mono 𝓤 H (W .laws) 𝓣 code.function) (walks 𝓤 H A W mem run (𝓣 .C) (𝓣 .Λ) (fmOf 𝓤 H (W .laws) 𝓣) known)
 
 pub page-at-spec : {M : Type 1} → stated.statement M

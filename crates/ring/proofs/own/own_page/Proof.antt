@@ -44,25 +44,28 @@ returns-3 c =
     let s = c .before .before .before .before .before .before .before .before .before .args in
     own-short _ _ _ _ (s .bits .now) _ (c .before .before .before .before .before .before .before .head-of .ensures) _ (c .before .before .before .before .before .if1 .left) _ (c .before .before .before .before .asked-no .ensures) (c .before .before .before .if2 .left) _ (c .before .before .words-for .ensures) (c .before .if3 .taken) (c .refused3 .ensures)
 
+slice-aggregate-given : tie.Need-slice-aggregate-given
+slice-aggregate-given c = search needs
+
 slice-relend-prefix-given : tie.Need-slice-relend-prefix-given
 slice-relend-prefix-given c = search needs
 
-slice-aggregate-given : tie.Need-slice-aggregate-given
-slice-aggregate-given c = sym (part-long _ _ (omega arith))
+slice-aggregate-given-2 : tie.Need-slice-aggregate-given-2
+slice-aggregate-given-2 c = sym (part-long _ _ (omega arith))
 
 given-requires : tie.Need-given-requires
 given-requires c κs =
-    let o = headed _ _ (c .before .before .before .before .before .before .before .head-of .ensures) (c .before .before .before .before .before .if1 .left) in
-    (o .facts, o .facts, size-in _ _ _ _ _ _ (c .before .before .before .before .asked-no .ensures) (c .before .before .before .if2 .left), part-long _ _ (c .before .if3 .left) ∙ c .before .before .words-for .ensures, of-one _ _)
+    let o = headed _ _ (c .before .before .before .before .before .before .before .before .head-of .ensures) (c .before .before .before .before .before .before .if1 .left) in
+    (o .facts, o .facts, size-in _ _ _ _ _ _ (c .before .before .before .before .before .asked-no .ensures) (c .before .before .before .before .if2 .left), part-long _ _ (c .before .before .if3 .left) ∙ c .before .before .before .words-for .ensures, of-one _ _)
 
 same-length : tie.Need-same-length
 same-length c = search needs
 
 returns-4 : tie.Need-returns-4
 returns-4 c =
-    let s = c .before .before .before .before .before .before .before .before .before .before .before .before .args in
+    let s = c .before .before .before .before .before .before .before .before .before .before .before .before .before .args in
     let g = c .before .before .given .ensures in
-    own-made _ _ _ _ (s .bits .now) _ (c .before .before .before .before .before .before .before .before .before .before .head-of .ensures) _ (c .before .before .before .before .before .before .before .before .if1 .left) _ (c .before .before .before .before .before .before .before .asked-no .ensures) (c .before .before .before .before .before .before .if2 .left) _ (c .before .before .before .before .before .words-for .ensures) (c .before .before .before .before .if3 .left) (g .0) _ (g .1)
+    own-made _ _ _ _ (s .bits .now) _ (c .before .before .before .before .before .before .before .before .before .before .before .head-of .ensures) _ (c .before .before .before .before .before .before .before .before .before .if1 .left) _ (c .before .before .before .before .before .before .before .before .asked-no .ensures) (c .before .before .before .before .before .before .before .if2 .left) _ (c .before .before .before .before .before .before .words-for .ensures) (c .before .before .before .before .before .if3 .left) (g .0) _ (g .1)
 
 pub own-page-spec : {M : Type 1} → statement M
 own-page-spec =
@@ -77,8 +80,9 @@ own-page-spec =
     words-for-requires
     refused-requires-3
     returns-3
-    slice-relend-prefix-given
     slice-aggregate-given
+    slice-relend-prefix-given
+    slice-aggregate-given-2
     given-requires
     same-length
     returns-4)

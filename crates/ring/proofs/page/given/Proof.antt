@@ -10,7 +10,7 @@ use Rattle.ring.proofs.page.given.Tie as tie
 
 made-on-requires : tie.Need-made-on-requires
 made-on-requires c κs =
-    let p = c .before .before .before .before .pre in
+    let p = c .before .before .before .before .before .pre in
     (p .0, p .1, p .2, lent-holds _ _ (omega (arith, p .0 .n-le)) (p .3), p .4)
 
 clear-requires : tie.Need-clear-requires
@@ -28,9 +28,9 @@ same-length c = search needs
 returns : tie.Need-returns
 returns c =
     let m = c .before .before .before .before .before .before .before .before .made-on in
-    let p = c .before .before .before .before .before .before .before .before .before .before .before .before .before .pre in (
-      page-given (p .0) (p .1) _ (p .4) _ _ (p .2) _ (p .3) _ (m .ensures) _ (c .before .source-of .ensures) _ (c .page-from .ensures),
-      c .before .before .before .before .clear .ensures ∙ ap none (m .kept .1 .1 .1 .1 .1 .0),
+    let p = c .before .before .before .before .before .before .before .before .before .before .before .before .before .before .pre in (
+      page-given (p .0) (p .1) _ (p .4) _ _ _ (p .2) _ (p .3) _ (m .ensures) _ (c .before .source-of .ensures) _ (c .page-from .ensures),
+      c .before .before .before .before .clear .ensures ∙ ap none (m .kept .1 .1 .1 .1 .1 .1 .0),
     )
 
 pub given-spec : {M : Type 1} → statement M

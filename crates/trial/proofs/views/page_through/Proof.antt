@@ -25,7 +25,7 @@ use sound.WpLaws.{FmC, fmOf, WpFn-mono}
 use denote.RattleType.{owns}
 use denote.Laws.{Is, shows}
 use denote.Plain.{uint-makes, uint-vals, uint-tells, uint-lawful}
-use denote.Builtin.{i32, u64, usize}
+use denote.Builtin.{i32, u8, u64, usize}
 use denote.Ref.{RefT, NamedLft, now}
 use denote.Signature.{plain, namedLft}
 use denote.Slice.{sliceVal, ShrSlice, MutSlice, Room, finally, slice-vals, shr-slice-tells, mut-slice-tells, shr-slice-lawful, shr-slice-copy}
@@ -60,21 +60,21 @@ use Rattle.trial.proofs.views.page_through as page-through′
 use Rattle.trial.proofs.views.page_through.Statement as stated
 use Rattle.trial.proofs.views.page_through.Code as code
 
-abbrev α : Lfts 3 → NamedLft
-α κs = namedLft 3 0 tt κs
+abbrev α : Lfts 4 → NamedLft
+α κs = namedLft 4 0 tt κs
 
-abbrev β : Lfts 3 → NamedLft
-β κs = namedLft 3 1 tt κs
+abbrev β : Lfts 4 → NamedLft
+β κs = namedLft 4 1 tt κs
 
 abbrev stayed : Stays (page-through′.ended .signature .params) (page-through′.ended .kept)
-stayed = (stay-none-slice (0 ∷ []) tt (plain (λ _. i32)) yes, (stay-none (λ κs. usize) yes, (stay-none (λ κs. usize) yes, (stay-none-slice (1 ∷ []) tt (plain (λ _. i32)) yes, (stay-none (λ κs. usize) yes, (stay-none (λ κs. usize) yes, (stay-none (λ κs. tRequest.the-row) yes, (gave-slice (2 ∷ []) tt (plain (λ _. u64)), tt))))))))
+stayed = (stay-none-slice (0 ∷ []) tt (plain (λ _. i32)) yes, (stay-none (λ κs. usize) yes, (stay-none (λ κs. usize) yes, (stay-none-slice (1 ∷ []) tt (plain (λ _. i32)) yes, (stay-none (λ κs. usize) yes, (stay-none (λ κs. usize) yes, (stay-none-slice (2 ∷ []) tt (plain (λ _. u8)) yes, (stay-none (λ κs. tRequest.the-row) yes, (gave-slice (3 ∷ []) tt (plain (λ _. u64)), tt)))))))))
 
 abbrev Callee : {M : Type 1} (𝓤 : URA M) (H : Heap 𝓤) (A : Atoms 𝓤) (mem : Memory → SProp 𝓤) (run : Routine → Fun 𝓤) → Contract 𝓤
 Callee 𝓤 H A mem run = tripleOf 𝓤 H A page-at″.signature (page-at″.spec 𝓤 H A mem run)
 
-module _ {M : Type 1} (𝓤 : URA M) (H : Heap 𝓤) (A : Atoms 𝓤) (W : Given 𝓤 H A) (mem : Memory → SProp 𝓤) (run : Routine → Fun 𝓤) (κ κ′ κ′′ : Lft) (π π′ π′′ : Share) (p : RefT (List ℤ)) (np : ℕ) (mp : ℕ) (q : RefT (List ℤ)) (nq : ℕ) (mq : ℕ) (request : Request) (bits : RefT (List ℕ)) where
-  abbrev κs : Lfts 3
-  κs = (κ, (κ′, (κ′′, tt)))
+module _ {M : Type 1} (𝓤 : URA M) (H : Heap 𝓤) (A : Atoms 𝓤) (W : Given 𝓤 H A) (mem : Memory → SProp 𝓤) (run : Routine → Fun 𝓤) (κ κ′ κ′′ κ′′′ : Lft) (π π′ π′′ π′′′ : Share) (p : RefT (List ℤ)) (np : ℕ) (mp : ℕ) (q : RefT (List ℤ)) (nq : ℕ) (mq : ℕ) (owners : RefT (List ℕ)) (request : Request) (bits : RefT (List ℕ)) where
+  abbrev κs : Lfts 4
+  κs = (κ, (κ′, (κ′′, (κ′′′, tt))))
 
   abbrev made-p : Sheet
   made-p = record { words = p; n = np; m = mp }
@@ -82,80 +82,80 @@ module _ {M : Type 1} (𝓤 : URA M) (H : Heap 𝓤) (A : Atoms 𝓤) (W : Given
   abbrev made-q : Sheet
   made-q = record { words = q; n = nq; m = mq }
 
-  abbrev a : RefT (List ℤ) × (ℕ × (ℕ × (RefT (List ℤ) × (ℕ × (ℕ × (Request × (RefT (List ℕ) × (Unit {0}))))))))
-  a = (p, (np, (mp, (q, (nq, (mq, (request, (bits, tt))))))))
+  abbrev a : RefT (List ℤ) × (ℕ × (ℕ × (RefT (List ℤ) × (ℕ × (ℕ × (RefT (List ℕ) × (Request × (RefT (List ℕ) × (Unit {0})))))))))
+  a = (p, (np, (mp, (q, (nq, (mq, (owners, (request, (bits, tt)))))))))
 
-  abbrev vals : List Val × (List Val × (List Val × (List Val × (List Val × (List Val × (List Val × (List Val × (Unit {0}))))))))
-  vals = (sliceVal (p .ptr) (length (p .now)) ∷ [], (vint w64 np ∷ [], (vint w64 mp ∷ [], (sliceVal (q .ptr) (length (q .now)) ∷ [], (vint w64 nq ∷ [], (vint w64 mq ∷ [], (LL.val tRequest.the-type tRequest-laws.the-laws request ∷ [], (sliceVal (bits .ptr) (length (bits .now)) ∷ [], tt))))))))
+  abbrev vals : List Val × (List Val × (List Val × (List Val × (List Val × (List Val × (List Val × (List Val × (List Val × (Unit {0})))))))))
+  vals = (sliceVal (p .ptr) (length (p .now)) ∷ [], (vint w64 np ∷ [], (vint w64 mp ∷ [], (sliceVal (q .ptr) (length (q .now)) ∷ [], (vint w64 nq ∷ [], (vint w64 mq ∷ [], (sliceVal (owners .ptr) (length (owners .now)) ∷ [], (LL.val tRequest.the-type tRequest-laws.the-laws request ∷ [], (sliceVal (bits .ptr) (length (bits .now)) ∷ [], tt)))))))))
 
   abbrev Told : Paged → List ℕ → Type 0
-  Told r bits′ = (r ≡ pageAnswer (now p) (now q) request (length (now bits))) × (bits′ ≡ pageBits (now p) (now q) request (now bits))
+  Told r bits′ = (r ≡ pageAnswer (now p) (now q) (now owners) request (length (now bits))) × (bits′ ≡ pageBits (now p) (now q) (now owners) request (now bits))
 
   abbrev Post : Val → SProp 𝓤
-  Post = walkOf 𝓤 H A page-through′.ended stayed (page-through′.clauses 𝓤 H A mem run) .post ((κs, (π, (π′, (π′′, tt))), tt, a, vals), tt)
+  Post = walkOf 𝓤 H A page-through′.ended stayed (page-through′.clauses 𝓤 H A mem run) .post ((κs, (π, (π′, (π′′, (π′′′, tt)))), tt, a, vals), tt)
 
   abbrev Toks : Item 𝓤
-  Toks = ‵ (flft κ π) ⊛ ‵ (flft κ′ π′) ⊛ ‵ (flft κ′′ π′′) ⊛ ‵ ftrue
+  Toks = ‵ (flft κ π) ⊛ ‵ (flft κ′ π′) ⊛ ‵ (flft κ′′ π′′) ⊛ ‵ (flft κ′′′ π′′′) ⊛ ‵ ftrue
 
-  abbrev args : Sheet × (Sheet × (Request × (RefT (List ℕ) × (Unit {0}))))
-  args = (made-p, (made-q, (request, (bits, tt))))
+  abbrev args : Sheet × (Sheet × (RefT (List ℕ) × (Request × (RefT (List ℕ) × (Unit {0})))))
+  args = (made-p, (made-q, (owners, (request, (bits, tt)))))
 
   abbrev passed : Vals page-at″.signature κs
-  passed = (T′.lowered made-p ∷ [], (T′.lowered made-q ∷ [], (LL.val tRequest.the-type tRequest-laws.the-laws request ∷ [], (sliceVal (bits .ptr) (length (bits .now)) ∷ [], tt))))
+  passed = (T′.lowered made-p ∷ [], (T′.lowered made-q ∷ [], (sliceVal (owners .ptr) (length (owners .now)) ∷ [], (LL.val tRequest.the-type tRequest-laws.the-laws request ∷ [], (sliceVal (bits .ptr) (length (bits .now)) ∷ [], tt)))))
 
   abbrev to : Callee 𝓤 H A mem run .Ghost
-  to = ((κs, (π, (π′, (π′′, tt))), tt, args, passed), tt)
+  to = ((κs, (π, (π′, (π′′, (π′′′, tt)))), tt, args, passed), tt)
 
-  asked : ent 𝓤 (onEntry 𝓤 H A page-at″.signature κs (π, (π′, (π′′, tt))) args passed) (Callee 𝓤 H A mem run .pre to)
-  asked = qed W (Toks ∷ ‵ (owns (T.the-row (α κs) ∷ T.the-row (β κs) ∷ tRequest.the-row ∷ MutSlice (named 2) (κs .1 .1 .0) u64 ∷ []) args passed) ∷ []) ∵ join ! $ frame ! $ done !
+  asked : ent 𝓤 (onEntry 𝓤 H A page-at″.signature κs (π, (π′, (π′′, (π′′′, tt)))) args passed) (Callee 𝓤 H A mem run .pre to)
+  asked = qed W (Toks ∷ ‵ (owns (T.the-row (α κs) ∷ T.the-row (β κs) ∷ ShrSlice (named 2) (κs .1 .1 .0) u8 ∷ tRequest.the-row ∷ MutSlice (named 3) (κs .1 .1 .1 .0) u64 ∷ []) args passed) ∷ []) ∵ join ! $ frame ! $ done !
 
-  module _ (p-is : Is (ShrSlice (named 0) (κs .0) i32) p (sliceVal (p .ptr) (length (p .now)) ∷ [])) (np-is : Is (usize) np (vint w64 np ∷ [])) (mp-is : Is (usize) mp (vint w64 mp ∷ [])) (q-is : Is (ShrSlice (named 1) (κs .1 .0) i32) q (sliceVal (q .ptr) (length (q .now)) ∷ [])) (nq-is : Is (usize) nq (vint w64 nq ∷ [])) (mq-is : Is (usize) mq (vint w64 mq ∷ [])) (request-is : Is (tRequest.the-row) request (LL.val tRequest.the-type tRequest-laws.the-laws request ∷ [])) (bits-is : Room u64 (length (bits .now))) where
+  module _ (p-is : Is (ShrSlice (named 0) (κs .0) i32) p (sliceVal (p .ptr) (length (p .now)) ∷ [])) (np-is : Is (usize) np (vint w64 np ∷ [])) (mp-is : Is (usize) mp (vint w64 mp ∷ [])) (q-is : Is (ShrSlice (named 1) (κs .1 .0) i32) q (sliceVal (q .ptr) (length (q .now)) ∷ [])) (nq-is : Is (usize) nq (vint w64 nq ∷ [])) (mq-is : Is (usize) mq (vint w64 mq ∷ [])) (owners-is : Is (ShrSlice (named 2) (κs .1 .1 .0) u8) owners (sliceVal (owners .ptr) (length (owners .now)) ∷ [])) (request-is : Is (tRequest.the-row) request (LL.val tRequest.the-type tRequest-laws.the-laws request ∷ [])) (bits-is : Room u64 (length (bits .now))) where
     -- what the parameters own gives what the call asks, and is kept
-    apart : ent 𝓤 (onEntry 𝓤 H A page-through′.signature κs (π, (π′, (π′′, tt))) a vals) (sep 𝓤 (Callee 𝓤 H A mem run .pre to) (sep 𝓤 (sem 𝓤 H A (ShrSlice (named 1) (κs .1 .0) i32 .own q (sliceVal (q .ptr) (length (q .now)) ∷ []))) (sem 𝓤 H A (ShrSlice (named 0) (κs .0) i32 .own p (sliceVal (p .ptr) (length (p .now)) ∷ [])))))
+    apart : ent 𝓤 (onEntry 𝓤 H A page-through′.signature κs (π, (π′, (π′′, (π′′′, tt)))) a vals) (sep 𝓤 (Callee 𝓤 H A mem run .pre to) (sep 𝓤 (sem 𝓤 H A (ShrSlice (named 2) (κs .1 .1 .0) u8 .own owners (sliceVal (owners .ptr) (length (owners .now)) ∷ []))) (sep 𝓤 (sem 𝓤 H A (ShrSlice (named 1) (κs .1 .0) i32 .own q (sliceVal (q .ptr) (length (q .now)) ∷ []))) (sem 𝓤 H A (ShrSlice (named 0) (κs .0) i32 .own p (sliceVal (p .ptr) (length (p .now)) ∷ []))))))
     apart =
-        qed W (Toks ∷ ‵ (owns (ShrSlice (named 0) (κs .0) i32 ∷ usize ∷ usize ∷ ShrSlice (named 1) (κs .1 .0) i32 ∷ usize ∷ usize ∷ tRequest.the-row ∷ MutSlice (named 2) (κs .1 .1 .0) u64 ∷ []) a vals) ∷ []) ∵
-        move ! (1 ∷ []) $ fsplit ! $ use1 W (‵ (ShrSlice (named 0) (κs .0) i32 .own p (sliceVal (p .ptr) (length (p .now)) ∷ [])) ⊛ ‵ (ShrSlice (named 0) (κs .0) i32 .own p (sliceVal (p .ptr) (length (p .now)) ∷ []))) (shr-slice-copy 𝓤 H A W (named 0) (κs .0) i32 .twice p (sliceVal (p .ptr) (length (p .now)) ∷ [])) $ split ! $ move ! (2 ∷ []) $ fsplit ! $ drop ! $ fsplit ! $ drop ! $ fsplit ! $ use1 W (‵ (ShrSlice (named 1) (κs .1 .0) i32 .own q (sliceVal (q .ptr) (length (q .now)) ∷ [])) ⊛ ‵ (ShrSlice (named 1) (κs .1 .0) i32 .own q (sliceVal (q .ptr) (length (q .now)) ∷ []))) (shr-slice-copy 𝓤 H A W (named 1) (κs .1 .0) i32 .twice q (sliceVal (q .ptr) (length (q .now)) ∷ [])) $ split ! $ move ! (2 ∷ []) $ fsplit ! $ drop ! $ fsplit ! $ drop ! $ fsplit ! $ drop ! $ fsplit ! $ move ! (1 ∷ []) $ drop ! $ nothing ! $
-        move ! (1 ∷ 0 ∷ []) $ fjoin ! $ owned ! tRequest.the-row (Is tRequest.the-row) (LL.makes tRequest.the-type tRequest-laws.the-plain 𝓤 H A) request _ request-is $ fjoin ! $ nothing ! $ owned ! usize (Is usize) (uint-makes 𝓤 H A W w64) mq _ mq-is $ fjoin ! $ owned ! usize (Is usize) (uint-makes 𝓤 H A W w64) nq _ nq-is $ fjoin ! $ move ! (2 ∷ 0 ∷ []) $ fjoin ! $ use1 W (‵ (Own (β κs) made-q)) (own-shut 𝓤 H A W (T.the-type (β κs)) (T′.the-laws (β κs)) (q, (nq, (mq, tt)))) $ fjoin ! $ nothing ! $ owned ! usize (Is usize) (uint-makes 𝓤 H A W w64) mp _ mp-is $ fjoin ! $ owned ! usize (Is usize) (uint-makes 𝓤 H A W w64) np _ np-is $ fjoin ! $ move ! (3 ∷ 0 ∷ []) $ fjoin ! $ use1 W (‵ (Own (α κs) made-p)) (own-shut 𝓤 H A W (T.the-type (α κs)) (T′.the-laws (α κs)) (p, (np, (mp, tt)))) $ fjoin ! $
-        move ! (3 ∷ 0 ∷ []) $ use2 W (raw (Callee 𝓤 H A mem run .pre to)) asked $ frame ! $ done !
+        qed W (Toks ∷ ‵ (owns (ShrSlice (named 0) (κs .0) i32 ∷ usize ∷ usize ∷ ShrSlice (named 1) (κs .1 .0) i32 ∷ usize ∷ usize ∷ ShrSlice (named 2) (κs .1 .1 .0) u8 ∷ tRequest.the-row ∷ MutSlice (named 3) (κs .1 .1 .1 .0) u64 ∷ []) a vals) ∷ []) ∵
+        move ! (1 ∷ []) $ fsplit ! $ use1 W (‵ (ShrSlice (named 0) (κs .0) i32 .own p (sliceVal (p .ptr) (length (p .now)) ∷ [])) ⊛ ‵ (ShrSlice (named 0) (κs .0) i32 .own p (sliceVal (p .ptr) (length (p .now)) ∷ []))) (shr-slice-copy 𝓤 H A W (named 0) (κs .0) i32 .twice p (sliceVal (p .ptr) (length (p .now)) ∷ [])) $ split ! $ move ! (2 ∷ []) $ fsplit ! $ drop ! $ fsplit ! $ drop ! $ fsplit ! $ use1 W (‵ (ShrSlice (named 1) (κs .1 .0) i32 .own q (sliceVal (q .ptr) (length (q .now)) ∷ [])) ⊛ ‵ (ShrSlice (named 1) (κs .1 .0) i32 .own q (sliceVal (q .ptr) (length (q .now)) ∷ []))) (shr-slice-copy 𝓤 H A W (named 1) (κs .1 .0) i32 .twice q (sliceVal (q .ptr) (length (q .now)) ∷ [])) $ split ! $ move ! (2 ∷ []) $ fsplit ! $ drop ! $ fsplit ! $ drop ! $ fsplit ! $ use1 W (‵ (ShrSlice (named 2) (κs .1 .1 .0) u8 .own owners (sliceVal (owners .ptr) (length (owners .now)) ∷ [])) ⊛ ‵ (ShrSlice (named 2) (κs .1 .1 .0) u8 .own owners (sliceVal (owners .ptr) (length (owners .now)) ∷ []))) (shr-slice-copy 𝓤 H A W (named 2) (κs .1 .1 .0) u8 .twice owners (sliceVal (owners .ptr) (length (owners .now)) ∷ [])) $ split ! $ move ! (2 ∷ []) $ fsplit ! $ drop ! $ fsplit ! $ move ! (1 ∷ []) $ drop ! $ nothing ! $
+        move ! (1 ∷ 0 ∷ []) $ fjoin ! $ owned ! tRequest.the-row (Is tRequest.the-row) (LL.makes tRequest.the-type tRequest-laws.the-plain 𝓤 H A) request _ request-is $ fjoin ! $ move ! (1 ∷ 0 ∷ []) $ fjoin ! $ nothing ! $ owned ! usize (Is usize) (uint-makes 𝓤 H A W w64) mq _ mq-is $ fjoin ! $ owned ! usize (Is usize) (uint-makes 𝓤 H A W w64) nq _ nq-is $ fjoin ! $ move ! (3 ∷ 0 ∷ []) $ fjoin ! $ use1 W (‵ (Own (β κs) made-q)) (own-shut 𝓤 H A W (T.the-type (β κs)) (T′.the-laws (β κs)) (q, (nq, (mq, tt)))) $ fjoin ! $ nothing ! $ owned ! usize (Is usize) (uint-makes 𝓤 H A W w64) mp _ mp-is $ fjoin ! $ owned ! usize (Is usize) (uint-makes 𝓤 H A W w64) np _ np-is $ fjoin ! $ move ! (4 ∷ 0 ∷ []) $ fjoin ! $ use1 W (‵ (Own (α κs) made-p)) (own-shut 𝓤 H A W (T.the-type (α κs)) (T′.the-laws (α κs)) (p, (np, (mp, tt)))) $ fjoin ! $
+        move ! (4 ∷ 0 ∷ []) $ use2 W (raw (Callee 𝓤 H A mem run .pre to)) asked $ frame ! $ done !
 
-    exits : (r : Paged) (u : Val) (bits′ : List ℕ) (bits-long : length bits′ ≡ length (bits .now)) → Told r bits′ → ent 𝓤 (⋆ 𝓤 H A (‵ (tPaged.the-row .own r (u ∷ [])) ∷ Toks ∷ ‵ (finally u64 (bits .name) bits′) ∷ ‵ (ShrSlice (named 1) (κs .1 .0) i32 .own q (sliceVal (q .ptr) (length (q .now)) ∷ [])) ∷ ‵ (ShrSlice (named 0) (κs .0) i32 .own p (sliceVal (p .ptr) (length (p .now)) ∷ [])) ∷ [])) (Post u)
+    exits : (r : Paged) (u : Val) (bits′ : List ℕ) (bits-long : length bits′ ≡ length (bits .now)) → Told r bits′ → ent 𝓤 (⋆ 𝓤 H A (‵ (tPaged.the-row .own r (u ∷ [])) ∷ Toks ∷ ‵ (finally u64 (bits .name) bits′) ∷ ‵ (ShrSlice (named 2) (κs .1 .1 .0) u8 .own owners (sliceVal (owners .ptr) (length (owners .now)) ∷ [])) ∷ ‵ (ShrSlice (named 1) (κs .1 .0) i32 .own q (sliceVal (q .ptr) (length (q .now)) ∷ [])) ∷ ‵ (ShrSlice (named 0) (κs .0) i32 .own p (sliceVal (p .ptr) (length (p .now)) ∷ [])) ∷ [])) (Post u)
     exits r u bits′ bits-long e =
-        qed W (‵ (tPaged.the-row .own r (u ∷ [])) ∷ Toks ∷ ‵ (finally u64 (bits .name) bits′) ∷ ‵ (ShrSlice (named 1) (κs .1 .0) i32 .own q (sliceVal (q .ptr) (length (q .now)) ∷ [])) ∷ ‵ (ShrSlice (named 0) (κs .0) i32 .own p (sliceVal (p .ptr) (length (p .now)) ∷ [])) ∷ []) ∵
-        suffices ! _ (ends-at 𝓤 H A page-through′.ended stayed (page-through′.clauses 𝓤 H A mem run) W ((κs, (π, (π′, (π′′, tt))), tt, a, vals), tt) u r (tt, (tt, (tt, (tt, (tt, (tt, (tt, (bits′, tt)))))))) (tt, (tt, (tt, (tt, (tt, (tt, (tt, (bits-long, tt))))))))) $ says ! e $
-        move ! (1 ∷ []) $ frame ! $ nothing ! $ move ! (2 ∷ 0 ∷ []) $ fjoin ! $ owned ! tRequest.the-row (Is tRequest.the-row) (LL.makes tRequest.the-type tRequest-laws.the-plain 𝓤 H A) request _ request-is $ fjoin ! $ owned ! usize (Is usize) (uint-makes 𝓤 H A W w64) mq _ mq-is $ fjoin ! $ owned ! usize (Is usize) (uint-makes 𝓤 H A W w64) nq _ nq-is $ fjoin ! $ move ! (2 ∷ 0 ∷ []) $ fjoin ! $ owned ! usize (Is usize) (uint-makes 𝓤 H A W w64) mp _ mp-is $ fjoin ! $ owned ! usize (Is usize) (uint-makes 𝓤 H A W w64) np _ np-is $ fjoin ! $ move ! (2 ∷ 0 ∷ []) $ fjoin ! $ frame ! $ done !
+        qed W (‵ (tPaged.the-row .own r (u ∷ [])) ∷ Toks ∷ ‵ (finally u64 (bits .name) bits′) ∷ ‵ (ShrSlice (named 2) (κs .1 .1 .0) u8 .own owners (sliceVal (owners .ptr) (length (owners .now)) ∷ [])) ∷ ‵ (ShrSlice (named 1) (κs .1 .0) i32 .own q (sliceVal (q .ptr) (length (q .now)) ∷ [])) ∷ ‵ (ShrSlice (named 0) (κs .0) i32 .own p (sliceVal (p .ptr) (length (p .now)) ∷ [])) ∷ []) ∵
+        suffices ! _ (ends-at 𝓤 H A page-through′.ended stayed (page-through′.clauses 𝓤 H A mem run) W ((κs, (π, (π′, (π′′, (π′′′, tt)))), tt, a, vals), tt) u r (tt, (tt, (tt, (tt, (tt, (tt, (tt, (tt, (bits′, tt))))))))) (tt, (tt, (tt, (tt, (tt, (tt, (tt, (tt, (bits-long, tt)))))))))) $ says ! e $
+        move ! (1 ∷ []) $ frame ! $ nothing ! $ move ! (2 ∷ 0 ∷ []) $ fjoin ! $ owned ! tRequest.the-row (Is tRequest.the-row) (LL.makes tRequest.the-type tRequest-laws.the-plain 𝓤 H A) request _ request-is $ fjoin ! $ move ! (2 ∷ 0 ∷ []) $ fjoin ! $ owned ! usize (Is usize) (uint-makes 𝓤 H A W w64) mq _ mq-is $ fjoin ! $ owned ! usize (Is usize) (uint-makes 𝓤 H A W w64) nq _ nq-is $ fjoin ! $ move ! (2 ∷ 0 ∷ []) $ fjoin ! $ owned ! usize (Is usize) (uint-makes 𝓤 H A W w64) mp _ mp-is $ fjoin ! $ owned ! usize (Is usize) (uint-makes 𝓤 H A W w64) np _ np-is $ fjoin ! $ move ! (2 ∷ 0 ∷ []) $ fjoin ! $ frame ! $ done !
 
     module _ (C : Calls 𝓤 H) (Λ : Loops 𝓤 H) (fm : FmC 𝓤 H (W .laws) C) (known : Triple 𝓤 (C #callee) (Callee 𝓤 H A mem run)) where
-      walk : ent 𝓤 (onEntry 𝓤 H A page-through′.signature κs (π, (π′, (π′′, tt))) a vals) (WpFn 𝓤 H C Λ code.function (sliceVal (p .ptr) (length (p .now)) ∷ vint w64 np ∷ vint w64 mp ∷ sliceVal (q .ptr) (length (q .now)) ∷ vint w64 nq ∷ vint w64 mq ∷ LL.val tRequest.the-type tRequest-laws.the-laws request ∷ sliceVal (bits .ptr) (length (bits .now)) ∷ []) Post)
+      walk : ent 𝓤 (onEntry 𝓤 H A page-through′.signature κs (π, (π′, (π′′, (π′′′, tt)))) a vals) (WpFn 𝓤 H C Λ code.function (sliceVal (p .ptr) (length (p .now)) ∷ vint w64 np ∷ vint w64 mp ∷ sliceVal (q .ptr) (length (q .now)) ∷ vint w64 nq ∷ vint w64 mq ∷ sliceVal (owners .ptr) (length (owners .now)) ∷ LL.val tRequest.the-type tRequest-laws.the-laws request ∷ sliceVal (bits .ptr) (length (bits .now)) ∷ []) Post)
       walk =
-          qed W (raw (onEntry 𝓤 H A page-through′.signature κs (π, (π′, (π′′, tt))) a vals) ∷ []) ∵ enter ! C Λ code.function (sliceVal (p .ptr) (length (p .now)) ∷ vint w64 np ∷ vint w64 mp ∷ sliceVal (q .ptr) (length (q .now)) ∷ vint w64 nq ∷ vint w64 mq ∷ LL.val tRequest.the-type tRequest-laws.the-laws request ∷ sliceVal (bits .ptr) (length (bits .now)) ∷ []) _ $
-          alloc1 ! (λ l0. alloc1 ! (λ l1. alloc1 ! (λ l2. alloc1 ! (λ l3. alloc1 ! (λ l4. alloc1 ! (λ l5. alloc1 ! (λ l6. alloc1 ! (λ l7. alloc1 ! (λ l8. alloc1 ! (λ l9. alloc1 ! (λ l10. alloc1 ! (λ l11. alloc1 ! (λ l12. alloc0 ! $ params1 ! $
-          pass1 ! (init ! 22 refl (shr-slice-lawful 𝓤 H A W (named 0) (κs .0) i32 .typed p _ p-is .0)) $ pass1 ! (init ! 20 refl (uint-lawful 𝓤 H A W w64 .typed np _ np-is .0)) $ pass1 ! (init ! 18 refl (uint-lawful 𝓤 H A W w64 .typed mp _ mp-is .0)) $ pass1 ! (init ! 16 refl (shr-slice-lawful 𝓤 H A W (named 1) (κs .1 .0) i32 .typed q _ q-is .0)) $ pass1 ! (init ! 14 refl (uint-lawful 𝓤 H A W w64 .typed nq _ nq-is .0)) $ pass1 ! (init ! 12 refl (uint-lawful 𝓤 H A W w64 .typed mq _ mq-is .0)) $ pass1 ! (init ! 10 refl (LL.lawful tRequest.the-type tRequest-laws.the-laws 𝓤 H A W .typed request _ request-is .0)) $ pass1 ! (init ! 8 refl (tt, (tt, (record { fits = bits-is .0 }, tt)))) $ pass0 ! $
-          assigns ! (agg ! (and-then ! (load ! (from ! (stop !)) (look ! 22 refl)) (and-then ! (load ! (from ! (stop !)) (look ! 20 refl)) (and-then ! (load ! (from ! (stop !)) (look ! 18 refl)) (no-more !))))) (from ! (stop !)) (init ! 6 refl (tt, (shr-slice-lawful 𝓤 H A W erased (κs .0) i32 .typed p _ p-is .0 .1, (uint-lawful 𝓤 H A W w64 .typed np _ np-is .0 .1, (uint-lawful 𝓤 H A W w64 .typed mp _ mp-is .0 .1, tt))))) $
-          assigns ! (agg ! (and-then ! (load ! (from ! (stop !)) (look ! 16 refl)) (and-then ! (load ! (from ! (stop !)) (look ! 14 refl)) (and-then ! (load ! (from ! (stop !)) (look ! 12 refl)) (no-more !))))) (from ! (stop !)) (init ! 4 refl (tt, (shr-slice-lawful 𝓤 H A W erased (κs .1 .0) i32 .typed q _ q-is .0 .1, (uint-lawful 𝓤 H A W w64 .typed nq _ nq-is .0 .1, (uint-lawful 𝓤 H A W w64 .typed mq _ mq-is .0 .1, tt))))) $
+          qed W (raw (onEntry 𝓤 H A page-through′.signature κs (π, (π′, (π′′, (π′′′, tt)))) a vals) ∷ []) ∵ enter ! C Λ code.function (sliceVal (p .ptr) (length (p .now)) ∷ vint w64 np ∷ vint w64 mp ∷ sliceVal (q .ptr) (length (q .now)) ∷ vint w64 nq ∷ vint w64 mq ∷ sliceVal (owners .ptr) (length (owners .now)) ∷ LL.val tRequest.the-type tRequest-laws.the-laws request ∷ sliceVal (bits .ptr) (length (bits .now)) ∷ []) _ $
+          alloc1 ! (λ l0. alloc1 ! (λ l1. alloc1 ! (λ l2. alloc1 ! (λ l3. alloc1 ! (λ l4. alloc1 ! (λ l5. alloc1 ! (λ l6. alloc1 ! (λ l7. alloc1 ! (λ l8. alloc1 ! (λ l9. alloc1 ! (λ l10. alloc1 ! (λ l11. alloc1 ! (λ l12. alloc1 ! (λ l13. alloc0 ! $ params1 ! $
+          pass1 ! (init ! 24 refl (shr-slice-lawful 𝓤 H A W (named 0) (κs .0) i32 .typed p _ p-is .0)) $ pass1 ! (init ! 22 refl (uint-lawful 𝓤 H A W w64 .typed np _ np-is .0)) $ pass1 ! (init ! 20 refl (uint-lawful 𝓤 H A W w64 .typed mp _ mp-is .0)) $ pass1 ! (init ! 18 refl (shr-slice-lawful 𝓤 H A W (named 1) (κs .1 .0) i32 .typed q _ q-is .0)) $ pass1 ! (init ! 16 refl (uint-lawful 𝓤 H A W w64 .typed nq _ nq-is .0)) $ pass1 ! (init ! 14 refl (uint-lawful 𝓤 H A W w64 .typed mq _ mq-is .0)) $ pass1 ! (init ! 12 refl (shr-slice-lawful 𝓤 H A W (named 2) (κs .1 .1 .0) u8 .typed owners _ owners-is .0)) $ pass1 ! (init ! 10 refl (LL.lawful tRequest.the-type tRequest-laws.the-laws 𝓤 H A W .typed request _ request-is .0)) $ pass1 ! (init ! 8 refl (tt, (tt, (record { fits = bits-is .0 }, tt)))) $ pass0 ! $
+          assigns ! (agg ! (and-then ! (load ! (from ! (stop !)) (look ! 24 refl)) (and-then ! (load ! (from ! (stop !)) (look ! 22 refl)) (and-then ! (load ! (from ! (stop !)) (look ! 20 refl)) (no-more !))))) (from ! (stop !)) (init ! 6 refl (tt, (shr-slice-lawful 𝓤 H A W erased (κs .0) i32 .typed p _ p-is .0 .1, (uint-lawful 𝓤 H A W w64 .typed np _ np-is .0 .1, (uint-lawful 𝓤 H A W w64 .typed mp _ mp-is .0 .1, tt))))) $
+          assigns ! (agg ! (and-then ! (load ! (from ! (stop !)) (look ! 18 refl)) (and-then ! (load ! (from ! (stop !)) (look ! 16 refl)) (and-then ! (load ! (from ! (stop !)) (look ! 14 refl)) (no-more !))))) (from ! (stop !)) (init ! 4 refl (tt, (shr-slice-lawful 𝓤 H A W erased (κs .1 .0) i32 .typed q _ q-is .0 .1, (uint-lawful 𝓤 H A W w64 .typed nq _ nq-is .0 .1, (uint-lawful 𝓤 H A W w64 .typed mq _ mq-is .0 .1, tt))))) $
           assigns ! (addr ! (from ! (fld ! refl (hop ! (look-in ! 8 (sub ! 0 refl (whole !))) (stop !))))) (from ! (stop !)) (init ! 2 refl (tt, tt)) $ assigns ! (agg ! (and-then ! (load ! (from ! (stop !)) (look ! 2 refl)) (and-then ! (load ! (from ! (fld ! refl (stop !))) (look-in ! 8 (sub ! 1 refl (whole !)))) (no-more !)))) (from ! (stop !)) (init ! 0 refl (tt, (tt, (record { fits = bits-is .0 }, tt)))) $
-          move ! (26 ∷ []) $ use1 W (raw (Callee 𝓤 H A mem run .pre to) ⊛ (‵ (ShrSlice (named 1) (κs .1 .0) i32 .own q (sliceVal (q .ptr) (length (q .now)) ∷ [])) ⊛ ‵ (ShrSlice (named 0) (κs .0) i32 .own p (sliceVal (p .ptr) (length (p .now)) ∷ [])))) apart $ split ! $
-          calls-at ! fm (Callee 𝓤 H A mem run) known to (and-then ! (load ! (from ! (stop !)) (look ! 8 refl)) (and-then ! (load ! (from ! (stop !)) (look ! 6 refl)) (and-then ! (load ! (from ! (stop !)) (look ! 12 refl)) (and-then ! (load ! (from ! (stop !)) (look ! 2 refl)) (no-more !))))) (λ u.
+          move ! (28 ∷ []) $ use1 W (raw (Callee 𝓤 H A mem run .pre to) ⊛ (‵ (ShrSlice (named 2) (κs .1 .1 .0) u8 .own owners (sliceVal (owners .ptr) (length (owners .now)) ∷ [])) ⊛ (‵ (ShrSlice (named 1) (κs .1 .0) i32 .own q (sliceVal (q .ptr) (length (q .now)) ∷ [])) ⊛ ‵ (ShrSlice (named 0) (κs .0) i32 .own p (sliceVal (p .ptr) (length (p .now)) ∷ []))))) apart $ split ! $
+          calls-at ! fm (Callee 𝓤 H A mem run) known to (and-then ! (load ! (from ! (stop !)) (look ! 8 refl)) (and-then ! (load ! (from ! (stop !)) (look ! 6 refl)) (and-then ! (load ! (from ! (stop !)) (look ! 14 refl)) (and-then ! (load ! (from ! (stop !)) (look ! 12 refl)) (and-then ! (load ! (from ! (stop !)) (look ! 2 refl)) (no-more !)))))) (λ u.
           use1 W (later (some (λ (r : Paged). (Toks ⊛ ‵ (tPaged.the-row .own r (u ∷ []))) ⊛ raw (ensured 𝓤 H A page-at″.ended (page-at″.clauses 𝓤 H A mem run) κs args tt r)))) (id⊢ 𝓤 _) $ await ! tt $ pick ! (λ r.
-          split ! $ move ! (1 ∷ []) $ use1 W (some (λ (zs : Unit {0} × (Unit {0} × (Unit {0} × (List ℕ × (Unit {0}))))). ‵ (lasts page-at″.ended κs args zs) ⊛ raw (fact 𝓤 (Told r (zs .1 .1 .1 .0))))) (id⊢ 𝓤 _) $ pick ! (λ zs.
-          split ! $ move ! (1 ∷ []) $ heard ! (Told r (zs .1 .1 .1 .0)) (λ e. fsplit ! $ drop ! $ fsplit ! $ drop ! $ fsplit ! $ drop ! $ fsplit ! $ fsplit ! $ move ! (1 ∷ []) $ feqL ! (λ bits-long. move ! (1 ∷ []) $ drop ! $ move ! (1 ∷ []) $ split ! $ move ! (1 ∷ []) $
-          peeks ! tPaged.the-row (Is tPaged.the-row) (shows 𝓤 H A tPaged.the-row) r (u ∷ []) (λ is. move ! (3 ∷ []) $ split ! $ move ! (2 ∷ 3 ∷ 4 ∷ 0 ∷ 1 ∷ []) $
+          split ! $ move ! (1 ∷ []) $ use1 W (some (λ (zs : Unit {0} × (Unit {0} × (Unit {0} × (Unit {0} × (List ℕ × (Unit {0})))))). ‵ (lasts page-at″.ended κs args zs) ⊛ raw (fact 𝓤 (Told r (zs .1 .1 .1 .1 .0))))) (id⊢ 𝓤 _) $ pick ! (λ zs.
+          split ! $ move ! (1 ∷ []) $ heard ! (Told r (zs .1 .1 .1 .1 .0)) (λ e. fsplit ! $ drop ! $ fsplit ! $ drop ! $ fsplit ! $ drop ! $ fsplit ! $ drop ! $ fsplit ! $ fsplit ! $ move ! (1 ∷ []) $ feqL ! (λ bits-long. move ! (1 ∷ []) $ drop ! $ move ! (1 ∷ []) $ split ! $ move ! (1 ∷ []) $
+          peeks ! tPaged.the-row (Is tPaged.the-row) (shows 𝓤 H A tPaged.the-row) r (u ∷ []) (λ is. move ! (3 ∷ []) $ split ! $ move ! (1 ∷ []) $ split ! $ move ! (3 ∷ 4 ∷ 5 ∷ 2 ∷ 0 ∷ 1 ∷ []) $
           -- [the answer; the tokens; the lent slices; what was kept; the locals, the last first]
-          land ! (from ! (stop !)) (init ! 29 refl (LL.lawful tPaged.the-type tPaged-laws.the-laws 𝓤 H A W .typed r _ is .0)) $
-          returns ! (look ! 29 refl) $ forget ! 5 refl $ forget ! 7 refl $ forget ! 9 refl $ forget ! 11 refl $ forget ! 13 refl $ forget ! 15 refl $ forget ! 17 refl $ forget ! 19 refl $ forget ! 21 refl $ forget ! 23 refl $ forget ! 25 refl $ forget ! 27 refl $ forget ! 29 refl $
-          move ! (29 ∷ 30 ∷ []) $ free1 ! $ move ! (27 ∷ 28 ∷ []) $ free1 ! $ move ! (25 ∷ 26 ∷ []) $ free1 ! $ move ! (23 ∷ 24 ∷ []) $ free1 ! $ move ! (21 ∷ 22 ∷ []) $ free1 ! $ move ! (19 ∷ 20 ∷ []) $ free1 ! $ move ! (17 ∷ 18 ∷ []) $ free1 ! $ move ! (15 ∷ 16 ∷ []) $ free1 ! $ move ! (13 ∷ 14 ∷ []) $ free1 ! $ move ! (11 ∷ 12 ∷ []) $ free1 ! $ move ! (9 ∷ 10 ∷ []) $ free1 ! $ move ! (7 ∷ 8 ∷ []) $ free1 ! $ move ! (5 ∷ 6 ∷ []) $ free1 ! $ free0 ! $
-          by ! (exits r u (zs .1 .1 .1 .0) bits-long e))))))))))))))))))))
+          land ! (from ! (stop !)) (init ! 32 refl (LL.lawful tPaged.the-type tPaged-laws.the-laws 𝓤 H A W .typed r _ is .0)) $
+          returns ! (look ! 32 refl) $ forget ! 6 refl $ forget ! 8 refl $ forget ! 10 refl $ forget ! 12 refl $ forget ! 14 refl $ forget ! 16 refl $ forget ! 18 refl $ forget ! 20 refl $ forget ! 22 refl $ forget ! 24 refl $ forget ! 26 refl $ forget ! 28 refl $ forget ! 30 refl $ forget ! 32 refl $
+          move ! (32 ∷ 33 ∷ []) $ free1 ! $ move ! (30 ∷ 31 ∷ []) $ free1 ! $ move ! (28 ∷ 29 ∷ []) $ free1 ! $ move ! (26 ∷ 27 ∷ []) $ free1 ! $ move ! (24 ∷ 25 ∷ []) $ free1 ! $ move ! (22 ∷ 23 ∷ []) $ free1 ! $ move ! (20 ∷ 21 ∷ []) $ free1 ! $ move ! (18 ∷ 19 ∷ []) $ free1 ! $ move ! (16 ∷ 17 ∷ []) $ free1 ! $ move ! (14 ∷ 15 ∷ []) $ free1 ! $ move ! (12 ∷ 13 ∷ []) $ free1 ! $ move ! (10 ∷ 11 ∷ []) $ free1 ! $ move ! (8 ∷ 9 ∷ []) $ free1 ! $ move ! (6 ∷ 7 ∷ []) $ free1 ! $ free0 ! $
+          by ! (exits r u (zs .1 .1 .1 .1 .0) bits-long e)))))))))))))))))))))
 
 module _ {M : Type 1} (𝓤 : URA M) (H : Heap 𝓤) (A : Atoms 𝓤) (W : Given 𝓤 H A) (mem : Memory → SProp 𝓤) (run : Routine → Fun 𝓤) where
   walks : (C : Calls 𝓤 H) (Λ : Loops 𝓤 H) → FmC 𝓤 H (W .laws) C → Triple 𝓤 (C #callee) (Callee 𝓤 H A mem run) → Walks 𝓤 H A page-through′.ended stayed (WpFn 𝓤 H C Λ code.function) (page-through′.clauses 𝓤 H A mem run)
   walks C Λ fm known = walked 𝓤 H A page-through′.ended stayed (page-through′.clauses 𝓤 H A mem run) (WpFn 𝓤 H C Λ code.function)
-      (λ κs. (slice-vals, (uint-vals w64, (uint-vals w64, (slice-vals, (uint-vals w64, (uint-vals w64, (LL.vals tRequest.the-type tRequest-laws.the-laws, (slice-vals, tt))))))))) (λ κs. (shr-slice-tells (named 0) (κs .0) i32, (uint-tells w64, (uint-tells w64, (shr-slice-tells (named 1) (κs .1 .0) i32, (uint-tells w64, (uint-tells w64, (LL.tells tRequest.the-type tRequest-laws.the-laws, (mut-slice-tells (named 2) (κs .1 .1 .0) u64, tt)))))))))
-      (λ κs qs bounds a g are. via 𝓤 _ (fst∗ 𝓤 _ (emp 𝓤)) (walk 𝓤 H A W mem run (κs .0) (κs .1 .0) (κs .1 .1 .0) (qs .0) (qs .1 .0) (qs .1 .1 .0) (a .0) (a .1 .0) (a .1 .1 .0) (a .1 .1 .1 .0) (a .1 .1 .1 .1 .0) (a .1 .1 .1 .1 .1 .0) (a .1 .1 .1 .1 .1 .1 .0) (a .1 .1 .1 .1 .1 .1 .1 .0)
-      (are .0) (are .1 .0) (are .1 .1 .0) (are .1 .1 .1 .0) (are .1 .1 .1 .1 .0) (are .1 .1 .1 .1 .1 .0) (are .1 .1 .1 .1 .1 .1 .0) (are .1 .1 .1 .1 .1 .1 .1 .0 .0 .1) C Λ fm known))
+      (λ κs. (slice-vals, (uint-vals w64, (uint-vals w64, (slice-vals, (uint-vals w64, (uint-vals w64, (slice-vals, (LL.vals tRequest.the-type tRequest-laws.the-laws, (slice-vals, tt)))))))))) (λ κs. (shr-slice-tells (named 0) (κs .0) i32, (uint-tells w64, (uint-tells w64, (shr-slice-tells (named 1) (κs .1 .0) i32, (uint-tells w64, (uint-tells w64, (shr-slice-tells (named 2) (κs .1 .1 .0) u8, (LL.tells tRequest.the-type tRequest-laws.the-laws, (mut-slice-tells (named 3) (κs .1 .1 .1 .0) u64, tt))))))))))
+      (λ κs qs bounds a g are. via 𝓤 _ (fst∗ 𝓤 _ (emp 𝓤)) (walk 𝓤 H A W mem run (κs .0) (κs .1 .0) (κs .1 .1 .0) (κs .1 .1 .1 .0) (qs .0) (qs .1 .0) (qs .1 .1 .0) (qs .1 .1 .1 .0) (a .0) (a .1 .0) (a .1 .1 .0) (a .1 .1 .1 .0) (a .1 .1 .1 .1 .0) (a .1 .1 .1 .1 .1 .0) (a .1 .1 .1 .1 .1 .1 .0) (a .1 .1 .1 .1 .1 .1 .1 .0) (a .1 .1 .1 .1 .1 .1 .1 .1 .0)
+      (are .0) (are .1 .0) (are .1 .1 .0) (are .1 .1 .1 .0) (are .1 .1 .1 .1 .0) (are .1 .1 .1 .1 .1 .0) (are .1 .1 .1 .1 .1 .1 .0) (are .1 .1 .1 .1 .1 .1 .1 .0) (are .1 .1 .1 .1 .1 .1 .1 .1 .0 .0 .1) C Λ fm known))
 
 meets : {M : Type 1} (𝓤 : URA M) (H : Heap 𝓤) (A : Atoms 𝓤) (W : Given 𝓤 H A) (mem : Memory → SProp 𝓤) (run : Routine → Fun 𝓤) (𝓣 : Tables 𝓤 H) → Triple 𝓤 (𝓣 .C #callee) (Callee 𝓤 H A mem run)
     → Meets 𝓤 H A page-through′.signature (WpFn 𝓤 H (𝓣 .C) (𝓣 .Λ) code.function) (page-through′.spec 𝓤 H A mem run)
 meets 𝓤 H A W mem run 𝓣 known =
-    walk-meets 𝓤 H A page-through′.ended stayed W (goes-none-slice 𝓤 H A W 3 (0 ∷ []) tt (plain (λ _. i32)) yes, (goes-none 𝓤 H A W 3 (λ κs. usize) yes (λ κs x f. refl), (goes-none 𝓤 H A W 3 (λ κs. usize) yes (λ κs x f. refl), (goes-none-slice 𝓤 H A W 3 (1 ∷ []) tt (plain (λ _. i32)) yes, (goes-none 𝓤 H A W 3 (λ κs. usize) yes (λ κs x f. refl), (goes-none 𝓤 H A W 3 (λ κs. usize) yes (λ κs x f. refl), (goes-none 𝓤 H A W 3 (λ κs. tRequest.the-row) yes (λ κs x f. refl), (goes-gave-slice 𝓤 H A W 3 2 tt (plain (λ _. u64)), tt)))))))) (page-through′.clauses 𝓤 H A mem run)
+    walk-meets 𝓤 H A page-through′.ended stayed W (goes-none-slice 𝓤 H A W 4 (0 ∷ []) tt (plain (λ _. i32)) yes, (goes-none 𝓤 H A W 4 (λ κs. usize) yes (λ κs x f. refl), (goes-none 𝓤 H A W 4 (λ κs. usize) yes (λ κs x f. refl), (goes-none-slice 𝓤 H A W 4 (1 ∷ []) tt (plain (λ _. i32)) yes, (goes-none 𝓤 H A W 4 (λ κs. usize) yes (λ κs x f. refl), (goes-none 𝓤 H A W 4 (λ κs. usize) yes (λ κs x f. refl), (goes-none-slice 𝓤 H A W 4 (2 ∷ []) tt (plain (λ _. u8)) yes, (goes-none 𝓤 H A W 4 (λ κs. tRequest.the-row) yes (λ κs x f. refl), (goes-gave-slice 𝓤 H A W 4 3 tt (plain (λ _. u64)), tt))))))))) (page-through′.clauses 𝓤 H A mem run)
     (WpFn 𝓤 H (𝓣 .C) (𝓣 .Λ) code.function) (WpFn-mono 𝓤 H (W .laws) 𝓣 code.function) (walks 𝓤 H A W mem run (𝓣 .C) (𝓣 .Λ) (fmOf 𝓤 H (W .laws) 𝓣) known)
 
 pub page-through-spec : {M : Type 1} → stated.statement M
