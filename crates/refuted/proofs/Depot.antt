@@ -1,24 +1,28 @@
 -- Wrong readings of the depot's forms.
 use mathlib.Core.Path.{_≡_, refl, ap}
 use mathlib.Core.Bool.{Bool, true, false, not, _&&_, true≢false}
-use mathlib.Core.List.{List, [], _∷_, map}
-use Prim.Native.Nat.{ℕ}
+use mathlib.Core.List.{List, [], _∷_, _++_, map}
+use Prim.Native.Nat.{ℕ, _-_}
 use lib.Dec.{eqb, leb, ltb}
-use lib.ListN.{length, take}
+use lib.ListN.{length, take, getD, set, replicate}
 use Rattle.plane.specs.Profile.{sizeOk}
 use Rattle.words.specs.Range.{idOk, editionOk}
+use Rattle.words.specs.All.{allB}
 use Rattle.words.specs.First.{given, first, answer}
+use Rattle.plane.specs.Rule.{sameSpot, blocks}
 use Rattle.list.specs.declared.Pair.{Pair}
 use Rattle.list.specs.declared.Source.{Source}
-use Rattle.list.specs.Terms.{withT}
+use Rattle.list.specs.Rows.{row, rows, atLeast, listBy}
+use Rattle.list.specs.RingList.{unblocked, ringPairBy}
+use Rattle.list.specs.Terms.{withT, pairFor, listedFor, listFor}
 use Rattle.book.specs.declared.Book.{Book}
 use Rattle.depot.specs.declared.Form.{Form}
 use Rattle.depot.specs.declared.Depot.{Depot}
 use Rattle.depot.specs.declared.Outcome.{Outcome}
 use Rattle.depot.specs.declared.Outcome.the-variants.{Issued, Known, Refused}
-use Rattle.depot.specs.Forms.{formOf, formsNo, formsOf}
+use Rattle.depot.specs.Forms.{formOf, formsNo, formsOf, formsOut}
 use Rattle.depot.specs.Depot.{begunDepot, sameForm, keyIn, formOk, storeNoAt, judged, isKnown, storeNo, verdict, stored, storedSlots}
-use Rattle.refuted.proofs.Cases.{to}
+use Rattle.refuted.proofs.Cases.{to, pumps, chambers}
 
 -- an order of a two-sheet book of editions 7 and 9; of a self join; with another size
 abbrev form : Bool → ℕ → Bool → ℕ → ℕ → ℕ → Form
@@ -146,6 +150,17 @@ pub newest-first-wrong : (newestFirst two (order 6 2 37) ≡ order 6 2 37 ∷ or
 unfolding storedSlots verdict judged storeNoAt isKnown keyIn sameForm formOk idOk editionOk first given answer
 newest-first-wrong = (refl, refl)
 
+-- A key is issued again. "The depot never holds two forms with one key." [I9]
+abbrev issuedAgain : Depot → List Form → Form → List Form
+issuedAgain d l f = set l (d .held) f
+
+abbrev oneKey : List Form → Bool
+oneKey l = sameForm (getD l 0 (order 1 1 1)) (getD l 1 (order 2 2 2))
+
+pub issued-again-wrong : (oneKey (issuedAgain (holding 1) two (order 5 1 16)) ≡ true) × (oneKey (storedSlots (holding 1) two (order 5 1 16)) ≡ false)
+unfolding storedSlots verdict judged storeNoAt isKnown keyIn sameForm formOk idOk editionOk first given answer
+issued-again-wrong = (refl, refl)
+
 abbrev isNew : Outcome → Bool
 isNew Issued = true
 isNew Known = false
@@ -192,3 +207,20 @@ closedOnly b = given (not (b .closed)) 12
 pub closed-only-wrong : (closedOnly (book 1) ≡ 12) × (formsNo (book 1) 2 2 ≡ 0)
 unfolding formsNo first given
 closed-only-wrong = (refl, refl)
+
+-- The places past the forms are cleared. "in a lent slice": the rest of it isn't touched. [I2]
+abbrev old : List Form
+old = order 8 8 8 ∷ order 9 9 9 ∷ []
+
+abbrev placesCleared : Book → List Form
+placesCleared b = formsOf b pairs ++ replicate (length old - b .held) (order 0 0 0)
+
+pub places-cleared-wrong : (placesCleared (book 1) ≡ order 5 1 16 ∷ order 0 0 0 ∷ []) × (formsOut (book 1) pairs old ≡ order 5 1 16 ∷ order 9 9 9 ∷ [])
+unfolding formsOut formsOf formOf formsNo first given answer
+places-cleared-wrong = (refl, refl)
+
+-- The orders under a book's editions, kind, contractor and profile are those of its own t. They are those of the full list, of which another book may be: the t is in no form. [I12]
+pub t-alone-wrong :
+    (listFor (withT 3) [] pumps chambers ≡ []) × (listFor (withT 0) [] pumps chambers ≡ to 5 1 16 ∷ to 5 2 36 ∷ to 6 2 37 ∷ []) × (formOf (source 0) (to 5 1 16) ≡ formOf (source 3) (to 5 1 16))
+unfolding formOf listFor listedFor pairFor atLeast listBy rows row ringPairBy unblocked allB sameSpot blocks
+t-alone-wrong = (refl, refl, refl)

@@ -1,18 +1,19 @@
 -- Wrong readings of the rules. Each is a definition with the sentence that it breaks, and a theorem `NAME-wrong`: a case that tells it from the right one, or that
 -- no answer of its kind meets the promise. docs/PROMISES.md names them all, as `refuted NAME`.
---     Cases       what the cases are made of: the document's two sets
---     Plane       the ring rule, the filter's rules, rules (1) and (2) of boxes
---     List        the list, a chamber's partners, the self join, pages, what list a page is of
---     Sheet       words in files, the sheet, the packer
---     Walk        the kept set and the two walks
---     Pages       counts of nodes opened, numbers of refusal, a chamber's partners
---     Book        begin, the next key, take
---     Depot       the depot's forms: their key, taking and making them
---     Runs        one run per leaf
---     Nearest     nearest first: the order, the filter, the lent numbers
---     Shortest    the shortest circles
---     Streets     the street grid: what blocks, boxes, sizes, numbers
---     Marker      the map marker
+--     Cases          what the cases are made of: the document's two sets
+--     Plane          the ring rule, the filter's rules, rules (1) and (2) of boxes
+--     List           the list, a chamber's partners, the self join, pages, what list a page is of
+--     Sheet          words in files, the sheet, the packer
+--     Walk           the kept set and the two walks
+--     Pages          counts of nodes opened, numbers of refusal, a chamber's partners
+--     Book           begin, the next key, take
+--     Depot          the depot's forms: their key, taking and making them
+--     Runs           one run per leaf
+--     Nearest        nearest first: the order, the filter, the lent numbers
+--     Shortest       the shortest circles
+--     Streets        the street grid: what blocks, boxes, sizes, numbers
+--     Contractors    two contractors: whose a chamber is, what each is handed, numbers
+--     Marker         the map marker
 pub mod Cases
 pub mod Plane
 pub mod List
@@ -25,4 +26,5 @@ pub mod Runs
 pub mod Nearest
 pub mod Shortest
 pub mod Streets
+pub mod Contractors
 pub mod Marker

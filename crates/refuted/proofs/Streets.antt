@@ -1,6 +1,6 @@
 -- Wrong readings of the street grid.
 use mathlib.Core.Path.{_≡_, refl}
-use mathlib.Core.Bool.{Bool, true, false, not, _&&_}
+use mathlib.Core.Bool.{Bool, true, false, cond, not, _&&_}
 use mathlib.Core.List.{List, [], _∷_}
 use Prim.Native.Nat.{ℕ, _+_, _*_}
 use lib.Dec.{eqb, leb, ltb}
@@ -14,7 +14,7 @@ use Rattle.plane.specs.declared.Spot.{Spot}
 use Rattle.plane.specs.declared.Boxed.{Boxed}
 use Rattle.plane.specs.Rule.{spot, sameSpot, inBox, blocks, drops, dropsBox}
 use Rattle.plane.specs.Point.{Point}
-use Rattle.plane.specs.Profile.{circle, grid, streets, across, centre, away, blocksBy, farBy, insideBy, sideIn, sizeOk}
+use Rattle.plane.specs.Profile.{circle, grid, streets, across, centre, away, blocksBy, farBy, insideBy, cornersIn, sideIn, sizeOk}
 use Rattle.sheet.specs.Layout.{second}
 use Rattle.sheet.specs.Order.{orderOf}
 use Rattle.sheet.specs.Nodes.{levelOf, firstOf, countOf}
@@ -24,15 +24,15 @@ use Rattle.bits.specs.Set.{digit, at as bitAt, kept, with, none, some}
 use Rattle.list.specs.declared.Source.{Source}
 use Rattle.list.specs.declared.Key.{Key}
 use Rattle.list.specs.Pages.{sameKind, sameProfile, sourceNo}
-use Rattle.list.specs.Rows.{row, rows, listBy}
+use Rattle.list.specs.Rows.{row, rows, atLeast, listBy}
 use Rattle.list.specs.RingList.{unblocked, ringPairBy, ringListBy}
-use Rattle.list.specs.Terms.{withBy, aloneBy}
+use Rattle.list.specs.Terms.{withBy, aloneBy, pairFor, listedFor, listFor}
 use Rattle.walk.specs.Walk.{inTurn, walk, walkAll}
 use Rattle.walk.specs.FilterWalk.{dropped, shut, consider, filterPlace, filterTake, filterVisit, filterKept, filterKeeps, keepsBy, keepsOpened}
 use Rattle.ring.specs.Numbers.{gridNo}
 use Rattle.ring.specs.Page.{keyNo, askedNo}
 use Rattle.book.specs.Rules.{pairOk}
-use Rattle.refuted.proofs.Cases.{to, key, words, pumpSheet, chamberSheet}
+use Rattle.refuted.proofs.Cases.{to, key, words, pumpSheet, widePumps, chamberSheet}
 use Rattle.refuted.proofs.Cases as cases
 
 abbrev at : ℕ → ℕ → Spot
@@ -105,6 +105,14 @@ pub touching-streets-wrong :
 unfolding sideIn insideBy blocksBy sameSpot
 touching-streets-wrong = (refl, refl, refl)
 
+-- Right is named before bottom, as of the circle: "the first that qualifies of left, bottom, right, top". [A5]
+abbrev streetsRightFirst : Spot → Spot → Boxed → ℕ
+streetsRightFirst a b o = cond (cornersIn grid a b o 0) 0 (cond (cornersIn grid a b o 2) 2 (cond (cornersIn grid a b o 1) 1 (cond (cornersIn grid a b o 3) 3 4)))
+
+pub streets-right-first-wrong : (streetsRightFirst (at 0 0) (at 8 0) (box 2 1 5 2) ≡ 2) × (sideIn grid (at 0 0) (at 8 0) (box 2 1 5 2) ≡ 1)
+unfolding sideIn insideBy
+streets-right-first-wrong = (refl, refl)
+
 -- ---- what is kept, and counted
 
 -- two pump houses, (17,7) and (20,0), and the one chamber at (0,0)
@@ -127,6 +135,12 @@ filtered-streets-wrong = (refl, refl, refl)
 pub counted-filter-wrong : (filterKept 1 houses (at 0 0) .opened ≡ 1) × (keepsOpened grid 1 houses (at 0 0) ≡ 0)
 unfolding keepsOpened filterKept filterVisit filterTake filterPlace consider dropped shut some walkAll walk inTurn none kept with bitAt digit levelOf firstOf countOf boxOf sideOf spotOf orderOf num drops dropsBox blocks sameSpot inBox
 counted-filter-wrong = (refl, refl)
+
+-- A book of the street grid is of the circle's list. "Demand 3 holds for either": each for its own list. [A10]
+pub circle-list-wrong :
+    (listFor (withBy false 0) [] housePoints chamberPoint ≡ to 5 1 338 ∷ []) × (listFor (withBy true 0) [] housePoints chamberPoint ≡ to 5 1 576 ∷ to 5 2 400 ∷ [])
+unfolding listFor listedFor pairFor atLeast listBy rows row ringPairBy unblocked allB sameSpot blocks blocksBy
+circle-list-wrong = (refl, refl)
 
 -- ---- the size
 
@@ -153,10 +167,6 @@ unfolding pairOk idOk sizeOk
 street-limit-wrong = (refl, refl)
 
 -- ---- the numbers
-
--- the document's pump houses in form 2
-abbrev widePumps : List ℤ
-widePumps = words (1 ∷ 0 ∷ 0 ∷ 2 ∷ 10 ∷ 0 ∷ 0 ∷ 1 ∷ 0 ∷ 1 ∷ 0 ∷ 0 ∷ 2 ∷ 0 ∷ 0 ∷ 10 ∷ 0 ∷ 17 ∷ 7 ∷ 2 ∷ 1 ∷ 7 ∷ 2 ∷ [])
 
 -- 29 after 9. "29 a form 2 sheet, after 26 and before 9". [A13]
 abbrev formAfterKey : List ℤ → List ℤ → Key → ℕ
