@@ -21,7 +21,9 @@ use Rattle.list.specs.declared.Source.{Source}
 use Rattle.list.specs.declared.Terms.{Terms}
 use Rattle.list.specs.RingList.{pairBy}
 use Rattle.list.specs.Rows.{row, atLeast, Rising}
+use Rattle.list.specs.Contractor.{mine}
 use Rattle.list.specs.Terms.{pairFor, listedFor, listFor, profileFor}
+use Rattle.list.proofs.ContractorLaws.{contractor-most}
 use Rattle.list.proofs.TermsLaws.{for-only, for-iff, for-ids, for-size}
 use Rattle.book.specs.declared.Book.{Book}
 use Rattle.book.specs.declared.Begun.the-variants as begun
@@ -64,16 +66,18 @@ forms-long b s h = length-map (take (b .held) s) (formOf (b .source)) ∙ length
 
 -- ---- a book's list with a t is a part of the full one
 
-module _ (a : Terms) (P Q : List Point) (rp : Rising (idAt P) (length P)) (rq : Rising (idAt Q) (length Q)) where
-  pub in-full : (v : Pair) → List·Memᴰ v (listFor a P Q) → List·Memᴰ v (listFor (noT a) P Q)
+module _ (a : Terms) (o : List ℕ) (P Q : List Point) (rp : Rising (idAt P) (length P)) (rq : Rising (idAt Q) (length Q)) where
+  pub in-full : (v : Pair) → List·Memᴰ v (listFor a o P Q) → List·Memᴰ v (listFor (noT a) o P Q)
   unfolding listedFor atLeast pairFor
   in-full v m =
-      let z = for-only a P Q rp rq v m in
+      let z = for-only a o P Q rp rq v m in
       let j = z .at-q in
       let i = z .at-p in
       let n = length (row (pairFor a P Q) (pairBy (profileFor a) P Q) j (length P) 0) in
-      let holds : pairFor a P Q j i ≡ true = and-left (pairFor a P Q j i) _ (z .holds) in
-      subst (λ (u : Pair). List·Memᴰ u (listFor (noT a) P Q)) (sym (z .is)) (for-iff (noT a) P Q rp rq j i (z .q-in) (z .p-in) .1 (and-both (pairFor a P Q j i) (leb 0 n) holds (le-leb 0 n (omega arith))))
+      let mine-j = mine (a .contractor) o j in
+      let own : mine-j ≡ true = and-left mine-j _ (z .holds) in
+      let holds : pairFor a P Q j i ≡ true = and-left (pairFor a P Q j i) _ (and-right mine-j _ (z .holds)) in
+      subst (λ (u : Pair). List·Memᴰ u (listFor (noT a) o P Q)) (sym (z .is)) (for-iff (noT a) o P Q rp rq j i (z .q-in) (z .p-in) .1 (and-both mine-j (pairFor a P Q j i && leb 0 n) own (and-both (pairFor a P Q j i) (leb 0 n) holds (le-leb 0 n (omega arith)))))
 
 module _ (w : Editions) where
   -- ---- where a genuine form comes from
@@ -120,7 +124,7 @@ module _ (w : Editions) where
   pub record InRange (s : Source) : Type 0 where
     pub p-fine : editionOk (s .«p_edition») ≡ true
     pub q-fine : editionOk (s .«q_edition») ≡ true
-    pub contractor-fine : leb (contractorOf s) lastContractor ≡ true
+    pub contractor-fine : leb (s .terms .contractor) lastContractor ≡ true
 
   begun-fine : (s : Source) → beginNo s ≡ 0 → InRange s
   unfolding beginNo
@@ -128,7 +132,7 @@ module _ (w : Editions) where
       let x = editionOk (s .«p_edition») in
       let y = editionOk (s .«q_edition») in
       let z = and-left (x && y) (oneSheet s) (given-held _ (none-applies _ .0 e 0)) in
-      record { p-fine = and-left x y z; q-fine = and-right x y z; contractor-fine = refl }
+      record { p-fine = and-left x y z; q-fine = and-right x y z; contractor-fine = le-leb _ _ (contractor-most (s .terms .own) (s .terms .contractor) (none-applies _ .0 e 3)) }
 
   pub book-fine : {b : Book} {s : List Pair} → History w b s → InRange (b .source)
   book-fine (began s b slots a) = let z = begun-with s b (a .promised) in subst InRange (sym (z .1)) (begun-fine s (z .0))
@@ -142,7 +146,7 @@ module _ (w : Editions) where
       let z = formed f g in
       let s = z .b .source in
       let r = book-fine (z .history) in
-      let i = for-ids (s .terms) (pumpsOf w s) (chambersOf w s) (pumps-rise w s) (chambers-rise w s) (z .v) (z .listed) in
+      let i = for-ids (s .terms) (w .owners (s .«q_edition»)) (pumpsOf w s) (chambersOf w s) (pumps-rise w s) (chambers-rise w s) (z .v) (z .listed) in
       ap formOk (z .is) ∙ rw (r .p-fine, r .q-fine, r .contractor-fine, i .0, i .1)
 
   -- ---- and says all of it
@@ -156,17 +160,17 @@ module _ (w : Editions) where
 
   -- two pairs of lists of the same points and the same profile with the same ids have one size
   one-size : (s t : Source) (u v : Pair) → s .terms .grid ≡ t .terms .grid → pumpsOf w s ≡ pumpsOf w t → chambersOf w s ≡ chambersOf w t
-      → List·Memᴰ u (listFor (s .terms) (pumpsOf w s) (chambersOf w s)) → List·Memᴰ v (listFor (t .terms) (pumpsOf w t) (chambersOf w t)) → u .q ≡ v .q → u .p ≡ v .p → u .size ≡ v .size
+      → List·Memᴰ u (listFor (s .terms) (w .owners (s .«q_edition»)) (pumpsOf w s) (chambersOf w s)) → List·Memᴰ v (listFor (t .terms) (w .owners (t .«q_edition»)) (pumpsOf w t) (chambersOf w t)) → u .q ≡ v .q → u .p ≡ v .p → u .size ≡ v .size
   one-size s t u v eg ep eq mu mv q p =
       let P = pumpsOf w s in
       let Q = chambersOf w s in
-      let z = for-only (s .terms) P Q (pumps-rise w s) (chambers-rise w s) u mu in
+      let z = for-only (s .terms) (w .owners (s .«q_edition»)) P Q (pumps-rise w s) (chambers-rise w s) u mu in
       let j = z .at-q in
       let i = z .at-p in
       let at-j : idAt (chambersOf w t) j ≡ v .q = ap (λ (x : List Point). idAt x j) (sym eq) ∙ sym (ap (λ (x : Pair). x .q) (z .is)) ∙ q in
       let at-i : idAt (pumpsOf w t) i ≡ v .p = ap (λ (x : List Point). idAt x i) (sym ep) ∙ sym (ap (λ (x : Pair). x .p) (z .is)) ∙ p in
       let size : v .size ≡ profileFor (t .terms) .size (spotAt (chambersOf w t) j) (spotAt (pumpsOf w t) i) =
-      for-size (t .terms) (pumpsOf w t) (chambersOf w t) (pumps-rise w t) (chambers-rise w t) v mv j i (subst (λ (x : List Point). j < length x) eq (z .q-in)) (subst (λ (x : List Point). i < length x) ep (z .p-in)) at-j at-i in
+      for-size (t .terms) (w .owners (t .«q_edition»)) (pumpsOf w t) (chambersOf w t) (pumps-rise w t) (chambers-rise w t) v mv j i (subst (λ (x : List Point). j < length x) eq (z .q-in)) (subst (λ (x : List Point). i < length x) ep (z .p-in)) at-j at-i in
       ap (λ (x : Pair). x .size) (z .is) ∙ (λ k. profileOf (eg k) .size (spotAt (eq k) j) (spotAt (ep k) i)) ∙ sym size
 
   -- "genuine forms with one key are one form, sizes too"
@@ -195,8 +199,9 @@ module _ (w : Editions) where
       let q : t .«q_edition» ≡ s .«q_edition» = sym (ap (λ (z : Form). z .«q_edition») (x .is)) ∙ u .q-edition in
       let o : t .terms .own ≡ s .terms .own = sym (ap (λ (z : Form). z .own) (x .is)) ∙ u .kind in
       let g′ : t .terms .grid ≡ s .terms .grid = sym (ap (λ (z : Form). z .grid) (x .is)) ∙ u .profile in
-      let m = in-full (t .terms) (pumpsOf w t) (chambersOf w t) (pumps-rise w t) (chambers-rise w t) (x .v) (x .listed) in
-      let l : listFor (noT (t .terms)) (pumpsOf w t) (chambersOf w t) ≡ fullList w b = λ i. listFor (record { threshold = 0; own = o i; grid = g′ i }) (same-pumps t s p q o i) (same-chambers t s q o i) in (
+      let c : t .terms .contractor ≡ s .terms .contractor = sym (ap (λ (z : Form). z .contractor) (x .is)) ∙ u .contractor in
+      let m = in-full (t .terms) (w .owners (t .«q_edition»)) (pumpsOf w t) (chambersOf w t) (pumps-rise w t) (chambers-rise w t) (x .v) (x .listed) in
+      let l : listFor (noT (t .terms)) (w .owners (t .«q_edition»)) (pumpsOf w t) (chambersOf w t) ≡ fullList w b = λ i. listFor (record { threshold = 0; contractor = c i; own = o i; grid = g′ i }) (w .owners (q i)) (same-pumps t s p q o i) (same-chambers t s q o i) in (
         x .v,
         subst (List·Memᴰ (x .v)) l m,
         λ i. record { «p_edition» = u .p-edition i; «q_edition» = u .q-edition i; own = u .kind i; contractor = u .contractor i; grid = u .profile i; q = x .is i .q; p = x .is i .p; size = x .is i .size },

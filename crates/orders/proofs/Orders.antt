@@ -252,7 +252,7 @@ module _ (w : Editions) where
 
   -- of a book with no t, the full list is the book's
   pub full-is : (b : Book) → b .source .terms .threshold ≡ 0 → fullList w b ≡ bookList w b
-  full-is b e = ap (λ (x : Terms). listFor x (pumpsOf w (b .source)) (chambersOf w (b .source))) same
+  full-is b e = ap (λ (x : Terms). listFor x (w .owners (b .source .«q_edition»)) (pumpsOf w (b .source)) (chambersOf w (b .source))) same
     where
       same : noT (b .source .terms) ≡ b .source .terms
-      same = λ i. record { threshold = sym e i; own = b .source .terms .own; grid = b .source .terms .grid }
+      same = λ i. record { threshold = sym e i; contractor = b .source .terms .contractor; own = b .source .terms .own; grid = b .source .terms .grid }

@@ -76,12 +76,12 @@ pub record OrderOf (s : Source) (chamber pump : ℕ) (f : Form) : Type 0 where
 
 -- the terms with no t: those of the full list
 abbrev pub noT : Terms → Terms
-noT a = record { threshold = 0; own = a .own; grid = a .grid }
+noT a = record { threshold = 0; contractor = a .contractor; own = a .own; grid = a .grid }
 
 module _ (w : Editions) where
   -- the full list under a book's editions, kind, contractor and profile, whatever the book's t [I12]
   abbrev pub fullList : Book → List Pair
-  fullList b = listFor (noT (b .source .terms)) (pumpsOf w (b .source)) (chambersOf w (b .source))
+  fullList b = listFor (noT (b .source .terms)) (w .owners (b .source .«q_edition»)) (pumpsOf w (b .source)) (chambersOf w (b .source))
 
   -- a form "not altered or invented": one of those that `forms` made, at some time, of a book and its slots as they stood at some time of a history of demand 3: of a closed
   -- book or of one that was still open [I8, I13]
