@@ -17,8 +17,6 @@
 --     next-is-last    its next key is its last pair
 --     can-ask, can-close    where there is a sheet of each of its editions, a book can ask, and so be closed
 -- Assumes nothing. [O6]
-use Rattle.ring.proofs.PageLaws.{forms-reach}
-use Rattle.ring.specs.Numbers.{gridNo}
 use mathlib.Core.Path.{_≡_, refl, sym, ap, ap₂, subst, _∙_}
 use mathlib.Core.Bool.{Bool, true, false, cond}
 use mathlib.Core.Logic.{_⊎_, ⊎-elim}
@@ -51,6 +49,8 @@ use Rattle.list.proofs.Order.{last-holds}
 use Rattle.list.proofs.PageLaws.{shown-count, length-padded}
 use Rattle.list.proofs.TermsLaws.{for-size, for-keys}
 use Rattle.join.proofs.Meaning.{points-sound}
+use Rattle.ring.specs.Numbers.{gridNo}
+use Rattle.ring.proofs.PageLaws.{forms-reach}
 use Rattle.ring.specs.Lent.{need}
 use Rattle.ring.specs.Page.{sourceOf, pageGiven, pageAnswer, pageBits}
 use Rattle.ring.specs.Own.{ownAnswer, ownBits}
