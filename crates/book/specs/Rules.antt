@@ -36,7 +36,7 @@ abbrev pub ownWithT : Source → Bool
 ownWithT s = s .terms .own && not (eqb (s .terms .threshold) 0)
 
 -- 3: an edition out of range, or a self join of two editions; then 21 "t outside 0 to 1,000 [..] after [..] 3 for begin", and for a self join "21 with a t"; then
--- "27 contractor outside 0 to 2, or not 2 for a self join, for begin after 21" [N24, T10, J12, J13]
+-- "27 contractor outside 0 to 2, or not 2 for a self join, for begin after 21" [N24, T10, J12, J13, U13]
 unfoldable pub beginNo : Source → ℕ
 beginNo s =
     first
@@ -46,7 +46,8 @@ beginNo s =
     ∷ contractorNo (s .terms .own) (s .terms .contractor)
     ∷ [])
 
--- "A book is begun for two editions with nothing held, open, key (0, 0)." "Pages and books now carry t", "say their kind" and "carry the contractor": it is begun for these too. [K1, T5]
+-- "A book is begun for two editions with nothing held, open, key (0, 0)." "Pages and books now carry t", "say their kind" and "carry the contractor": it is begun for these too.
+-- [K1, T5]
 unfoldable pub begunBook : Source → Book
 begunBook s = record { held = 0; closed = false; source = s }
 
@@ -143,7 +144,7 @@ refused b m = record { n = 0; taken = record { number = m; book = b } }
 unfoldable pub decidedAt : Book → ℕ → Key → Page → Decided
 decidedAt b len k g = answer (takeNoAt b len k g) (accepted b g) (refused b)
 
--- the number of refusal of a page, of any state and slice [N32, T11, J11, A14]
+-- the number of refusal of a page, of any state and slice [N32, T11, J11, A14, U15]
 unfoldable pub takeNo : Book → List Pair → Page → ℕ
 takeNo b slots g = takeNoAt b (length slots) (lastKey (b .held) slots) g
 

@@ -28,13 +28,13 @@ module _ (c : ℕ) (one : c < 2) (P Q : List ℤ) (o : List ℕ) (P′ Q′ : Li
     (p-opens : sheetNo P ≡ 0) (q-opens : sheetNo Q ≡ 0) (p-opens′ : sheetNo P′ ≡ 0) (q-opens′ : sheetNo Q′ ≡ 0)
     (p-points : pointsOf P ≡ pointsOf P′) (p-seen : SameSeen P P′) (q-seen : SameSeen Q Q′) (renamed : Renamed c (pointsOf Q) o (pointsOf Q′) o′) where
   -- "equal requests give the first contractor equal pages or refusals": any request of contractor c, also one that is refused, and one whose key names a chamber of the other's; with as many words lent.
-  -- "opened counts go to us only": of them nothing is said.
+  -- "opened counts go to us only": of them nothing is said. [U5]
   pub blind-page : (ask : Request) → ask .contractor ≡ c → (w : List ℕ) (r r′ : Paged) (t t′ : List ℕ) → PageAnswers P Q o ask w r t → PageAnswers P′ Q′ o′ ask w r′ t′
       → (r .number ≡ r′ .number) × (r .page ≡ r′ .page) × (t ≡ t′)
   blind-page ask is w r r′ t t′ a b =
       of-blind.blind c one P Q o P′ Q′ o′ (sheets-both P Q p-opens q-opens) (sheets-both P′ Q′ p-opens′ q-opens′) p-points p-seen q-seen renamed ask is w r r′ t t′ (a .promised) (b .promised)
 
-  -- "Two firms now work [..] each with its own book": what the contractor's book makes of the page is then the same, too
+  -- "Two firms now work [..] each with its own book": what the contractor's book makes of the page is then the same, too [U6]
   pub blind-book : (ask : Request) → ask .contractor ≡ c → (w : List ℕ) (r r′ : Paged) (t t′ : List ℕ) → PageAnswers P Q o ask w r t → PageAnswers P′ Q′ o′ ask w r′ t′
       → (b : Book) (s : List Pair) (x x′ : Taken) (s₁ s₁′ : List Pair) → TakeAnswers b s (r .page) x s₁ → TakeAnswers b s (r′ .page) x′ s₁′ → (x ≡ x′) × (s₁ ≡ s₁′)
   blind-book ask is w r r′ t t′ a d b s x x′ s₁ s₁′ y z =

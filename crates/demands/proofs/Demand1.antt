@@ -176,7 +176,7 @@ ring-no P Q j i g r a = (ap walkedNo (a .promised) ∙ of-ring.ring-walk-no P Q 
 -- ---- the page request, 1 to 8 for P, then for Q, then 27, then 26, then 29, then 9, then 10, then 21, then 24: refused, the page is all zero, and so is its count, and the lent words
 -- are as they were
 
--- [N4, T9, T10, Y13, Y15, A13]
+-- [N4, T9, T10, Y13, Y15, A13, U13, U14]
 pub page-no : (P Q : List ℤ) (o : List ℕ) (ask : Request) (w : List ℕ) (r : Paged) (w′ : List ℕ) → PageAnswers P Q o ask w r w′
     → (r .number ≡ pageNo P Q o ask (length w)) × (Refuses (pageNo P Q o ask (length w)) → (r ≡ pageRefused (pageNo P Q o ask (length w))) × (w′ ≡ w))
 unfolding pageBits
@@ -248,7 +248,7 @@ unfolding begunNo
 only-begun k (begun.Open b) e ne = absurd (ne (sym e))
 only-begun k (begun.Refused n) e ne = ap begun.Refused e
 
--- [N24, T9, T10, J12, J13, Y13, F10]
+-- [N24, T9, T10, J12, J13, Y13, U13, F10]
 pub begin-no : (s : Source) (r : Begun) → BeginAnswers s r → (begunNo r ≡ beginNo s) × (Refuses (beginNo s) → r ≡ begun.Refused (beginNo s))
 begin-no s r a =
     let e : begunNo r ≡ beginNo s = ap begunNo (a .promised) ∙ of-book.book-begin-no s in
@@ -270,7 +270,7 @@ next-no b slots r a =
 
 -- ---- take, 11, 12, 22, 13, 31, 14, 15, 16: refused, the book comes back as it went in, and every slot is as it stood
 
--- [N3, N26, N27, N28, N29, N30, N31, N32, T11, J11, A14]
+-- [N3, N26, N27, N28, N29, N30, N31, N32, T11, J11, A14, U15]
 pub take-no : (b : Book) (slots : List Pair) (g : Page) (r : Taken) (slots′ : List Pair) → TakeAnswers b slots g r slots′
     → (r .number ≡ takeNo b slots g) × (Refuses (takeNo b slots g) → (r .book ≡ b) × (slots′ ≡ slots))
 take-no b slots g r slots′ a =

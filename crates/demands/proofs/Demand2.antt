@@ -298,7 +298,7 @@ module _ (P Q : List ℤ) (p-opens : WellFormed P) (q-opens : WellFormed Q) wher
 
         -- "The page holds both editions, the key, the first `size` ring pairs strictly after the key (fewer if fewer follow), their number and an end mark, set exactly
         -- when no ring pair follows the last one shown, or follows the key if none is shown." "Unused pairs are three zeros." "Pages and books now carry t, 0 for the full
-        -- list"; of a self join "with one edition in both fields and t 0"; "Pages and books carry the contractor, or 2 for an undivided list". [P3, P4, T4, J4, J5, D2]
+        -- list"; of a self join "with one edition in both fields and t 0"; "Pages and books carry the contractor, or 2 for an undivided list". [P3, P4, T4, J4, J5, U9, U11, D2]
         pub page-pairs : (r .number ≡ 0) × (r .page ≡ pageOf (sourceOf P Q a) List-of key size)
         unfolding pageGiven
         page-pairs = (ap (λ (x : Paged). x .number) page-is, ap (λ (x : Paged). x .page) page-is)
@@ -315,7 +315,7 @@ module _ (P Q : List ℤ) (p-opens : WellFormed P) (q-opens : WellFormed Q) wher
         -- "Beside the page stands its count of nodes opened": that of the walks as they are defined, the filter walks' kept sets on the words that are needed.
         -- "With t above 0 a page's count takes in all kept partners of each chamber reached, the last one too": `walksFor` of join/specs/Threshold.
         -- Of a self join "the filter passes over q, and kept partners of higher id get one ring walk": `walksBy` of join/specs/Sheets.
-        -- Of a contractor's list "Only its own chambers are filtered and counted": `pageWalks` of join/specs/Only. [P8, T7, J4, J9]
+        -- Of a contractor's list "Only its own chambers are filtered and counted": `pageWalks` of join/specs/Only. [P8, T7, J4, J9, U7]
         pub page-opened : r .opened ≡ pageOpened (pageWalks a o (need P) P Q (points P)) key size (points P) (points Q)
         unfolding pageGiven
         page-opened = ap (λ (x : Paged). x .opened) page-is
@@ -327,7 +327,7 @@ module _ (P Q : List ℤ) (p-opens : WellFormed P) (q-opens : WellFormed Q) wher
     unfiltered-count h two words j i = rw (two, h) (refl, refl)
 
     -- Following the pages from (0, 0), each next key the last pair shown, whatever the sizes from 1 to 16, gives the whole list, each pair once. `ask` is the page
-    -- request: for every key and size it gives an answer that the promise admits, for some words that are lent then, enough of them. [P4, T4, J4, A10, D2]
+    -- request: for every key and size it gives an answer that the promise admits, for some words that are lent then, enough of them. [P4, T4, J4, A10, U11, D2]
     pub pages-list : Whose (a .contractor) o (points Q) → gridNo (a .grid) P Q ≡ 0 → a .threshold ≤ lastThreshold → (w : Key → ℕ → List ℕ) → ((key : Key) (size : ℕ) → need P ≤ length (w key size)) → (ask : Key → ℕ → Paged) (w′ : Key → ℕ → List ℕ)
         → ((key : Key) (size : ℕ) → TermsAnswers a o P Q key size (w key size) (ask key size) (w′ key size))
         → (sizes : ℕ → ℕ) → ((k : ℕ) → sizeNo (sizes k) ≡ 0)
@@ -336,22 +336,22 @@ module _ (P Q : List ℤ) (p-opens : WellFormed P) (q-opens : WellFormed Q) wher
         of-page.followed-list a o P Q (facts P p-opens) (facts Q q-opens) ask
         (λ k n qi pi some few. page-is k n (w k n) (ask k n) (w′ k n) (x k n) (record { q-in = qi; p-in = pi; some = some; most = few; fair = most }) of-whom forms (enough k n)) sizes s
 
-    -- "The list runs by q id, then p id": each pair stands strictly after the one before it, [R4, J2, D2]
+    -- "The list runs by q id, then p id": each pair stands strictly after the one before it, [R4, J2, U11, D2]
     pub list-ascends : ascends start List-of ≡ true
     list-ascends = for-ascends a o (pointsOf P) (pointsOf Q) rise-p rise-q
 
-    -- so "each once, by ids": no two pairs of it have the same ids. [R5, J2, D2]
+    -- so "each once, by ids": no two pairs of it have the same ids. [R5, J2, U11, D2]
     pub list-once : (k h : ℕ) → k < h → h < length List-of → keyOf (getD List-of k none) ≡ keyOf (getD List-of h none) → ⊥
     list-once = for-once a o (pointsOf P) (pointsOf Q) rise-p rise-q
 
-    -- It holds no pair but those that the rule of the terms makes of two records, each with the size of their places. [R3, D2]
+    -- It holds no pair but those that the rule of the terms makes of two records, each with the size of their places. [R3, U11, D2]
     pub list-only : (v : Pair) → List·Memᴰ v List-of → Placed (listedFor a o (pointsOf P) (pointsOf Q)) (pairBy (profileFor a) (pointsOf P) (pointsOf Q)) (length (pointsOf P)) (length (pointsOf Q)) v
     list-only = for-only a o (pointsOf P) (pointsOf Q) rise-p rise-q
 
     -- ---- two contractors
 
     -- "A contractor's list is the ring pairs of its own chambers": of any terms, two records stand in a contractor's list exactly if they stand in the undivided list of the same other terms, and the
-    -- chamber's byte says that it is the contractor's.
+    -- chamber's byte says that it is the contractor's. [U1, U2, U11]
     pub contractor-exact : a .contractor < 2 → (j i : ℕ) → j < points Q → i < points P
         → List·Memᴰ (pairBy (profileFor a) (pointsOf P) (pointsOf Q) j i) List-of
         ↔ (List·Memᴰ (pairBy (profileFor a) (pointsOf P) (pointsOf Q) j i) (listFor (ofContractor 2 a) [] (pointsOf P) (pointsOf Q)) × (getD o j 2 ≡ a .contractor))
@@ -359,15 +359,16 @@ module _ (P Q : List ℤ) (p-opens : WellFormed P) (q-opens : WellFormed Q) wher
         let z = of-contractor.contractor-iff a o (pointsOf P) (pointsOf Q) rise-p rise-q j i (omega (arith, length-points Q)) (omega (arith, length-points P)) in
         (λ m. (z .0 m .0, mine-is (a .contractor) one o j (z .0 m .1)), λ m. z .1 (m .0, is-mine (a .contractor) one o j (m .1)))
 
-    -- Each pair of the undivided list stands in exactly one of the two contractors' lists, where the bytes are one 0 or 1 a chamber; no other pair does.
+    -- Each pair of the undivided list stands in exactly one of the two contractors' lists, where the bytes are one 0 or 1 a chamber; no other pair does. [U3]
     pub list-divided : oneEach o (points Q) ≡ true → (v : Pair) → List·Memᴰ v (listFor (ofContractor 2 a) [] (pointsOf P) (pointsOf Q))
         → OneOf (List·Memᴰ v (listFor (ofContractor 0 a) o (pointsOf P) (pointsOf Q))) (List·Memᴰ v (listFor (ofContractor 1 a) o (pointsOf P) (pointsOf Q)))
     list-divided each = of-contractor.divided a o (pointsOf P) (pointsOf Q) rise-p rise-q (ap (oneEach o) (length-points Q) ∙ each)
 
+    -- [U3]
     pub list-divided-only : (v : Pair) → List·Memᴰ v List-of → List·Memᴰ v (listFor (ofContractor 2 a) [] (pointsOf P) (pointsOf Q))
     list-divided-only = of-contractor.contractor-within a o (pointsOf P) (pointsOf Q) rise-p rise-q
 
-    -- "or 2 for an undivided list": the list of all chambers, whatever the bytes
+    -- "or 2 for an undivided list": the list of all chambers, whatever the bytes [U4]
     pub list-undivided : a .contractor ≡ 2
         → List-of ≡ listBy (atLeast (pairFor a (pointsOf P) (pointsOf Q)) (pairBy (profileFor a) (pointsOf P) (pointsOf Q)) (a .threshold) (length (pointsOf P))) (pairBy (profileFor a) (pointsOf P) (pointsOf Q)) (length (pointsOf P)) (length (pointsOf Q))
     list-undivided = of-contractor.undivided a o (pointsOf P) (pointsOf Q)
@@ -440,6 +441,7 @@ module _ (P Q : List ℤ) (p-opens : WellFormed P) (q-opens : WellFormed Q) wher
       ring-iff (profileOf g) (pointsOf P) (pointsOf Q) rise-p rise-q j i (omega (arith, length-points Q)) (omega (arith, length-points P))
 
   -- "A contractor's list is the ring pairs of its own chambers; all points still block for both": of no t, in the words of the ring rule, which asks nothing of the owners
+  -- [U1, U2]
   pub contractor-ring : (g : Bool) (c : ℕ) → c < 2 → (o : List ℕ) (j i : ℕ) → j < points Q → i < points P
       → List·Memᴰ (pairBy (profileOf g) (pointsOf P) (pointsOf Q) j i) (listFor (ofContractor c (withBy g 0)) o (pointsOf P) (pointsOf Q))
       ↔ ((ringPairBy (profileOf g) (pointsOf P) (pointsOf Q) j i ≡ true) × (getD o j 2 ≡ c))
@@ -614,7 +616,7 @@ module _ (P Q : List ℤ) (p-opens : WellFormed P) (q-opens : WellFormed Q) wher
 
 -- "It depends on the points alone": whatever the forms, the editions, the orders and the trees of two pairs of sheets; of any terms.
 module _ (P P′ Q Q′ : List ℤ) (p-opens : WellFormed P) (p-opens′ : WellFormed P′) (q-opens : WellFormed Q) (q-opens′ : WellFormed Q′) (same-p : pointsOf P ≡ pointsOf P′) (same-q : pointsOf Q ≡ pointsOf Q′) (a : Terms) (o : List ℕ) where
-  -- [D3]
+  -- [U11, D3]
   pub same-list : listFor a o (pointsOf P) (pointsOf Q) ≡ listFor a o (pointsOf P′) (pointsOf Q′)
   same-list = of-join.join-same-list P P′ Q Q′ same-p same-q a o
 

@@ -155,7 +155,7 @@ module _ (w : Editions) where
       (subst (λ (x : List Pair). Reached worldOf (taken b slots g .book) x) (sym (t .1)) (of-world.took g (reached h) (honest g a)))
   reached (lent other h e f) = of-world.lent other (reached h) e f
 
-  -- "Then a book begun empty always holds exactly the first so many pairs of its list" [K9, Z2, T6, J6, A10, D4, D9]
+  -- "Then a book begun empty always holds exactly the first so many pairs of its list" [K9, Z2, T6, J6, A10, U12, D4, D9]
   pub held-prefix : {b : Book} {s : List Pair} → History w b s
       → (b .held ≤ length s) × (b .held ≤ length (bookList w b)) × (take (b .held) s ≡ take (b .held) (bookList w b))
   held-prefix h = of-story.book-held-prefix worldOf (reached h)
@@ -189,7 +189,7 @@ module _ (w : Editions) where
       → v .size ≡ profileFor (b .source .terms) .size (spotAt (chambersOf w (b .source)) j) (spotAt (pumpsOf w (b .source)) i)
   held-size {b} h v m = for-size (b .source .terms) _ _ _ (pumps-rise (b .source)) (chambers-rise (b .source)) v (in-list h v m)
 
-  -- "calls itself closed only when it holds all" [K9, T6, J6, A10, D5]
+  -- "calls itself closed only when it holds all" [K9, T6, J6, A10, U12, D5]
   pub closed-all : {b : Book} {s : List Pair} → History w b s → b .closed ≡ true
       → (b .held ≡ length (bookList w b)) × (take (b .held) s ≡ bookList w b)
   closed-all h e = of-story.book-closed-all worldOf (reached h) e
@@ -259,7 +259,7 @@ module _ (w : Editions) where
         })
 
     -- "and while it is open with room for all, each page that answers its own next request adds a pair or closes it": the page request serves it, and the book takes it.
-    -- [K9, T6, J6, A10, D6]
+    -- [K9, T6, J6, A10, U12, D6]
     pub progress : b .closed ≡ false → length (bookList w b) ≤ length s → (r : Taken) (s′ : List Pair) → TakeAnswers b s g r s′
         → (o .r .number ≡ 0) × (r .number ≡ 0) × ((b .held < r .book .held) ⊎ (r .book .closed ≡ true))
     progress still room r s′ t =
@@ -273,7 +273,7 @@ module _ (w : Editions) where
   stays-closed (asks {b = b} {slots = s} g r s′ o t more) e =
       stays-closed more (ap (λ (x : Taken). x .book .closed) (t .0) ∙ ap (λ (x : Book). x .closed) (of-take.refused-book b s g (of-take.closed-no b s g e)) ∙ e)
 
-  -- So a book with room for its list that goes on asking is closed after at most one request more than pairs are missing. [T6, J6, D6]
+  -- So a book with room for its list that goes on asking is closed after at most one request more than pairs are missing. [T6, J6, U12, D6]
   pub closes : {k : ℕ} {b b′ : Book} {s s′ : List Pair} → History w b s → length (bookList w b) ≤ length s → length (bookList w b) < b .held + k → Asking w k b s b′ s′ → b′ .closed ≡ true
   closes h room n (stops b s) = absurd (omega (arith, held-prefix h .1))
   closes h room n (asks {b = b} {slots = s} g r s′ o t more) =
@@ -360,7 +360,7 @@ own-kind b s g room still other r s′ t =
     let some : takeNo b s g ≡ 0 → ⊥ = λ z. omega arith in
     (ap (λ (x : Taken). x .number) (t .0) ∙ of-take.book-take-no b s g ∙ no, ap (λ (x : Taken). x .book) (t .0) ∙ of-take.refused-book b s g some, t .1 ∙ of-take.refused-slots b s g some)
 
--- "28 page of another contractor, after 22": an open book that its slots can hold refuses a page of its kind and of another contractor by 28.
+-- "28 page of another contractor, after 22": an open book that its slots can hold refuses a page of its kind and of another contractor by 28. [U15]
 pub own-contractor : (b : Book) (s : List Pair) (g : Page) → b .held ≤ length s → b .closed ≡ false → sameKind (b .source) (g .source) ≡ true → (b .source .terms .contractor ≡ g .source .terms .contractor → ⊥) → (r : Taken) (s′ : List Pair) → TakeAnswers b s g r s′ → (r .number ≡ 28) × (r .book ≡ b) × (s′ ≡ s)
 own-contractor b s g room still kind other r s′ t =
     let no : takeNo b s g ≡ 28 = of-take.contractor-no b s g room still kind other in

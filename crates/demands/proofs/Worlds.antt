@@ -125,9 +125,9 @@ document-closed =
 -- And so can the books of the two contractors: that of 0 holds the two pairs of chamber 5 then, that of 1 the pair of chamber 6. [U12]
 pub document-divided : ClosedWith 0 (take 2 threePairs) × ClosedWith 1 (drop 2 threePairs)
 document-divided = (
-      closes-with 0 documentOwners (take 2 threePairs) (unfold begunFor beginNo first given answer begunBook editionOk thresholdNo contractorNo in record { promised = refl }) first-is (record { divided = λ l. unfold documentWorld in refl; undivided = λ e. absurd (omega (arith, e)) }) (bytes 0 (omega arith)),
-      closes-with 1 documentOwners (drop 2 threePairs) (unfold begunFor beginNo first given answer begunBook editionOk thresholdNo contractorNo in record { promised = refl }) second-is (record { divided = λ l. unfold documentWorld in refl; undivided = λ e. absurd (omega (arith, e)) }) (bytes 1 (omega arith)),
-    )
+  closes-with 0 documentOwners (take 2 threePairs) (unfold begunFor beginNo first given answer begunBook editionOk thresholdNo contractorNo in record { promised = refl }) first-is (record { divided = λ l. unfold documentWorld in refl; undivided = λ e. absurd (omega (arith, e)) }) (bytes 0 (omega arith)),
+  closes-with 1 documentOwners (drop 2 threePairs) (unfold begunFor beginNo first given answer begunBook editionOk thresholdNo contractorNo in record { promised = refl }) second-is (record { divided = λ l. unfold documentWorld in refl; undivided = λ e. absurd (omega (arith, e)) }) (bytes 1 (omega arith)),
+)
   where
     bytes : (c : ℕ) → c < 2 → ownersNo c documentOwners (points documentQ) ≡ 0
     bytes c h = sym (owners-good c documentOwners (points documentQ) (λ e. omega (arith, e, h)) true (unfold oneEach allB num documentQ in refl) refl)

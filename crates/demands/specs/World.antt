@@ -31,7 +31,7 @@ use Rattle.book.specs.declared.Taken.{Taken}
 use Rattle.demands.specs.Promises.{TermsAnswers, BeginAnswers, NextAnswers, TakeAnswers}
 
 -- "P sheets with one edition number hold the same points, and Q sheets likewise": for each number a sheet of P and one of Q, whose points they are, and one of self
--- joins. (For a number that was never given out this may be any sheet, as the empty one.) [D9]
+-- joins. (For a number that was never given out this may be any sheet, as the empty one.) [U12, D9]
 pub record Editions : Type 0 where
   pub pumps : ℕ → List ℤ
   pub chambers : ℕ → List ℤ
@@ -66,7 +66,7 @@ module _ (w : Editions) where
   abbrev pub Sheets : Terms → List ℤ → List ℤ → Type 0
   Sheets a P Q = OfKind (a .own) P Q
 
-  -- the owner bytes that a request hands in, of these terms and this sheet of chambers: those of its edition for a contractor's list, none for an undivided one
+  -- the owner bytes that a request hands in, of these terms and this sheet of chambers: those of its edition for a contractor's list, none for an undivided one [U12]
   pub record HandsIn (a : Terms) (Q : List ℤ) (o : List ℕ) : Type 0 where
     pub divided : a .contractor < 2 → o ≡ w .owners (num (edition Q))
     pub undivided : a .contractor ≡ 2 → o ≡ []
@@ -78,7 +78,7 @@ module _ (w : Editions) where
   abbrev pub chambersOf : Source → List Point
   chambersOf s = cond (s .terms .own) (pointsOf (w .assets (s .«q_edition»))) (pointsOf (w .chambers (s .«q_edition»)))
 
-  -- the list of a book: that of its terms, of these points, by the owner bytes of its chamber edition (which do not matter for an undivided one) [T6, D4, D5]
+  -- the list of a book: that of its terms, of these points, by the owner bytes of its chamber edition (which do not matter for an undivided one) [T6, U12, D4, D5]
   abbrev pub bookList : Book → List Pair
   bookList b = listFor (b .source .terms) (w .owners (b .source .«q_edition»)) (pumpsOf (b .source)) (chambersOf (b .source))
 

@@ -9,7 +9,7 @@ use Rattle.join.specs.Walks.{Walks}
 use Rattle.join.specs.Sheets.{walksBy}
 use Rattle.join.specs.Threshold.{walksFor}
 
--- the walks of the chambers that m holds of: for any other nothing is kept, and no node is opened
+-- the walks of the chambers that m holds of: for any other nothing is kept, and no node is opened [U7]
 unfoldable pub onlyFor : (ℕ → Bool) → Walks → Walks
 onlyFor m w =
     record {
@@ -21,6 +21,6 @@ onlyFor m w =
       pair = w .pair;
     }
 
--- the walks of a page of the terms, by the owner bytes, on so many words, with n positions of P
+-- the walks of a page of the terms, by the owner bytes, on so many words, with n positions of P [U7]
 abbrev pub pageWalks : Terms → List ℕ → ℕ → List ℤ → List ℤ → ℕ → Walks
 pageWalks a o words P Q n = onlyFor (mine (a .contractor) o) (walksFor (walksBy a words P Q) n (a .threshold))

@@ -8,16 +8,16 @@ use lib.ListN.{length, getD}
 use Rattle.words.specs.All.{allB}
 use Rattle.plane.specs.Point.{Point, idAt, spotAt}
 
--- "A lent byte per chamber, by position, says 0 or 1: whose it is": contractor c has the chamber at position j. An undivided list, of contractor 2, has all.
+-- "A lent byte per chamber, by position, says 0 or 1: whose it is": contractor c has the chamber at position j. An undivided list, of contractor 2, has all. [U1, U4]
 abbrev pub mine : ℕ → List ℕ → ℕ → Bool
 mine c o j = eqb c 2 || eqb (getD o j 2) c
 
--- "one 0 or 1 a chamber", for n chambers
+-- "one 0 or 1 a chamber", for n chambers [U1, U14]
 unfoldable pub oneEach : List ℕ → ℕ → Bool
 oneEach o n = eqb (length o) n && allB n (λ j. leb (getD o j 2) 1)
 
 -- "if only these change, each record keeping its place and owner though its position may move": the chambers of two runs, with their owner bytes, differ in the ids of those that are
--- not c's, and in the positions that follow from these
+-- not c's, and in the positions that follow from these [U5, U6]
 pub record Renamed (c : ℕ) (Q : List Point) (o : List ℕ) (Q′ : List Point) (o′ : List ℕ) : Type 0 where
   pub to : ℕ → ℕ
   pub back : ℕ → ℕ

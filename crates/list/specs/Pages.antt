@@ -24,11 +24,11 @@ thresholdNo t = given (not (leb t lastThreshold)) 21
 unfoldable pub sizeNo : ℕ → ℕ
 sizeNo size = given (not (leb 1 size && leb size 16)) 10
 
--- 27 "contractor outside 0 to 2, or not 2 for a self join": "Pages and books carry the contractor, or 2 for an undivided list; self joins stay undivided"
+-- 27 "contractor outside 0 to 2, or not 2 for a self join": "Pages and books carry the contractor, or 2 for an undivided list; self joins stay undivided" [U10, U13]
 unfoldable pub contractorNo : Bool → ℕ → ℕ
 contractorNo own c = given (not (leb c 2 && (not own || eqb c 2))) 27
 
--- 26 "owner bytes not one 0 or 1 a chamber, or any for 2": of a contractor, its bytes, and so many chambers
+-- 26 "owner bytes not one 0 or 1 a chamber, or any for 2": of a contractor, its bytes, and so many chambers [U14]
 unfoldable pub ownersNo : ℕ → List ℕ → ℕ → ℕ
 ownersNo c o n = given (not (cond (eqb c 2) (eqb (length o) 0) (oneEach o n))) 26
 
@@ -45,8 +45,7 @@ abbrev pub sameProfile : Source → Source → Bool
 sameProfile a b = alike (a .terms .grid) (b .terms .grid)
 
 -- 22 "wrong kind", then 28 "page of another contractor", then 30 "page of the other profile", then 13 "page of other editions", then 31 "page of another t": the number for a page of `b`
--- and a book of `a`, 0 where they are of one list
--- [N28, N32, O7, T11, J11, A14]
+-- and a book of `a`, 0 where they are of one list [N28, N32, O7, T11, J11, A14, U9, U15]
 unfoldable pub sourceNo : Source → Source → ℕ
 sourceNo a b =
     first

@@ -18,7 +18,7 @@ use Rattle.list.specs.RingList.{ringPairBy, pairBy}
 abbrev pub withBy : Bool → ℕ → Terms
 withBy g t = record { threshold = t; contractor = 2; own = false; grid = g }
 
--- [A8]
+-- [A8, U10]
 abbrev pub aloneBy : Bool → Terms
 aloneBy g = record { threshold = 0; contractor = 2; own = true; grid = g }
 
@@ -38,9 +38,11 @@ alone = aloneBy false
 abbrev pub ofKind : Bool → Terms → Terms
 ofKind k a = record { threshold = a .threshold; contractor = a .contractor; own = k; grid = a .grid }
 
+-- [U2, U3, U9]
 abbrev pub ofContractor : ℕ → Terms → Terms
 ofContractor c a = record { threshold = a .threshold; contractor = c; own = a .own; grid = a .grid }
 
+-- [U9]
 abbrev pub requestOf : Terms → Key → ℕ → Request
 requestOf a key size = record { key = key; size = size; threshold = a .threshold; contractor = a .contractor; grid = a .grid }
 
@@ -54,10 +56,10 @@ unfoldable pub pairFor : Terms → List Point → List Point → ℕ → ℕ →
 pairFor a P Q j i = (not (a .own) || ltb (idAt Q j) (idAt P i)) && ringPairBy (profileFor a) P Q j i
 
 -- "list all such chambers by id with all their pairs": those of the rule, of the chambers that have at least t of them; "A contractor's list is the ring pairs of its own chambers;
--- all points still block for both": o has the owner bytes [T3]
+-- all points still block for both": o has the owner bytes [T3, U2]
 unfoldable pub listedFor : Terms → List ℕ → List Point → List Point → ℕ → ℕ → Bool
 listedFor a o P Q j i = mine (a .contractor) o j && atLeast (pairFor a P Q) (pairBy (profileFor a) P Q) (a .threshold) (length P) j i
 
--- "The list runs by q id, then p id" [P12, T3, J2, J6, A10, D3]
+-- "The list runs by q id, then p id" [P12, T3, J2, J6, A10, U2, U3, U11, D3]
 unfoldable pub listFor : Terms → List ℕ → List Point → List Point → List Pair
 listFor a o P Q = listBy (listedFor a o P Q) (pairBy (profileFor a) P Q) (length P) (length Q)

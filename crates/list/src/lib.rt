@@ -22,7 +22,7 @@ pub struct Pair {
 }
 
 // What is asked of a list beside its points: the number of partners that a chamber must have to be listed, 0 for the full list; the contractor whose chambers are listed,
-// 0 or 1, 2 for an undivided list; the kind: whether it is the self join of one sheet; and the profile: whether it is the street grid's. [T5, A8]
+// 0 or 1, 2 for an undivided list; the kind: whether it is the self join of one sheet; and the profile: whether it is the street grid's. [T5, A8, U9]
 #[repr(C)]
 pub struct Terms {
     pub threshold: u32,
@@ -39,7 +39,7 @@ pub struct Source {
     pub terms: Terms,
 }
 
-// What a page request asks for: the pairs strictly after a key, how many of them, and of which list. [P1, A8]
+// What a page request asks for: the pairs strictly after a key, how many of them, and of which list. [P1, A8, U9]
 #[repr(C)]
 pub struct Request {
     pub key: Key,

@@ -1,6 +1,6 @@
 -- Wrong readings of two contractors in one town.
 use mathlib.Core.Path.{_≡_, refl}
-use mathlib.Core.Bool.{Bool, true, false, cond, not, _&&_, _||_}
+use mathlib.Core.Bool.{Bool, true, false, not, _&&_, _||_}
 use mathlib.Core.List.{List, [], _∷_}
 use Prim.Native.Nat.{ℕ}
 use lib.Dec.{eqb, leb}
@@ -24,16 +24,15 @@ use Rattle.list.specs.declared.Source.{Source}
 use Rattle.list.specs.declared.Terms.{Terms}
 use Rattle.list.specs.declared.Page.{Page}
 use Rattle.list.specs.declared.Request.{Request}
-use Rattle.list.specs.Pairs.{start, none as nonePair, follows, after, lastOr, isNone}
-use Rattle.list.specs.Pages.{thresholdNo, sizeNo, contractorNo, ownersNo, sameKind, sameProfile, sourceNo, padded, shown, pageOf}
+use Rattle.list.specs.Pairs.{start, follows, after, lastOr, isNone}
+use Rattle.list.specs.Pages.{thresholdNo, sizeNo, contractorNo, ownersNo, sameKind, sameProfile, sourceNo, shown, pageOf}
 use Rattle.list.specs.Contractor.{mine, oneEach}
 use Rattle.list.specs.Rows.{row, rows, atLeast, listBy}
 use Rattle.list.specs.RingList.{unblocked, ringPair, pairAt, ringPairBy, ringListBy, ringList}
-use Rattle.list.specs.Terms.{full, withT, alone, aloneBy, withBy, ofContractor, pairFor, listedFor, listFor}
+use Rattle.list.specs.Terms.{full, withT, alone, withBy, ofContractor, pairFor, listedFor, listFor}
 use Rattle.walk.specs.Walk.{inTurn, walk, walkAll}
-use Rattle.walk.specs.FilterWalk.{dropped, shut, consider, filterPlace, filterTake, filterVisit, filterKept, filterKeeps, keepsBy, keepsOpened}
-use Rattle.walk.specs.RingWalk.{meet, ringTake, enter, ringVisit, ringOn, ringWalk, pairWalkBy, pairWalk}
-use Rattle.join.specs.Walks.{Walks}
+use Rattle.walk.specs.FilterWalk.{dropped, shut, consider, filterPlace, filterTake, filterVisit, filterKept, keepsBy, keepsOpened}
+use Rattle.walk.specs.RingWalk.{meet, ringTake, enter, ringVisit, ringOn, ringWalk, pairWalkBy}
 use Rattle.join.specs.Work.{firstFrom, ringSteps, steps, spentOn, pageOpened}
 use Rattle.join.specs.Sheets.{walksOf}
 use Rattle.join.specs.Only.{onlyFor}
@@ -68,9 +67,9 @@ by-place-wrong = (refl, refl, refl, refl)
 abbrev byPump : ℕ → List ℕ → List Pair
 byPump c o = listBy (λ j i. eqb (getD o i 2) c && ringPair pumps chambers j i) (pairAt pumps chambers) 2 2
 
-pub by-pump-wrong : (byPump 0 owners ≡ to 5 1 16 ∷ []) × (listOf 0 owners chambers ≡ to 5 1 16 ∷ to 5 2 36 ∷ [])
+pub owners-of-pumps-wrong : (byPump 0 owners ≡ to 5 1 16 ∷ []) × (listOf 0 owners chambers ≡ to 5 1 16 ∷ to 5 2 36 ∷ [])
 unfolding listBy rows row atLeast pairFor listedFor listFor ringPairBy unblocked allB sameSpot blocks
-by-pump-wrong = (refl, refl)
+owners-of-pumps-wrong = (refl, refl)
 
 -- Contractor 2 has the chambers whose byte is 2. "2 for an undivided list": it has all. [U4]
 abbrev byByte : ℕ → List ℕ → ℕ → Bool
@@ -81,7 +80,7 @@ two-by-byte-wrong = (refl, refl, refl, refl)
 
 -- ---- the contractor's list
 
--- Only a contractor's own chambers block. "all points still block for both": chamber 6, which is the other's, stands between chamber 5 and pump house 2. [U2]
+-- Only a contractor's own chambers block. "all points still block for both": chamber 6, which is the other's, stands between chamber 5 and pump house 2. [U2, U11]
 abbrev between : List Point
 between = at 5 4 0 ∷ at 6 7 0 ∷ []
 
@@ -166,7 +165,7 @@ pub key-first-wrong : (keyFirst 0 [] 2 (key 2000000001 0) ≡ 9) × (asked [] (a
 unfolding requestNo contractorNo ownersNo oneEach gridNo keyNo sizeNo thresholdNo first given
 key-first-wrong = (refl, refl, refl)
 
--- 26 after 29. "29 a form 2 sheet, after 26 and before 9". [A13, U14]
+-- 26 after 29. "29 a form 2 sheet, after 26 and before 9". [U14]
 pub form-before-bytes-wrong :
     (first (gridNo true widePumps chamberSheet ∷ ownersNo 0 [] 2 ∷ []) ≡ 29) × (requestNo widePumps chamberSheet [] 2 (ask 0 true start) ≡ 26)
 unfolding requestNo contractorNo ownersNo oneEach gridNo eqZ keyNo sizeNo thresholdNo first given
@@ -202,6 +201,7 @@ pub bytes-more-wrong : (atLeastOneEach (0 ∷ 1 ∷ 0 ∷ []) 2 ≡ 0) × (owner
 unfolding ownersNo oneEach allB given
 bytes-more-wrong = (refl, refl)
 
+-- [U14]
 pub bytes-short-wrong : (atMostOneEach (0 ∷ []) 2 ≡ 0) × (ownersNo 0 (0 ∷ []) 2 ≡ 26)
 unfolding ownersNo oneEach allB given
 bytes-short-wrong = (refl, refl)
@@ -226,13 +226,13 @@ kindAndEditions a b =
 abbrev whose : Source → Source → ℕ
 whose a b = given (not (eqb (a .terms .contractor) (b .terms .contractor))) 28
 
--- A page of either contractor. "28 page of another contractor": of the other's, and of the undivided list. [U9, U15]
+-- A page of either contractor. "28 page of another contractor": of the other's, and of the undivided list. [U9, U12, U15]
 pub other-contractor-wrong :
     (first (kindAndEditions (source (ofContractor 0 full) 7) (source (ofContractor 1 full) 7)) ≡ 0) × (sourceNo (source (ofContractor 0 full) 7) (source (ofContractor 1 full) 7) ≡ 28) × (sourceNo (source (ofContractor 0 full) 7) (source full 7) ≡ 28)
 unfolding sourceNo first given
 other-contractor-wrong = (refl, refl, refl)
 
--- 28 after 30, or after 13. "28 page of another contractor, after 22", and "30 page of the other profile, after 28". [A14, U15]
+-- 28 after 30, or after 13. "28 page of another contractor, after 22", and "30 page of the other profile, after 28". [U15]
 pub contractor-late-wrong :
     (first (kindAndEditions (source (ofContractor 0 full) 7) (source (withBy true 0) 8)) ≡ 30) × (sourceNo (source (ofContractor 0 full) 7) (source (withBy true 0) 8) ≡ 28) × (first (kindAndEditions (source (ofContractor 0 full) 7) (source full 8)) ≡ 13) × (sourceNo (source (ofContractor 0 full) 7) (source full 8) ≡ 28)
 unfolding sourceNo first given

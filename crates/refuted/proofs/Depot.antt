@@ -61,12 +61,12 @@ pub key-no-contractor-wrong : (editionsAndIds (order 5 1 16) (form false 0 false
 unfolding sameForm
 key-no-contractor-wrong = (refl, refl)
 
--- [I3]
+-- [I3, I13]
 pub key-no-profile-wrong : (editionsAndIds (order 5 1 16) (form false 2 true 5 1 16) ≡ true) × (sameForm (order 5 1 16) (form false 2 true 5 1 16) ≡ false)
 unfolding sameForm
 key-no-profile-wrong = (refl, refl)
 
--- The ids alone. A new edition has new keys. [I3]
+-- The ids alone. A new edition has new keys. [I3, I13]
 abbrev idsAlone : Form → Form → Bool
 idsAlone f g = eqb (f .q) (g .q) && eqb (f .p) (g .p)
 
@@ -219,7 +219,8 @@ pub places-cleared-wrong : (placesCleared (book 1) ≡ order 5 1 16 ∷ order 0 
 unfolding formsOut formsOf formOf formsNo first given answer
 places-cleared-wrong = (refl, refl)
 
--- The orders under a book's editions, kind, contractor and profile are those of its own t. They are those of the full list, of which another book may be: the t is in no form. [I12]
+-- The orders under a book's editions, kind, contractor and profile are those of its own t. They are those of the full list, of which another book may be: the t is in no form.
+-- [I12]
 pub t-alone-wrong :
     (listFor (withT 3) [] pumps chambers ≡ []) × (listFor (withT 0) [] pumps chambers ≡ to 5 1 16 ∷ to 5 2 36 ∷ to 6 2 37 ∷ []) × (formOf (source 0) (to 5 1 16) ≡ formOf (source 3) (to 5 1 16))
 unfolding formOf listFor listedFor pairFor atLeast listBy rows row ringPairBy unblocked allB sameSpot blocks

@@ -18,7 +18,8 @@ use Rattle.ring.specs.Page.{keyNo, pageGiven, pageRefused}
 unfoldable pub ownNo : List ℤ → Key → ℕ → Bool → ℕ → ℕ
 ownNo S key size g len = first (sheetNo S ∷ gridNo g S S ∷ keyNo key ∷ sizeNo size ∷ bitsNo (need S) len ∷ [])
 
--- "Pages, counts, end mark [..] work as before, with one edition in both fields and t 0"; "self joins stay undivided": it takes no contractor and no bytes, and its pages say 2. The answer by its number, 0 is the page, any other is the refusal of that number [J4]
+-- "Pages, counts, end mark [..] work as before, with one edition in both fields and t 0"; "self joins stay undivided": it takes no contractor and no bytes, and its pages say 2. The answer by its number, 0 is the page, any other is the refusal of that number
+-- [J4]
 unfoldable pub ownAnswer : List ℤ → Key → ℕ → Bool → ℕ → Paged
 ownAnswer S key size g len = answer (ownNo S key size g len) (pageGiven (aloneBy g) [] S S key size) pageRefused
 

@@ -28,7 +28,8 @@ use Rattle.ring.specs.declared.Paged.{Paged}
 unfoldable pub keyNo : Key → ℕ
 keyNo key = given (not (leb (key .q) lastId && leb (key .p) lastId)) 9
 
--- 29 "before 9", then 9, then 10, then 21 "t outside 0 to 1,000 [..] after 10 for a page": what the request of an undivided list is refused by, of sheets that open [N22, N23, T10, V1]
+-- 29 "before 9", then 9, then 10, then 21 "t outside 0 to 1,000 [..] after 10 for a page": what the request of an undivided list is refused by, of sheets that open
+-- [N22, N23, T10, V1]
 unfoldable pub askedNo : List ℤ → List ℤ → Bool → Key → ℕ → ℕ → ℕ
 askedNo P Q g key size t = first (gridNo g P Q ∷ keyNo key ∷ sizeNo size ∷ thresholdNo t ∷ [])
 
@@ -37,7 +38,7 @@ askedNo P Q g key size t = first (gridNo g P Q ∷ keyNo key ∷ sizeNo size ∷
 unfoldable pub requestNo : List ℤ → List ℤ → List ℕ → ℕ → Request → ℕ
 requestNo P Q o n a = first (contractorNo false (a .contractor) ∷ ownersNo (a .contractor) o n ∷ gridNo (a .grid) P Q ∷ keyNo (a .key) ∷ sizeNo (a .size) ∷ thresholdNo (a .threshold) ∷ [])
 
--- "checks its sheets first [..]: 1 to 8 for P, then for Q"; 27, 26, 29, 9, 10, 21; "24 bit slice too short, after all others": of the owner bytes o [Y15, A13, V1]
+-- "checks its sheets first [..]: 1 to 8 for P, then for Q"; 27, 26, 29, 9, 10, 21; "24 bit slice too short, after all others": of the owner bytes o [Y15, A13, U1, U13, U14, V1]
 unfoldable pub pageNo : List ℤ → List ℤ → List ℕ → Request → ℕ → ℕ
 pageNo P Q o a len =
     first
@@ -56,7 +57,8 @@ pageNo P Q o a len =
 unfoldable pub sourceOf : List ℤ → List ℤ → Terms → Source
 sourceOf P Q a = record { «p_edition» = num (edition P); «q_edition» = num (edition Q); terms = a }
 
--- the page of the terms' list, from the points and the owner bytes alone, and beside it the count of the walks: "Only its own chambers are filtered and counted" [P3, P8, T4]
+-- the page of the terms' list, from the points and the owner bytes alone, and beside it the count of the walks: "Only its own chambers are filtered and counted"
+-- [P3, P8, T4, U1, U7]
 unfoldable pub pageGiven : Terms → List ℕ → List ℤ → List ℤ → Key → ℕ → Paged
 pageGiven a o P Q key size =
     record {
@@ -65,7 +67,7 @@ pageGiven a o P Q key size =
       page = pageOf (sourceOf P Q a) (listFor a o (pointsOf P) (pointsOf Q)) key size;
     }
 
--- the terms of no list, all zero [N4]
+-- the terms of no list, all zero
 abbrev pub noTerms : Terms
 noTerms = record { threshold = 0; contractor = 0; own = false; grid = false }
 

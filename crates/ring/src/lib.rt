@@ -57,7 +57,7 @@ pub enum Walked {
     Refused(u32),
 }
 
-// What a page request answers: 0, the count of nodes opened and the page; or the number of refusal and zeros. [Y12, F6]
+// What a page request answers: 0, the count of nodes opened and the page; or the number of refusal and zeros. [Y12, U8, F6]
 #[repr(C)]
 pub struct Paged {
     pub number: u32,
