@@ -1,0 +1,5 @@
+-- Many pairs of a list at once.
+--     Many       the list to a size, the calls' numbers and answers
+--     Chamber    a chamber's pairs, as the code keeps them
+pub mod Many
+pub mod Chamber
