@@ -1,5 +1,7 @@
 -- Many pairs of a list at once.
 --     KeepLaws      a chamber's candidates, judged one after the other; rows
 --     ListedLaws    chambers one after the other: what each adds to the list
+--     CheckLaws     the numbers of the calls, and their answers by them
 pub mod KeepLaws
 pub mod ListedLaws
+pub mod CheckLaws

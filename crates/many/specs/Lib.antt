@@ -1,5 +1,7 @@
 -- Many pairs of a list at once.
 --     Many       the list to a size, the calls' numbers and answers
 --     Chamber    a chamber's pairs, as the code keeps them
+--     Checked    what a check hands on
 pub mod Many
 pub mod Chamber
+pub mod Checked

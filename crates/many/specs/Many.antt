@@ -1,17 +1,29 @@
 -- Many pairs of a list at once: the list of pairs to a size, and the number of each refusal.
-use mathlib.Core.Bool.{Bool, _&&_}
-use mathlib.Core.List.{List}
+use mathlib.Core.Bool.{Bool, false, _&&_}
+use mathlib.Core.List.{List, [], _∷_}
 use Prim.Native.Nat.{ℕ}
 use lib.Dec.{leb, ltb}
+use lib.IntN.{ℤ}
 use lib.ListN.{length}
-use Rattle.words.specs.First.{given}
+use Rattle.words.specs.First.{given, first, answer}
 use Rattle.plane.specs.Point.{Point, spotAt}
+use Rattle.sheet.specs.Layout.{points}
+use Rattle.sheet.specs.Places.{pointsOf}
+use Rattle.sheet.specs.Open.{sheetNo}
 use Rattle.list.specs.declared.Pair.{Pair}
 use Rattle.list.specs.declared.Terms.{Terms}
 use Rattle.list.specs.Rows.{atLeast, listBy}
 use Rattle.list.specs.Contractor.{mine}
 use Rattle.list.specs.RingList.{pairBy}
-use Rattle.list.specs.Terms.{profileFor, pairFor}
+use Rattle.list.specs.declared.Key.{Key}
+use Rattle.list.specs.Pages.{thresholdNo, contractorNo, ownersNo}
+use Rattle.list.specs.Terms.{profileFor, pairFor, withBy, aloneBy, ofContractor}
+use Rattle.ring.specs.Lent.{need, bitsNo, wipedBy}
+use Rattle.ring.specs.Numbers.{gridNo}
+use Rattle.ring.specs.Page.{keyNo}
+use Rattle.many.specs.declared.Wanted.{Wanted}
+use Rattle.many.specs.declared.Which.{Which}
+use Rattle.many.specs.declared.Counted.{Counted}
 
 -- the rule of the terms, of pairs whose size is at most `big`
 unfoldable pub smallFor : ℕ → Terms → List Point → List Point → ℕ → ℕ → Bool
@@ -32,3 +44,84 @@ lastLargest = 8_000_000_000_000_000_000
 -- 40: the largest size is over that
 unfoldable pub largestNo : ℕ → ℕ
 largestNo big = given (ltb lastLargest big) 40
+
+-- ---- the numbers: "1-8 P, 1-8 Q, 27, 26, 29, 9, 21, a number of our own for `largest` [..], 24"
+
+-- the terms of two sheets that are asked for
+abbrev pub wantedTerms : Wanted → Terms
+wantedTerms a = ofContractor (a .contractor) (withBy (a .grid) (a .threshold))
+
+-- for so many lent words
+unfoldable pub pairsNo : List ℤ → List ℤ → List ℕ → Wanted → ℕ → ℕ
+pairsNo P Q o a len =
+    first
+    (sheetNo P
+    ∷ sheetNo Q
+    ∷ contractorNo false (a .contractor)
+    ∷ ownersNo (a .contractor) o (points Q)
+    ∷ gridNo (a .grid) P Q
+    ∷ keyNo (a .key)
+    ∷ thresholdNo (a .threshold)
+    ∷ largestNo (a .largest)
+    ∷ bitsNo (need P) len
+    ∷ [])
+
+-- "its numbers those of `pairs` without 9"
+unfoldable pub countNo : List ℤ → List ℤ → List ℕ → Which → ℕ → ℕ
+countNo P Q o a len =
+    first
+    (sheetNo P
+    ∷ sheetNo Q
+    ∷ contractorNo false (a .contractor)
+    ∷ ownersNo (a .contractor) o (points Q)
+    ∷ gridNo (a .grid) P Q
+    ∷ thresholdNo (a .threshold)
+    ∷ largestNo (a .largest)
+    ∷ bitsNo (need P) len
+    ∷ [])
+
+-- of a self join: "1-8, 29, 9, 40, 24"
+unfoldable pub ownPairsNo : List ℤ → Key → ℕ → Bool → ℕ → ℕ
+ownPairsNo S key big g len = first (sheetNo S ∷ gridNo g S S ∷ keyNo key ∷ largestNo big ∷ bitsNo (need S) len ∷ [])
+
+unfoldable pub ownCountNo : List ℤ → ℕ → Bool → ℕ → ℕ
+ownCountNo S big g len = first (sheetNo S ∷ gridNo g S S ∷ largestNo big ∷ bitsNo (need S) len ∷ [])
+
+-- what is refused of sheets that open, of which Q has n chambers, where so many words are needed: no promise of an open call cites this
+unfoldable pub restNo : List ℤ → List ℤ → List ℕ → ℕ → Wanted → ℕ → ℕ → ℕ
+restNo P Q o n a words len =
+    first
+    (contractorNo false (a .contractor)
+    ∷ ownersNo (a .contractor) o n
+    ∷ gridNo (a .grid) P Q
+    ∷ keyNo (a .key)
+    ∷ thresholdNo (a .threshold)
+    ∷ largestNo (a .largest)
+    ∷ bitsNo words len
+    ∷ [])
+
+-- ---- how many pairs a list has
+
+unfoldable pub countGiven : ℕ → Terms → List ℕ → List ℤ → List ℤ → Counted
+countGiven big a o P Q = record { number = 0; count = length (listTo big a o (pointsOf P) (pointsOf Q)) }
+
+unfoldable pub countRefused : ℕ → Counted
+countRefused k = record { number = k; count = 0 }
+
+-- the terms of two sheets
+abbrev pub whichTerms : Which → Terms
+whichTerms a = ofContractor (a .contractor) (withBy (a .grid) (a .threshold))
+
+-- the answer by its number, and the lent words after it
+unfoldable pub countAnswer : List ℤ → List ℤ → List ℕ → Which → ℕ → Counted
+countAnswer P Q o a len = answer (countNo P Q o a len) (countGiven (a .largest) (whichTerms a) o P Q) countRefused
+
+unfoldable pub countBits : List ℤ → List ℤ → List ℕ → Which → List ℕ → List ℕ
+countBits P Q o a ws = wipedBy (countNo P Q o a (length ws)) (need P) ws
+
+-- of a self join
+unfoldable pub ownCountAnswer : List ℤ → ℕ → Bool → ℕ → Counted
+ownCountAnswer S big g len = answer (ownCountNo S big g len) (countGiven big (aloneBy g) [] S S) countRefused
+
+unfoldable pub ownCountBits : List ℤ → ℕ → Bool → List ℕ → List ℕ
+ownCountBits S big g ws = wipedBy (ownCountNo S big g (length ws)) (need S) ws

@@ -34,15 +34,7 @@ struct Judged {
 }
 
 // Whether no record of either sheet blocks the pair of the places a and b. Of a self join the sheets are one.
-fn is_free(
-    p: &[i32],
-    hp: Size,
-    q: &[i32],
-    hq: Size,
-    terms: Terms,
-    a: Spot,
-    b: Spot,
-) -> bool
+fn is_free(p: &[i32], hp: Size, q: &[i32], hq: Size, terms: Terms, a: Spot, b: Spot) -> bool
     requires { ⌜ Opens (now p) (hp .n) (hp .m) × Opens (now q) (hq .n) (hq .m) × Alone terms (now p) (now q) × SpotIn a × SpotIn b ⌝ }
     ensures { λ r. ⌜ r ≡ freeOf terms (now (p .entry)) (now (q .entry)) a b ⌝ }
 {

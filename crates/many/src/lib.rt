@@ -1,16 +1,24 @@
 // Many pairs of a list at once, and how many a list has. No count of nodes is promised, so each chamber's pump houses are found in whatever way is fast: `seeds` has it.
 mod all;
 mod chamber;
+mod check;
+pub mod count;
 
-use list::Terms;
-use sheet::Size;
-ghost use mathlib.Core.Path.{_≡_};
-ghost use Prim.Native.Nat.{_≤_};
-ghost use lib.ListN.{length};
-ghost use Rattle.many.specs.Many.{largestNo};
+use list::Key;
 
 // Which list it is of: pairs whose size is at most the largest, of the chambers that have at least so many of them, of a contractor's chambers (2: of all), of a profile.
+#[repr(C)]
 pub struct Which {
+    pub largest: u64,
+    pub threshold: u32,
+    pub contractor: u32,
+    pub grid: bool,
+}
+
+// What is asked for: the pairs strictly after the key, of such a list.
+#[repr(C)]
+pub struct Wanted {
+    pub key: Key,
     pub largest: u64,
     pub threshold: u32,
     pub contractor: u32,
@@ -22,14 +30,4 @@ pub struct Which {
 pub struct Counted {
     pub number: u32,
     pub count: u64,
-}
-
-// 40 for a largest size that no pair of any list may have, or 0.
-fn largest_no(largest: u64) -> u32
-    ensures { λ r. ⌜ r ≡ largestNo largest ⌝ }
-{
-    if largest > 8_000_000_000_000_000_000 {
-        return 40;
-    }
-    0
 }

@@ -1,9 +1,9 @@
--- `many::largest_no` meets its contract. Assumes nothing.
+-- `many::check::largest_no` meets its contract. Assumes nothing.
 use borrow.Author.Tests.{lt-ltb, le-ltb}
 use Rattle.words.specs.First.{given}
 use Rattle.many.specs.Many.{largestNo}
-use Rattle.many.proofs.largest_no.Statement.{statement}
-use Rattle.many.proofs.largest_no.Tie as tie
+use Rattle.many.proofs.check.largest_no.Statement.{statement}
+use Rattle.many.proofs.check.largest_no.Tie as tie
 
 returns : tie.Need-returns
 unfolding largestNo given
