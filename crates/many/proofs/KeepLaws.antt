@@ -137,7 +137,7 @@ small-covered big t P Q j b c i h e = c .partner i h (and-right (not (t .own) ||
 -- ---- the loop
 
 -- between a position and the next kept one none is kept
-between : (ws : List ℕ) (x u : ℕ) → u ≡ nextFrom ws x → (y : ℕ) → x ≤ y → y < u → kept ws y ≡ true → ⊥
+pub between : (ws : List ℕ) (x u : ℕ) → u ≡ nextFrom ws x → (y : ℕ) → x ≤ y → y < u → kept ws y ≡ true → ⊥
 between ws x u e y l h k = clash (lt-ltb y u h) (sym (from-skip ws (ltb y) (λ z f. go z f (ℕ-discrete y z)) x u e) ∙ le-ltb y x l)
   where
     go : (z : ℕ) → kept ws z ≡ false → Dec (y ≡ z) → ltb y z ≡ ltb y (z + 1)

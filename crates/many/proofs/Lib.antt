@@ -2,6 +2,8 @@
 --     KeepLaws      a chamber's candidates, judged one after the other; rows
 --     ListedLaws    chambers one after the other: what each adds to the list
 --     CheckLaws     the numbers of the calls, and their answers by them
+--     CursorLaws    from one pair to the next: what is left of a chamber and of the list
 pub mod KeepLaws
 pub mod ListedLaws
 pub mod CheckLaws
+pub mod CursorLaws

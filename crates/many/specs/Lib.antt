@@ -2,6 +2,8 @@
 --     Many       the list to a size, the calls' numbers and answers
 --     Chamber    a chamber's pairs, as the code keeps them
 --     Checked    what a check hands on
+--     Cursor     from one pair to the next
 pub mod Many
 pub mod Chamber
 pub mod Checked
+pub mod Cursor

@@ -3,6 +3,7 @@ mod all;
 mod chamber;
 mod check;
 pub mod count;
+mod cursor;
 
 use list::Key;
 
