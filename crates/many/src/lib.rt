@@ -4,6 +4,7 @@ mod chamber;
 mod check;
 pub mod count;
 mod cursor;
+mod step;
 
 use list::Key;
 
@@ -31,4 +32,12 @@ pub struct Wanted {
 pub struct Counted {
     pub number: u32,
     pub count: u64,
+}
+
+// What `pairs` answers: 0, how many pairs it stored, and whether more follow; or the number of refusal, 0 and no.
+#[repr(C)]
+pub struct Many {
+    pub number: u32,
+    pub count: usize,
+    pub more: bool,
 }
