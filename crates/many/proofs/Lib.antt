@@ -4,8 +4,10 @@
 --     CheckLaws     the numbers of the calls, and their answers by them
 --     CursorLaws    from one pair to the next: what is left of a chamber and of the list
 --     StepLaws      the work of `pairs`, a pair at a time; the list after a key
+--     PairsLaws     what `pairs` stores and answers
 pub mod KeepLaws
 pub mod ListedLaws
 pub mod CheckLaws
 pub mod CursorLaws
 pub mod StepLaws
+pub mod PairsLaws

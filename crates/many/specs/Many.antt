@@ -1,10 +1,10 @@
 -- Many pairs of a list at once: the list of pairs to a size, and the number of each refusal.
-use mathlib.Core.Bool.{Bool, false, _&&_}
-use mathlib.Core.List.{List, [], _∷_}
+use mathlib.Core.Bool.{Bool, false, not, _&&_}
+use mathlib.Core.List.{List, [], _∷_, _++_}
 use Prim.Native.Nat.{ℕ}
 use lib.Dec.{leb, ltb}
 use lib.IntN.{ℤ}
-use lib.ListN.{length}
+use lib.ListN.{length, take, drop}
 use Rattle.words.specs.First.{given, first, answer}
 use Rattle.plane.specs.Point.{Point, spotAt}
 use Rattle.sheet.specs.Layout.{points}
@@ -12,6 +12,7 @@ use Rattle.sheet.specs.Places.{pointsOf}
 use Rattle.sheet.specs.Open.{sheetNo}
 use Rattle.list.specs.declared.Pair.{Pair}
 use Rattle.list.specs.declared.Terms.{Terms}
+use Rattle.list.specs.Pairs.{after, isNone}
 use Rattle.list.specs.Rows.{atLeast, listBy}
 use Rattle.list.specs.Contractor.{mine}
 use Rattle.list.specs.RingList.{pairBy}
@@ -24,6 +25,7 @@ use Rattle.ring.specs.Page.{keyNo}
 use Rattle.many.specs.declared.Wanted.{Wanted}
 use Rattle.many.specs.declared.Which.{Which}
 use Rattle.many.specs.declared.Counted.{Counted}
+use Rattle.many.specs.declared.Many.{Many}
 
 -- the rule of the terms, of pairs whose size is at most `big`
 unfoldable pub smallFor : ℕ → Terms → List Point → List Point → ℕ → ℕ → Bool
@@ -99,6 +101,34 @@ restNo P Q o n a words len =
     ∷ largestNo (a .largest)
     ∷ bitsNo words len
     ∷ [])
+
+-- ---- many pairs of a list
+
+-- "those pairs strictly after the key" of the list to a size
+unfoldable pub pairsList : List ℤ → List ℤ → List ℕ → Wanted → List Pair
+pairsList P Q o a = after (a .key) (listTo (a .largest) (wantedTerms a) o (pointsOf P) (pointsOf Q))
+
+-- of these "the first so many as the lent slice has slots, their number, whether more follow"
+unfoldable pub manyGiven : ℕ → List Pair → Many
+manyGiven len l = record { number = 0; count = length (take len l); more = not (isNone (drop len l)) }
+
+-- refused, the number and zeros
+unfoldable pub manyRefused : ℕ → Many
+manyRefused k = record { number = k; count = 0; more = false }
+
+-- the slots then: "the rest of the slots untouched"
+unfoldable pub stored : List Pair → List Pair → List Pair
+stored slots l = take (length slots) l ++ drop (length (take (length slots) l)) slots
+
+-- the answer by its number, for so many slots and lent words; the slots and the words after it
+unfoldable pub pairsAnswer : List ℤ → List ℤ → List ℕ → Wanted → ℕ → ℕ → Many
+pairsAnswer P Q o a len bits = answer (pairsNo P Q o a bits) (manyGiven len (pairsList P Q o a)) manyRefused
+
+unfoldable pub pairsSlots : List ℤ → List ℤ → List ℕ → Wanted → List Pair → ℕ → List Pair
+pairsSlots P Q o a slots bits = answer (pairsNo P Q o a bits) (stored slots (pairsList P Q o a)) (λ k. slots)
+
+unfoldable pub pairsBits : List ℤ → List ℤ → List ℕ → Wanted → List ℕ → List ℕ
+pairsBits P Q o a ws = wipedBy (pairsNo P Q o a (length ws)) (need P) ws
 
 -- ---- how many pairs a list has
 

@@ -4,6 +4,7 @@ mod chamber;
 mod check;
 pub mod count;
 mod cursor;
+pub mod pairs;
 mod step;
 
 use list::Key;

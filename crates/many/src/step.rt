@@ -108,7 +108,7 @@ fn step_from(p: &[i32], q: &[i32], owners: &[u8], len: usize, bits: &mut [u64], 
 }
 
 // Before the first pair: what is refused, or the step to the first.
-pub(crate) fn begin(
+pub(crate) fn first_step(
     p: &[i32],
     q: &[i32],
     owners: &[u8],
