@@ -13,6 +13,7 @@ use lib.ListN.{length, take, drop, set, getD, replicate, length-set, length-drop
 use lib.Seq.{paste, paste-zero, paste-suc, drop-cons}
 use borrow.Author.Tests.{eqb-true, eqb-false, lt-ltb, le-ltb, ltb-true, ltb-false}
 use Rattle.integers.proofs.Bools.{decide}
+use Rattle.words.specs.First.{answer}
 use Rattle.words.proofs.FirstLaws.{answer-given, answer-refused}
 use Rattle.sheet.specs.Places.{pointsOf}
 use Rattle.bits.specs.Set.{wiped}
@@ -27,8 +28,8 @@ use Rattle.many.specs.declared.Wanted.{Wanted}
 use Rattle.many.specs.declared.Many.{Many}
 use Rattle.many.specs.declared.step.Task.{Task}
 use Rattle.many.specs.declared.step.Step.{Step}
-use Rattle.many.specs.Many.{listTo, wantedTerms, pairsNo, pairsList, manyGiven, manyRefused, stored, pairsAnswer, pairsSlots, pairsBits}
-use Rattle.many.specs.Step.{leftOf, Stand, Ahead, Started, Begun}
+use Rattle.many.specs.Many.{listTo, wantedTerms, pairsNo, pairsList, manyGiven, manyRefused, stored, pairsAnswer, pairsSlots, pairsBits, ownPairsNo, ownList, ownPairsAnswer, ownPairsSlots, ownPairsBits}
+use Rattle.many.specs.Step.{leftOf, Stand, Ahead, Started, Begun, OwnBegun}
 
 -- ---- the slots after k stores of a list
 
@@ -61,13 +62,11 @@ some-left l k ne = ⊎-elim (λ (t : ltb k (length l) ≡ true). ltb-true k (len
     short [] h = refl
     short (v ∷ x) h = absurd (omega arith)
 
-module _ (P Q : List ℤ) (o : List ℕ) (a : Wanted) (len : ℕ) (ws : List ℕ) where
-  abbrev all : List Pair
-  all = pairsList P Q o a
-
+-- of a task with this number, for which so many words are needed, and of which this is the list
+module _ (P Q : List ℤ) (o : List ℕ) (no nd : ℕ) (all : List Pair) (len : ℕ) (ws : List ℕ) where
   pub record Course (b : List ℕ) (s : Step) : Type 0 where
-    pub number-is : s .task .number ≡ pairsNo P Q o a (length ws)
-    pub words-are : s .task .number ≡ 0 → s .task .words ≡ need P
+    pub number-is : s .task .number ≡ no
+    pub words-are : s .task .number ≡ 0 → s .task .words ≡ nd
     pub refused : (s .task .number ≡ 0 → ⊥) → (b ≡ ws) × (s .to ≡ 0) × (s .more ≡ false)
     pub none-yet : (s .task .number ≡ 0 → ⊥) → s .count ≡ 0
     pub stands : s .task .number ≡ 0 → Stand P Q o b s
@@ -77,23 +76,17 @@ module _ (P Q : List ℤ) (o : List ℕ) (a : Wanted) (len : ℕ) (ws : List ℕ
     pub few : s .count ≤ len
     pub some : s .task .number ≡ 0 → s .count ≤ length all
 
-  pub course-begun : (b : List ℕ) (s : Step) → Begun P Q o a len ws b s → Course b s
-  unfolding pairsList
-  course-begun b s g =
-      let t = g .started in
+  pub course-begun : (b : List ℕ) (s : Step) → Started P Q o len ws b (s .task) s → s .task .number ≡ no → (s .task .number ≡ 0 → s .task .words ≡ nd)
+      → after (s .task .key) (listTo (s .task .largest) (s .task .terms) o (pointsOf P) (pointsOf Q)) ≡ all → Course b s
+  course-begun b s t n w e =
       record {
-        number-is = g .number-is;
-        words-are = g .words-are;
+        number-is = n;
+        words-are = w;
         refused = t .refused;
         none-yet = λ ne. t .none-yet;
         stands = t .stands;
         ahead = t .ahead;
-        left = λ z.
-            t .all z
-            ∙ ap (λ (k : Key). after k (listTo (s .task .largest) (s .task .terms) o (pointsOf P) (pointsOf Q))) (g .key-is)
-            ∙ ap (λ (m : ℕ). after (a .key) (listTo m (s .task .terms) o (pointsOf P) (pointsOf Q))) (g .largest-is)
-            ∙ ap (λ (m : Terms). after (a .key) (listTo (a .largest) m o (pointsOf P) (pointsOf Q))) (g .terms-are)
-            ∙ ap (λ (k : ℕ). drop k (after (a .key) (listTo (a .largest) (wantedTerms a) o (pointsOf P) (pointsOf Q)))) (sym (t .none-yet));
+        left = λ z. t .all z ∙ e ∙ ap (λ (k : ℕ). drop k all) (sym (t .none-yet));
         past = t .past;
         few = omega (arith, t .none-yet);
         some = λ z. omega (arith, t .none-yet);
@@ -151,8 +144,8 @@ module _ (P Q : List ℤ) (o : List ℕ) (a : Wanted) (len : ℕ) (ws : List ℕ
 
   module _ (ys : List Pair) (is : length ys ≡ len) (b : List ℕ) (s : Step) (c : Course b s) (over : s .to ≤ s .count) (r : Many) (b′ : List ℕ) (f : Finished s b r b′) where
     module _ (z : s .task .number ≡ 0) where
-      no : pairsNo P Q o a (length ws) ≡ 0
-      no = sym (c .number-is) ∙ z
+      is-no : no ≡ 0
+      is-no = sym (c .number-is) ∙ z
 
       -- how many were stored, and whether more follow
       told : (m : Bool) → s .more ≡ m → (s .count ≡ length (take len all)) × (m ≡ not (isNone (drop len all)))
@@ -166,24 +159,24 @@ module _ (P Q : List ℤ) (o : List ℕ) (a : Wanted) (len : ℕ) (ws : List ℕ
           let k : s .count ≡ length all = omega (arith, c .some z) in
           (omega (arith, length-take len all, c .few), sym (ap not (none-drop len all) ∙ ap (λ (t : Bool). not (not t)) (le-ltb len (length all) (omega (arith, c .few)))))
 
-      given-answer : r ≡ pairsAnswer P Q o a len (length ws)
-      unfolding pairsAnswer manyGiven
+      given-answer : r ≡ answer no (manyGiven len all) manyRefused
+      unfolding manyGiven
       given-answer =
           let t = told (s .more) refl in
           let n = f .number-is ∙ z in
           let k = f .count-is ∙ t .0 in
           let m = f .more-is ∙ t .1 in
-          (λ i. record { number = n i; count = k i; more = m i }) ∙ sym (answer-given (manyGiven len all) manyRefused (pairsNo P Q o a (length ws)) no)
+          (λ i. record { number = n i; count = k i; more = m i }) ∙ sym (answer-given (manyGiven len all) manyRefused no is-no)
 
-      given-slots : put ys all (s .count) ≡ pairsSlots P Q o a ys (length ws)
-      unfolding pairsSlots stored
+      given-slots : put ys all (s .count) ≡ answer no (stored ys all) (λ k. ys)
+      unfolding stored
       given-slots =
           let t = told (s .more) refl .0 in
           let k : s .count ≡ length (take (length ys) all) = t ∙ ap (λ (x : ℕ). length (take x all)) (sym is) in
           put-is ys all (s .count) (c .some z) (omega (arith, c .few, is))
           ∙ ap (λ (x : List Pair). x ++ drop (s .count) ys) (taken (s .count) (length ys) all k)
           ∙ ap (λ (x : ℕ). take (length ys) all ++ drop x ys) k
-          ∙ sym (answer-given (take (length ys) all ++ drop (length (take (length ys) all)) ys) (λ j. ys) (pairsNo P Q o a (length ws)) no)
+          ∙ sym (answer-given (take (length ys) all ++ drop (length (take (length ys) all)) ys) (λ j. ys) no is-no)
         where
           taken : (k n : ℕ) (l : List Pair) → k ≡ length (take n l) → take k l ≡ take n l
           taken k n l e = ap (λ (x : ℕ). take x l) e ∙ again n l
@@ -193,33 +186,31 @@ module _ (P Q : List ℤ) (o : List ℕ) (a : Wanted) (len : ℕ) (ws : List ℕ
               again (suc n) [] = refl
               again (suc n) (v ∷ l) = ap (λ (x : List Pair). v ∷ x) (again n l)
 
-      given-bits : b′ ≡ pairsBits P Q o a ws
-      unfolding pairsBits wiped
+      given-bits : b′ ≡ wipedBy no nd ws
+      unfolding wiped
       given-bits =
           f .words ∙ sym (wiped-given b (s .task .words) (s .task .number) z)
           ∙ ap (λ (x : List ℕ). replicate (s .task .words) 0 ++ x) (c .past z)
-          ∙ ap (λ (n : ℕ). wiped n ws) (c .words-are z) ∙ wiped-given ws (need P) (pairsNo P Q o a (length ws)) no
+          ∙ ap (λ (n : ℕ). wiped n ws) (c .words-are z) ∙ wiped-given ws nd no is-no
 
     module _ (ne : s .task .number ≡ 0 → ⊥) where
-      refused-answer : r ≡ pairsAnswer P Q o a len (length ws)
-      unfolding pairsAnswer manyRefused
+      refused-answer : r ≡ answer no (manyGiven len all) manyRefused
+      unfolding manyRefused
       refused-answer =
           let k = f .count-is ∙ c .none-yet ne in
           let m = f .more-is ∙ c .refused ne .2 in
-          (λ i. record { number = f .number-is i; count = k i; more = m i }) ∙ sym (answer-refused (manyGiven len all) manyRefused (pairsNo P Q o a (length ws)) (s .task .number) (sym (c .number-is)) ne)
+          (λ i. record { number = f .number-is i; count = k i; more = m i }) ∙ sym (answer-refused (manyGiven len all) manyRefused no (s .task .number) (sym (c .number-is)) ne)
 
-      refused-slots : put ys all (s .count) ≡ pairsSlots P Q o a ys (length ws)
-      unfolding pairsSlots
-      refused-slots = ap (put ys all) (c .none-yet ne) ∙ sym (answer-refused (stored ys all) (λ j. ys) (pairsNo P Q o a (length ws)) (s .task .number) (sym (c .number-is)) ne)
+      refused-slots : put ys all (s .count) ≡ answer no (stored ys all) (λ k. ys)
+      refused-slots = ap (put ys all) (c .none-yet ne) ∙ sym (answer-refused (stored ys all) (λ j. ys) no (s .task .number) (sym (c .number-is)) ne)
 
-      refused-bits : b′ ≡ pairsBits P Q o a ws
-      unfolding pairsBits
+      refused-bits : b′ ≡ wipedBy no nd ws
       refused-bits =
           f .words ∙ sym (wiped-refused b (s .task .words) (s .task .number) (s .task .number) refl ne) ∙ c .refused ne .0
-          ∙ wiped-refused ws (need P) (pairsNo P Q o a (length ws)) (s .task .number) (sym (c .number-is)) ne
+          ∙ wiped-refused ws nd no (s .task .number) (sym (c .number-is)) ne
 
     abbrev Told : Type 0
-    Told = (r ≡ pairsAnswer P Q o a len (length ws)) × (put ys all (s .count) ≡ pairsSlots P Q o a ys (length ws)) × (b′ ≡ pairsBits P Q o a ws)
+    Told = (r ≡ answer no (manyGiven len all) manyRefused) × (put ys all (s .count) ≡ answer no (stored ys all) (λ k. ys)) × (b′ ≡ wipedBy no nd ws)
 
     pub course-end : Told
     course-end =
@@ -227,3 +218,31 @@ module _ (P Q : List ℤ) (o : List ℕ) (a : Wanted) (len : ℕ) (ws : List ℕ
         (λ (t : eqb (s .task .number) 0 ≡ true). let z = eqb-true (s .task .number) 0 t in (given-answer z, given-slots z, given-bits z))
         (λ (t : eqb (s .task .number) 0 ≡ false). let ne = eqb-false (s .task .number) 0 t in (refused-answer ne, refused-slots ne, refused-bits ne))
         (decide (eqb (s .task .number) 0))
+
+-- ---- of two sheets, and of a self join
+
+pub begun-course : (P Q : List ℤ) (o : List ℕ) (a : Wanted) (len : ℕ) (ws b : List ℕ) (s : Step) → Begun P Q o a len ws b s → Course P Q o (pairsNo P Q o a (length ws)) (need P) (pairsList P Q o a) len ws b s
+unfolding pairsList
+begun-course P Q o a len ws b s g =
+    course-begun P Q o (pairsNo P Q o a (length ws)) (need P) (pairsList P Q o a) len ws b s (g .started) (g .number-is) (g .words-are)
+    (ap (λ (k : Key). after k (listTo (s .task .largest) (s .task .terms) o (pointsOf P) (pointsOf Q))) (g .key-is)
+    ∙ ap (λ (m : ℕ). after (a .key) (listTo m (s .task .terms) o (pointsOf P) (pointsOf Q))) (g .largest-is)
+    ∙ ap (λ (m : Terms). after (a .key) (listTo (a .largest) m o (pointsOf P) (pointsOf Q))) (g .terms-are))
+
+pub pairs-told : (P Q : List ℤ) (o : List ℕ) (a : Wanted) (ys l : List Pair) (ws : List ℕ) (r : Many) (b : List ℕ) → (r ≡ answer (pairsNo P Q o a (length ws)) (manyGiven (length ys) (pairsList P Q o a)) manyRefused) × (l ≡ answer (pairsNo P Q o a (length ws)) (stored ys (pairsList P Q o a)) (λ k. ys)) × (b ≡ wipedBy (pairsNo P Q o a (length ws)) (need P) ws)
+    → (r ≡ pairsAnswer P Q o a (length ys) (length ws)) × (l ≡ pairsSlots P Q o a ys (length ws)) × (b ≡ pairsBits P Q o a ws)
+unfolding pairsAnswer pairsSlots pairsBits
+pairs-told P Q o a ys l ws r b t = t
+
+pub own-course : (S : List ℤ) (key : Key) (big : ℕ) (g : Bool) (len : ℕ) (ws b : List ℕ) (s : Step) → OwnBegun S key big g len ws b s → Course S S [] (ownPairsNo S key big g (length ws)) (need S) (ownList S key big g) len ws b s
+unfolding ownList
+own-course S key big g len ws b s h =
+    course-begun S S [] (ownPairsNo S key big g (length ws)) (need S) (ownList S key big g) len ws b s (h .started) (h .number-is) (h .words-are)
+    (ap (λ (k : Key). after k (listTo (s .task .largest) (s .task .terms) [] (pointsOf S) (pointsOf S))) (h .key-is)
+    ∙ ap (λ (m : ℕ). after key (listTo m (s .task .terms) [] (pointsOf S) (pointsOf S))) (h .largest-is)
+    ∙ ap (λ (m : Terms). after key (listTo big m [] (pointsOf S) (pointsOf S))) (h .terms-are))
+
+pub own-told : (S : List ℤ) (key : Key) (big : ℕ) (g : Bool) (ys l : List Pair) (ws : List ℕ) (r : Many) (b : List ℕ) → (r ≡ answer (ownPairsNo S key big g (length ws)) (manyGiven (length ys) (ownList S key big g)) manyRefused) × (l ≡ answer (ownPairsNo S key big g (length ws)) (stored ys (ownList S key big g)) (λ k. ys)) × (b ≡ wipedBy (ownPairsNo S key big g (length ws)) (need S) ws)
+    → (r ≡ ownPairsAnswer S key big g (length ys) (length ws)) × (l ≡ ownPairsSlots S key big g ys (length ws)) × (b ≡ ownPairsBits S key big g ws)
+unfolding ownPairsAnswer ownPairsSlots ownPairsBits
+own-told S key big g ys l ws r b t = t

@@ -25,16 +25,16 @@ use Rattle.list.specs.declared.Terms.{Terms}
 use Rattle.list.specs.Pairs.{keyOf, follows, after}
 use Rattle.list.specs.Rows.{row, rows, listBy}
 use Rattle.list.specs.RingList.{pairBy}
-use Rattle.list.specs.Terms.{profileFor}
+use Rattle.list.specs.Terms.{profileFor, aloneBy}
 use Rattle.list.proofs.Order.{after-append}
 use Rattle.ring.specs.Lent.{need, wipedBy}
 use Rattle.ring.proofs.LentLaws.{wiped-refused, wiped-given}
 use Rattle.many.specs.declared.Wanted.{Wanted}
 use Rattle.many.specs.declared.step.Task.{Task}
 use Rattle.many.specs.declared.step.Step.{Step}
-use Rattle.many.specs.Many.{listedTo, listTo, pairsNo, wantedTerms}
+use Rattle.many.specs.Many.{listedTo, listTo, pairsNo, wantedTerms, ownPairsNo}
 use Rattle.many.specs.Cursor.{lateTo, Early, restTo, leftTo, Holding, Advanced}
-use Rattle.many.specs.Step.{ruleOf, pairOf, leftOf, Able, Stand, Ahead, Started, Begun}
+use Rattle.many.specs.Step.{ruleOf, pairOf, leftOf, Able, Stand, Ahead, Started, Begun, OwnBegun}
 use Rattle.many.proofs.KeepLaws.{rest-yes, rest-end}
 use Rattle.many.proofs.ListedLaws.{row-empty, rows-next, list-of-sheets}
 
@@ -221,6 +221,18 @@ begun-is P Q o a len ws b t s st n w k l e =
     let same = st .task-is in
     record {
       started = subst (λ (u : Task). Started P Q o len ws b u s) (sym same) st;
+      number-is = ap (λ (u : Task). u .number) same ∙ n;
+      words-are = λ z. ap (λ (u : Task). u .words) same ∙ w (sym (ap (λ (u : Task). u .number) same) ∙ z);
+      key-is = ap (λ (u : Task). u .key) same ∙ k;
+      largest-is = ap (λ (u : Task). u .largest) same ∙ l;
+      terms-are = ap (λ (u : Task). u .terms) same ∙ e;
+    }
+
+pub own-begun-is : (S : List ℤ) (key : Key) (big : ℕ) (g : Bool) (len : ℕ) (ws b : List ℕ) (t : Task) (s : Step) → Started S S [] len ws b t s → t .number ≡ ownPairsNo S key big g (length ws) → (t .number ≡ 0 → t .words ≡ need S) → t .key ≡ key → t .largest ≡ big → t .terms ≡ aloneBy g → OwnBegun S key big g len ws b s
+own-begun-is S key big g len ws b t s st n w k l e =
+    let same = st .task-is in
+    record {
+      started = subst (λ (u : Task). Started S S [] len ws b u s) (sym same) st;
       number-is = ap (λ (u : Task). u .number) same ∙ n;
       words-are = λ z. ap (λ (u : Task). u .words) same ∙ w (sym (ap (λ (u : Task). u .number) same) ∙ z);
       key-is = ap (λ (u : Task). u .key) same ∙ k;

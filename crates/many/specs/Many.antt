@@ -130,6 +130,19 @@ pairsSlots P Q o a slots bits = answer (pairsNo P Q o a bits) (stored slots (pai
 unfoldable pub pairsBits : List ℤ → List ℤ → List ℕ → Wanted → List ℕ → List ℕ
 pairsBits P Q o a ws = wipedBy (pairsNo P Q o a (length ws)) (need P) ws
 
+-- of a self join: the terms of one, which is undivided and has no threshold
+unfoldable pub ownList : List ℤ → Key → ℕ → Bool → List Pair
+ownList S key big g = after key (listTo big (aloneBy g) [] (pointsOf S) (pointsOf S))
+
+unfoldable pub ownPairsAnswer : List ℤ → Key → ℕ → Bool → ℕ → ℕ → Many
+ownPairsAnswer S key big g len bits = answer (ownPairsNo S key big g bits) (manyGiven len (ownList S key big g)) manyRefused
+
+unfoldable pub ownPairsSlots : List ℤ → Key → ℕ → Bool → List Pair → ℕ → List Pair
+ownPairsSlots S key big g slots bits = answer (ownPairsNo S key big g bits) (stored slots (ownList S key big g)) (λ k. slots)
+
+unfoldable pub ownPairsBits : List ℤ → Key → ℕ → Bool → List ℕ → List ℕ
+ownPairsBits S key big g ws = wipedBy (ownPairsNo S key big g (length ws)) (need S) ws
+
 -- ---- how many pairs a list has
 
 unfoldable pub countGiven : ℕ → Terms → List ℕ → List ℤ → List ℤ → Counted

@@ -10,14 +10,15 @@ use Rattle.sheet.specs.Places.{pointsOf}
 use Rattle.bits.specs.Set.{wordsFor}
 use Rattle.list.specs.declared.Pair.{Pair}
 use Rattle.list.specs.RingList.{pairBy}
-use Rattle.list.specs.Terms.{profileFor}
+use Rattle.list.specs.declared.Key.{Key}
+use Rattle.list.specs.Terms.{profileFor, aloneBy}
 use Rattle.join.specs.Sheets.{Alone}
 use Rattle.many.specs.declared.step.Task.{Task}
 use Rattle.many.specs.declared.step.Step.{Step}
 use Rattle.list.specs.Pairs.{after}
 use Rattle.ring.specs.Lent.{need}
 use Rattle.many.specs.declared.Wanted.{Wanted}
-use Rattle.many.specs.Many.{listedTo, listTo, pairsNo, wantedTerms}
+use Rattle.many.specs.Many.{listedTo, listTo, pairsNo, wantedTerms, ownPairsNo}
 use Rattle.many.specs.Cursor.{leftTo, Holding}
 
 -- the rule and the pairs of a task, and what is left of its list
@@ -70,3 +71,12 @@ pub record Begun (P Q : List ℤ) (o : List ℕ) (a : Wanted) (len : ℕ) (ws b 
   pub key-is : s .task .key ≡ a .key
   pub largest-is : s .task .largest ≡ a .largest
   pub terms-are : s .task .terms ≡ wantedTerms a
+
+-- and of a self join
+pub record OwnBegun (S : List ℤ) (key : Key) (big : ℕ) (g : Bool) (len : ℕ) (ws b : List ℕ) (s : Step) : Type 0 where
+  pub started : Started S S [] len ws b (s .task) s
+  pub number-is : s .task .number ≡ ownPairsNo S key big g (length ws)
+  pub words-are : s .task .number ≡ 0 → s .task .words ≡ need S
+  pub key-is : s .task .key ≡ key
+  pub largest-is : s .task .largest ≡ big
+  pub terms-are : s .task .terms ≡ aloneBy g

@@ -7,12 +7,12 @@ use list::Pair;
 use list::Terms;
 use sheet::Size;
 ghost use mathlib.Core.Path.{_≡_};
-ghost use mathlib.Core.List.{_∷_};
+ghost use mathlib.Core.List.{[], _∷_};
 ghost use Prim.Native.Nat.{_+_, _≤_, _<_};
 ghost use lib.ListN.{length, take, drop};
 ghost use Rattle.ring.specs.Lent.{wipedBy};
 ghost use Rattle.many.specs.Many.{pairsNo, wantedTerms};
-ghost use Rattle.many.specs.Step.{Able, Stand, leftOf, Ahead, Started, Begun};
+ghost use Rattle.many.specs.Step.{Able, Stand, leftOf, Ahead, Started, Begun, OwnBegun};
 
 // What is to be done: the number of refusal, or 0 and the sheets' counts, the words needed, and which pairs of which list.
 pub(crate) struct Task {
@@ -139,6 +139,37 @@ pub(crate) fn first_step(
     started(p, q, owners, len, bits, task)
 }
 
+// The same of a self join.
+pub(crate) fn own_first(
+    s: &[i32],
+    key: Key,
+    largest: u64,
+    grid: bool,
+    len: usize,
+    bits: &mut [u64],
+) -> Step
+    ensures { λ r. ⌜ OwnBegun (now (s .entry)) key largest grid len (now (bits .entry)) (now (bits .exit)) r ⌝ }
+{
+    let k = crate::check::checked_own(s, key, largest, grid, bits.len());
+    let hp = k.hp;
+    let hq = k.hq;
+    let task = Task {
+        number: k.number,
+        hp: hp,
+        hq: hq,
+        words: k.words,
+        key: key,
+        largest: largest,
+        terms: Terms {
+            threshold: 0,
+            contractor: 2,
+            own: true,
+            grid: grid,
+        },
+    };
+    started(s, s, b"", len, bits, task)
+}
+
 // The step to the first pair of a task, where it is not refused.
 fn started(p: &[i32], q: &[i32], owners: &[u8], len: usize, bits: &mut [u64], task: Task) -> Step
     requires { ⌜ (task .number ≡ 0 → Able (now p) (now q) task (length (now bits))) ⌝ }
@@ -194,6 +225,14 @@ pub(crate) fn another(
     t.count = s.count + 1;
     t.i = s.i + 1;
     step_from(p, q, owners, len, bits, t)
+}
+
+// The same of a self join.
+pub(crate) fn own_another(s: &[i32], len: usize, bits: &mut [u64], st: Step) -> Step
+    requires { ⌜ Stand (now s) (now s) [] (now bits) st × Ahead (now s) (now s) [] len st × (st .count < st .to) ⌝ }
+    ensures { λ r. ⌜ Stand (now (s .entry)) (now (s .entry)) [] (now (bits .exit)) r × Ahead (now (s .entry)) (now (s .entry)) [] len r × (r .task ≡ st .task) × (r .count ≡ st .count + 1) × (leftOf (now (s .entry)) (now (s .entry)) [] (st .task) (st .at) (st .i) (st .next) ≡ st .pair ∷ leftOf (now (s .entry)) (now (s .entry)) [] (r .task) (r .at) (r .i) (r .next)) × (drop (st .task .words) (now (bits .exit)) ≡ drop (st .task .words) (now (bits .entry))) ⌝ }
+{
+    another(s, s, b"", len, bits, st)
 }
 
 // At the end: the answer, with zeros in the words that were needed where it is one.

@@ -62,13 +62,13 @@ use Rattle.list.specs.Pairs.{none}
 use Rattle.list.proofs.PairRows.{word, P, pv, width, scaled}
 use Rattle.list.proofs.Pair as T
 use Rattle.list.proofs.Pair.Laws as T′
-use Rattle.ring.specs.Lent.{wipedBy}
+use Rattle.ring.specs.Lent.{need, wipedBy}
 use Rattle.many.specs.declared.Wanted.{Wanted}
 use Rattle.many.specs.declared.Many.{Many}
 use Rattle.many.specs.declared.step.Step.{Step}
-use Rattle.many.specs.Many.{pairsList}
+use Rattle.many.specs.Many.{pairsNo, pairsList}
 use Rattle.many.specs.Step.{leftOf, Stand, Ahead, Begun}
-use Rattle.many.proofs.PairsLaws.{put, put-long, Course, course-begun, answers, slot, is-next, course-next, Finished, course-end}
+use Rattle.many.proofs.PairsLaws.{put, put-long, Course, begun-course, answers, slot, is-next, course-next, Finished, course-end, pairs-told}
 use Rattle.many.proofs.Many as R
 use Rattle.many.proofs.Many.Laws as R′
 use Rattle.many.proofs.Wanted as Wd
@@ -181,6 +181,13 @@ module _ {M : Type 1} (𝓤 : URA M) (H : Heap 𝓤) (A : Atoms 𝓤) (W : Given
   abbrev zs : ℕ → List Pair
   zs k = put ys l k
 
+  -- the number, and how many words are needed
+  abbrev no : ℕ
+  no = pairsNo (now p) (now q) (now ow) wt (length ws)
+
+  abbrev nd : ℕ
+  nd = need (now p)
+
   -- what the calls take: the tokens, and the slices that can be copied
   abbrev Toks : Lft → Item 𝓤
   Toks ν = ‵ (flft κp πp) ⊛ ‵ (flft κq πq) ⊛ ‵ (flft κo πo) ⊛ ‵ (flft ν fullShare) ⊛ ‵ ftrue
@@ -228,7 +235,7 @@ module _ {M : Type 1} (𝓤 : URA M) (H : Heap 𝓤) (A : Atoms 𝓤) (W : Given
 
   -- the course of the work, and what the calls ask in it
   abbrev On : List ℕ → Step → Type 0
-  On bs st = Course (now p) (now q) (now ow) wt (length ys) ws bs st
+  On bs st = Course (now p) (now q) (now ow) no nd l (length ys) ws bs st
 
   abbrev Asks : List ℕ → Step → Type 0
   Asks bs st = Stand (now p) (now q) (now ow) bs st × Ahead (now p) (now q) (now ow) (length ys) st × (st .count < st .to)
@@ -283,7 +290,7 @@ module _ {M : Type 1} (𝓤 : URA M) (H : Heap 𝓤) (A : Atoms 𝓤) (W : Given
     exits st bs on over r′ r′-is bs′ long′ f =
         qed W (‵ (fobs γ (codedHoleys P .code (heres P (zs (st .count))))) ∷ ‵ (fbor κ (Held P (length (zs (st .count))) b o γ)) ∷ ‵ (flft κ π) ∷ ‵ (fobs δ₀ (codedHoleys u64 .code (heres u64 bs′))) ∷ ‵ (fbor κb (Held u64 (length bs′) c d δ₀)) ∷ ‵ (flft κb πb) ∷ Hand ∷ []) ∵
         suffices ! _ (ends-at 𝓤 H A self.ended stayed (self.clauses 𝓤 H A mem run) W (((κp, (κq, (κo, (κ, (κb, tt))))), (πp, (πq, (πo, (π, (πb, tt))))), tt, a, vals), tt) (rval r′) r′ (tt, (tt, (tt, (tt, (zs (st .count), (bs′, tt)))))) (tt, (tt, (tt, (tt, (len, (long′, tt))))))) $
-        says ! (course-end (now p) (now q) (now ow) wt (length ys) ws ys refl bs st on over r′ bs′ (record { number-is = f .0; count-is = f .1; more-is = f .2; words = f .3 })) $
+        says ! (pairs-told (now p) (now q) (now ow) wt ys (zs (st .count)) ws r′ bs′ (course-end (now p) (now q) (now ow) no nd l (length ys) ws ys refl bs st on over r′ bs′ (record { number-is = f .0; count-is = f .1; more-is = f .2; words = f .3 }))) $
         move ! (6 ∷ []) $ split ! $ split ! $ move ! (1 ∷ []) $ split ! $
         -- [q's token; owners'; p's; the slices; obs; the borrow; its token; obs of the words; their borrow; its token]
         nothing ! $ move ! (10 ∷ 0 ∷ []) $ join ! $ move ! (7 ∷ 0 ∷ []) $ join ! $ move ! (2 ∷ 0 ∷ []) $ join ! $ move ! (1 ∷ 0 ∷ []) $ join ! $ move ! (1 ∷ 0 ∷ []) $ join ! $ frame ! $
@@ -358,7 +365,7 @@ module _ {M : Type 1} (𝓤 : URA M) (H : Heap 𝓤) (A : Atoms 𝓤) (W : Given
           -- [the slot; what it owns; the others; the tokens and slices; the row of words; …], the locals two further on
           assigns ! (of-opd ! (load ! (from ! (fld ! refl (stop !))) (look-in ! 29 (sub ! 4 refl (whole !))))) (from ! (hop ! (look ! 19 refl) (stop !))) (store-raw ! 0 refl (LL.lawful T.the-type T′.the-laws 𝓤 H A W .typed (i .0 .pair) _ pair-is .0)) $
           move ! (1 ∷ []) $ drop ! $ owned ! P (Is P) (LL.makes T.the-type T′.the-plain 𝓤 H A) (i .0 .pair) _ pair-is $ move ! (1 ∷ 0 ∷ []) $ elem-put ! P fullShare (zs (i .0 .count)) (i .0 .count) (i .0 .pair) (pv (i .0 .pair)) b o within $
-          rewrite ! 0 (λ (w : Pair). ‵ (row P fullShare (set (zs (i .0 .count)) (i .0 .count) w) b o)) (is-next (now p) (now q) (now ow) wt (length ys) ws (i .1) (i .0) on less) refl $
+          rewrite ! 0 (λ (w : Pair). ‵ (row P fullShare (set (zs (i .0 .count)) (i .0 .count) w) b o)) (is-next (now p) (now q) (now ow) no nd l (length ys) ws (i .1) (i .0) on less) refl $
           -- [the row of slots; the tokens and slices; the row of words; the open borrow; …]
           assigns ! (addr ! (from ! (fld ! refl (hop ! (look-in ! 31 (sub ! 0 refl (whole !))) (stop !))))) (from ! (stop !)) (init ! 15 refl (tt, tt)) $
           assigns ! (agg ! (and-then ! (load ! (from ! (stop !)) (look ! 15 refl)) (and-then ! (load ! (from ! (fld ! refl (stop !))) (look-in ! 31 (sub ! 1 refl (whole !)))) (no-more !)))) (from ! (stop !)) (init ! 13 refl (tt, (tt, (record { fits = roomb .0 }, tt)))) $
@@ -381,7 +388,7 @@ module _ {M : Type 1} (𝓤 : URA M) (H : Heap 𝓤) (A : Atoms 𝓤) (W : Given
           rewrite ! 2 (λ (k : ℕ). ‵ (row P fullShare (zs k) b o)) (sym (f .3 ∙ one-more (i .0 .count))) refl $
           land-last ! (from ! (stop !)) (store ! 27 refl (LL.lawful S.the-type S′.the-laws 𝓤 H A W .typed t _ is .0)) $ rewrite ! 27 (λ (w : Val). ‵ (fat fullShare S′.mir l₈ 0 w)) (ap only (LL.tells S.the-type S′.the-laws t _ is)) refl $
           forget ! 13 refl $ forget ! 15 refl $ forget ! 17 refl $ forget ! 19 refl $ forget ! 21 refl $
-          again ! Nearer At i (t, (z .1 .1 .1 .1 .0), same ∙ i .2, subst (Is S.the-row t) (LL.tells S.the-type S′.the-laws t _ is) is, course-next (now p) (now q) (now ow) wt (length ys) ws (i .1) (i .0) on less (z .1 .1 .1 .1 .0) t (f .0) (f .1) (f .2) (f .3) (f .4) (f .5)) (nearer (i .0 .count) (t .count) (length ys) slotted (f .3)))))))))))
+          again ! Nearer At i (t, (z .1 .1 .1 .1 .0), same ∙ i .2, subst (Is S.the-row t) (LL.tells S.the-type S′.the-laws t _ is) is, course-next (now p) (now q) (now ow) no nd l (length ys) ws (i .1) (i .0) on less (z .1 .1 .1 .1 .0) t (f .0) (f .1) (f .2) (f .3) (f .4) (f .5)) (nearer (i .0 .count) (t .count) (length ys) slotted (f .3)))))))))))
         where
           one-more : (k : ℕ) → k + 1 ≡ suc k
           one-more k = omega arith
@@ -390,13 +397,13 @@ module _ {M : Type 1} (𝓤 : URA M) (H : Heap 𝓤) (A : Atoms 𝓤) (W : Given
           on = i .4
 
           number : i .0 .task .number ≡ 0
-          number = answers (now p) (now q) (now ow) wt (length ys) ws (i .1) (i .0) on less
+          number = answers (now p) (now q) (now ow) no nd l (length ys) ws (i .1) (i .0) on less
 
           asks : Asks (i .1) (i .0)
           asks = (on .stands number, on .ahead number, less)
 
           slotted : i .0 .count < length ys
-          slotted = slot (now p) (now q) (now ow) wt (length ys) ws (i .1) (i .0) on less
+          slotted = slot (now p) (now q) (now ow) no nd l (length ys) ws (i .1) (i .0) on less
 
           small : i .0 .count * width < 2 ^ 64
           small = scaled (i .0 .count) (length ys) slotted (room .1)
@@ -494,7 +501,7 @@ module _ {M : Type 1} (𝓤 : URA M) (H : Heap 𝓤) (A : Atoms 𝓤) (W : Given
           use3 W (later (‵ (Arr (memOf u64) (length ws) .lies (z .1 .1 .1 .1 .1 .0) c d))) (slice-back 𝓤 H A W u64 (ν ∷ []) δ (z .1 .1 .1 .1 .1 .0) (length ws) c d) $ await ! tt $ fsplit ! $ drop ! $ use1 W (‵ (row u64 fullShare (z .1 .1 .1 .1 .1 .0) c d)) (whole-out 𝓤 H A W u64 (z .1 .1 .1 .1 .1 .0) c d) $
           move ! (1 ∷ []) $ drop ! $ move ! (4 ∷ []) $ drop ! $ move ! (2 ∷ 1 ∷ []) $ join ! $ move ! (2 ∷ 0 ∷ []) $ join ! $ move ! (0 ∷ 2 ∷ []) $ join ! $
           rewrite ! 2 (λ (k : ℕ). ‵ (row P fullShare (zs k) b o)) (sym (e .started .none-yet)) refl $
-          looping 𝓣 fm known-another known-finish l₀ l₁ l₂ l₃ l₄ l₅ l₆ l₇ l₈ l₉ l₁₀ l₁₁ l₁₂ l₁₃ l₁₄ l₁₅ l₁₆ l₁₇ (t, (z .1 .1 .1 .1 .1 .0), long, subst (Is S.the-row t) (LL.tells S.the-type S′.the-laws t _ is) is, course-begun (now p) (now q) (now ow) wt (length ys) ws (z .1 .1 .1 .1 .1 .0) t e)))))))))))))))))))))))))))
+          looping 𝓣 fm known-another known-finish l₀ l₁ l₂ l₃ l₄ l₅ l₆ l₇ l₈ l₉ l₁₀ l₁₁ l₁₂ l₁₃ l₁₄ l₁₅ l₁₆ l₁₇ (t, (z .1 .1 .1 .1 .1 .0), long, subst (Is S.the-row t) (LL.tells S.the-type S′.the-laws t _ is) is, begun-course (now p) (now q) (now ow) wt (length ys) ws (z .1 .1 .1 .1 .1 .0) t e)))))))))))))))))))))))))))
 
 module _ {M : Type 1} (𝓤 : URA M) (H : Heap 𝓤) (A : Atoms 𝓤) (W : Given 𝓤 H A) (mem : Memory → SProp 𝓤) (run : Routine → Fun 𝓤) where
   walks : (𝓣 : Tables 𝓤 H) → FmC 𝓤 H (W .laws) (𝓣 .C) → Triple 𝓤 (𝓣 .C #many·first) (Begin 𝓤 H A mem run) → Triple 𝓤 (𝓣 .C #many·another) (Another 𝓤 H A mem run) → Triple 𝓤 (𝓣 .C #many·finish) (Finish 𝓤 H A mem run) → Walks 𝓤 H A self.ended stayed (WpFn 𝓤 H (𝓣 .C) (𝓣 .Λ) code.function) (self.clauses 𝓤 H A mem run)
