@@ -10,6 +10,7 @@
 --     Demand3     the book's story, with the pages that the shipped page request answers
 --     Blind       what one contractor is handed does not depend on the ids of the other's chambers
 --     Worlds      the premises of demand 3 can be had
+--     Border      beyond one sheet: what the sheets of a province say of the whole country
 --     Says        where a promise is stated anew, it is the `ensures` of its call
 --     Alike       calls through views, and on arrays, answer as those on slices do, so the theorems hold of them too
 --     OverC       the calls over C: what crosses is the answer of the call, so the theorems hold of it too
@@ -29,3 +30,4 @@ pub mod Demand3
 pub mod Blind
 pub mod OverC
 pub mod Worlds
+pub mod Border

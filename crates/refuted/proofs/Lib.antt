@@ -13,6 +13,7 @@
 --     Shortest       the shortest circles
 --     Streets        the street grid: what blocks, boxes, sizes, numbers
 --     Contractors    two contractors: whose a chamber is, what each is handed, numbers
+--     Border         a province's box: which circles lie in it, its margin, its records
 --     Marker         the map marker
 pub mod Cases
 pub mod Plane
@@ -27,4 +28,5 @@ pub mod Nearest
 pub mod Shortest
 pub mod Streets
 pub mod Contractors
+pub mod Border
 pub mod Marker
