@@ -147,24 +147,26 @@ module _ (pumps chambers : List Point) (country : Country pumps chambers) (g : B
 
 -- ---- each visit of the country once: of the circle
 
--- A province keeps some chambers of its part: their owner bytes are 0, those of the others 1, so that the list of what it keeps is contractor 0's, and all records still block. Of each that it keeps it has
--- seen that it is settled: all of the map outside R is behind records of the part, and the circle of each pair that it has in the part lies in R. l are the pairs of its pages.
+-- A province keeps some chambers of its part: their owner bytes are a contractor's, 0 or 1, and those of the others are not, so that the list of what it keeps is that contractor's, in which all records still
+-- block. Of each that it keeps it has seen that it is settled: all of the map outside R is behind records of the part, and the circle of each pair that it has in the part lies in R. l are the pairs of its pages.
 pub record Share (pumps chambers : List Point) (map : Boxed) : Type 0 where
   pub r : Boxed
   pub P : List ℤ
   pub Q : List ℤ
   pub province : Province pumps chambers r P Q
+  pub whom : ℕ
+  pub one : whom < 2
   pub o : List ℕ
   pub l : List Pair
-  pub pages : Pages (ofContractor 0 full) o P Q l
-  pub settled : (k : ℕ) → k < points Q → getD o k 2 ≡ 0 → Settled map r (pointsOf P) (pointsOf Q) k
+  pub pages : Pages (ofContractor whom full) o P Q l
+  pub settled : (k : ℕ) → k < points Q → getD o k 2 ≡ whom → Settled map r (pointsOf P) (pointsOf Q) k
 
 -- the chamber at position j of the country is one that the province keeps
 pub record Keeps (pumps chambers : List Point) (map : Boxed) (s : Share pumps chambers map) (j : ℕ) : Type 0 where
   pub at : ℕ
   pub here : at < points (s .Q)
   pub is : pointAt chambers j ≡ pointAt (pointsOf (s .Q)) at
-  pub byte : getD (s .o) at 2 ≡ 0
+  pub byte : getD (s .o) at 2 ≡ s .whom
 
 -- of n provinces one keeps it, and no other
 pub record KeptOnce (pumps chambers : List Point) (map : Boxed) (shares : ℕ → Share pumps chambers map) (n j : ℕ) : Type 0 where
@@ -196,18 +198,18 @@ module _ (pumps chambers : List Point) (country : Country pumps chambers) (map :
     many-q : length Q′ ≡ points (s .Q)
     many-q = ap length (sym (s .province .chambers-are)) ∙ length-points (s .Q)
 
-    kept-list : s .l ≡ listFor (ofContractor 0 full) (s .o) P′ Q′
-    kept-list = pages-are pumps chambers (s .r) (s .P) (s .Q) (s .province) (ofContractor 0 full) (s .o) (s .l) (s .pages) ∙ ap₂ (listFor (ofContractor 0 full) (s .o)) (s .province .pumps-are) (s .province .chambers-are)
+    kept-list : s .l ≡ listFor (ofContractor (s .whom) full) (s .o) P′ Q′
+    kept-list = pages-are pumps chambers (s .r) (s .P) (s .Q) (s .province) (ofContractor (s .whom) full) (s .o) (s .l) (s .pages) ∙ ap₂ (listFor (ofContractor (s .whom) full) (s .o)) (s .province .pumps-are) (s .province .chambers-are)
 
-    part-settled : (k : ℕ) → k < length Q′ → getD (s .o) k 2 ≡ 0 → Settled map (s .r) P′ Q′ k
+    part-settled : (k : ℕ) → k < length Q′ → getD (s .o) k 2 ≡ s .whom → Settled map (s .r) P′ Q′ k
     part-settled k h b =
         subst (λ (x : List Point). Settled map (s .r) x Q′ k) (s .province .pumps-are)
         (subst (λ (x : List Point). Settled map (s .r) (pointsOf (s .P)) x k) (s .province .chambers-are) (s .settled k (omega (arith, h, many-q)) b))
 
-    kept-iff : (k h : ℕ) → k < length Q′ → h < length P′ → List·Memᴰ (pairBy circle P′ Q′ k h) (listFor (ofContractor 0 full) (s .o) P′ Q′) ↔ ((ringPairBy circle P′ Q′ k h ≡ true) × (getD (s .o) k 2 ≡ 0))
+    kept-iff : (k h : ℕ) → k < length Q′ → h < length P′ → List·Memᴰ (pairBy circle P′ Q′ k h) (listFor (ofContractor (s .whom) full) (s .o) P′ Q′) ↔ ((ringPairBy circle P′ Q′ k h ≡ true) × (getD (s .o) k 2 ≡ s .whom))
     kept-iff k h k-in h-in =
         rw (← s .province .pumps-are, ← s .province .chambers-are)
-        (contractor-ring (s .P) (s .Q) (s .province .p-opens) (s .province .q-opens) false 0 (omega arith) (s .o) k h (omega (arith, k-in, many-q)) (omega (arith, h-in, many-p)))
+        (contractor-ring (s .P) (s .Q) (s .province .p-opens) (s .province .q-opens) false (s .whom) (s .one) (s .o) k h (omega (arith, k-in, many-q)) (omega (arith, h-in, many-p)))
 
     -- The pages of what a province keeps hold a chamber and a pump house of the country exactly if they are a ring pair of the country and the province keeps the chamber, however far apart they are.
     -- [Q5]
@@ -217,8 +219,8 @@ module _ (pumps chambers : List Point) (country : Country pumps chambers) (map :
         there : List·Memᴰ (pairBy circle pumps chambers j i) (s .l) → (ringPairBy circle pumps chambers j i ≡ true) × Keeps pumps chambers map s j
         there m =
             let n = subst (List·Memᴰ (pairBy circle pumps chambers j i)) kept-list m in
-            let z = of-settled.visit-at (ofContractor 0 full) (s .o) (s .r) pumps chambers (country .pumps-rise) (country .chambers-rise) j i j-in i-in n in
-            let w = kept-iff (z .at-q) (z .at-p) (z .q-in) (z .p-in) .0 (subst (λ (v : Pair). List·Memᴰ v (listFor (ofContractor 0 full) (s .o) P′ Q′)) (z .is) n) in (
+            let z = of-settled.visit-at (ofContractor (s .whom) full) (s .o) (s .r) pumps chambers (country .pumps-rise) (country .chambers-rise) j i j-in i-in n in
+            let w = kept-iff (z .at-q) (z .at-p) (z .q-in) (z .p-in) .0 (subst (λ (v : Pair). List·Memᴰ v (listFor (ofContractor (s .whom) full) (s .o) P′ Q′)) (z .is) n) in (
               of-settled.settled-pair map (s .r) pumps chambers j (z .at-q) (z .same-q) (part-settled (z .at-q) (z .q-in) (w .1)) i (z .at-p) (z .p-in) (z .same-p) ∙ w .0,
               record { at = z .at-q; here = omega (arith, z .q-in, many-q); is = z .same-q ∙ ap (λ (x : List Point). pointAt x (z .at-q)) (sym (s .province .chambers-are)); byte = w .1 },
             )
@@ -232,13 +234,13 @@ module _ (pumps chambers : List Point) (country : Country pumps chambers) (map :
             let y = of-border.part-has (s .r) pumps i i-in (of-settled.settled-here map (s .r) pumps chambers j (k .at) same-q settled i (on-map i i-in) (x .0)) in
             let e : ringPairBy circle P′ Q′ (k .at) (y .at) ≡ true = sym (of-settled.settled-pair map (s .r) pumps chambers j (k .at) same-q settled i (y .at) (y .here) (sym (y .is))) ∙ x .0 in
             subst (List·Memᴰ (pairBy circle pumps chambers j i)) (sym kept-list)
-            (subst (λ (v : Pair). List·Memᴰ v (listFor (ofContractor 0 full) (s .o) P′ Q′)) (sym (of-border.same-pair false (s .r) pumps chambers j i (k .at) (y .at) same-q (sym (y .is))))
+            (subst (λ (v : Pair). List·Memᴰ v (listFor (ofContractor (s .whom) full) (s .o) P′ Q′)) (sym (of-border.same-pair false (s .r) pumps chambers j i (k .at) (y .at) same-q (sym (y .is))))
             (kept-iff (k .at) (y .at) k-in (y .here) .1 (e, k .byte)))
 
     -- And they hold nothing else: each of their pairs is that of two records of the country, with their ids and their size. [Q5, Q6]
     pub province-only : (v : Pair) → List·Memᴰ v (s .l) → (j : ℕ) × (i : ℕ) × (j < length chambers) × (i < length pumps) × (v ≡ pairBy circle pumps chambers j i)
     province-only v m =
-        let z = for-only (ofContractor 0 full) (s .o) P′ Q′ (of-border.part-rises (s .r) pumps (country .pumps-rise)) (of-border.part-rises (s .r) chambers (country .chambers-rise)) v (subst (List·Memᴰ v) kept-list m) in
+        let z = for-only (ofContractor (s .whom) full) (s .o) P′ Q′ (of-border.part-rises (s .r) pumps (country .pumps-rise)) (of-border.part-rises (s .r) chambers (country .chambers-rise)) v (subst (List·Memᴰ v) kept-list m) in
         let y = of-border.part-within (s .r) chambers (z .at-q) (z .q-in) .0 in
         let x = of-border.part-within (s .r) pumps (z .at-p) (z .p-in) .0 in
         (y .at, x .at, y .here, x .here, z .is ∙ sym (of-border.same-pair false (s .r) pumps chambers (y .at) (x .at) (z .at-q) (z .at-p) (y .is) (x .is)))
