@@ -21,7 +21,7 @@
 #define LEN(a) (sizeof(a) / sizeof (a)[0])
 
 static uint64_t seed = 88172645463325252ull;
-static unsigned long pages_came, forms_came, pages_lost, forms_lost, taken_pages, numbers[RING_LAST_REFUSAL + 1], orders, known, towns, wrong, first_wrong;
+static unsigned long pages_came, forms_came, pages_lost, forms_lost, taken_pages, numbers[RING_LAST_REFUSAL + 1], orders, known, lost, doubled, towns, wrong, first_wrong;
 
 #define HOLD(test) ((test) ? (void)0 : (void)(wrong++ ? 0 : (first_wrong = __LINE__)))
 
@@ -246,6 +246,8 @@ static void hold_depot(void) {
             RingForm want = form_of(&books[i], n);
             size_t times = 0;
             for (size_t at = 0; at < depot.held; at++) times += same_form(&shelf[at], &want);
+            if (times == 0) lost++;
+            if (times > 1) doubled += times - 1;
             HOLD(times == 1);
         }
 }
@@ -281,8 +283,8 @@ int main(int argc, char **argv) {
         return 1;
     }
     printf("deliveries: %lu (%lu pages, %lu forms) to %lu books of %lu towns, %lu pages and %lu forms lost besides; pages: %lu taken, %lu not the next, %lu for a closed book, %lu of another list; "
-           "forms: %lu issued, %lu known; lost 0, doubled 0\n",
+           "forms: %lu issued, %lu known; lost %lu, doubled %lu\n",
            pages_came + forms_came, pages_came, forms_came, BOOKS * towns, towns, pages_lost, forms_lost, taken_pages, numbers[RING_OTHER_KEY], numbers[RING_BOOK_CLOSED],
-           numbers[RING_OTHER_CONTRACTOR] + numbers[RING_OTHER_EDITION] + numbers[RING_OTHER_THRESHOLD], orders, known);
+           numbers[RING_OTHER_CONTRACTOR] + numbers[RING_OTHER_EDITION] + numbers[RING_OTHER_THRESHOLD], orders, known, lost, doubled);
     return numbers[RING_OTHER_KEY] && numbers[RING_BOOK_CLOSED] && numbers[RING_OTHER_CONTRACTOR] && numbers[RING_OTHER_EDITION] && numbers[RING_OTHER_THRESHOLD] ? 0 : 1;
 }

@@ -135,6 +135,14 @@ class Browser:
             self.mouse("mouseWheel", x, y, deltaX=0, deltaY=-100 if turns > 0 else 100)
         self.settled()
 
+    def pinch(self, a, b, to_a, to_b):
+        """Two fingers put down, moved and lifted."""
+        self.call("Emulation.setTouchEmulationEnabled", enabled=True, maxTouchPoints=2)
+        for kind, ends in (("touchStart", (a, b)), ("touchMove", (to_a, to_b)), ("touchEnd", ())):
+            self.call("Input.dispatchTouchEvent", type=kind, touchPoints=[{"x": x, "y": y, "id": k} for k, (x, y) in enumerate(ends)])
+            self.settled()
+        self.call("Emulation.setTouchEmulationEnabled", enabled=False)
+
     def press(self, key):
         for kind in ("keyDown", "keyUp"):
             self.call("Input.dispatchKeyEvent", type=kind, key=key, code=key, **({"text": "\r"} if key == "Enter" and kind == "keyDown" else {}))

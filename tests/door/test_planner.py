@@ -116,9 +116,6 @@ class Pages(Commands):
         self.assertEqual(*made)
 
     def test_names_cannot_break_out(self):
-        name = "</script><b>.sheet"
-        with open(self.path("a") + name.replace("/", "_"), "wb") as f:
-            f.write(stored("pumps.sheet"))
         text = planner.page(self.ring, self.pumps, self.chambers, self.listed, {}, names=("</script><b>", "Q"))
         self.assertEqual((text.count("</script>"), data_of(text)["p"]["name"]), (2, "</script><b>"))
 
@@ -264,6 +261,15 @@ class Town(Used, Commands):
         self.page.click(500, 5)
         self.page.press("+")
         self.assertAlmostEqual(self.page.run("view.k") / k, 1.25, 6)
+
+    def test_two_fingers(self):
+        self.town(LISTING)
+        k = self.page.run("view.k")
+        self.page.pinch((450, 380), (550, 380), (400, 380), (600, 380))
+        self.assertAlmostEqual(self.page.run("view.k") / k, 2, 1)
+        # none is left on the map: a pointer that moves says what is under it
+        self.page.move(*self.at("Q", 1235))
+        self.assertTrue(self.page.text("hint").startswith("chamber 1235 at "))
 
     def test_a_chamber_without_a_visit(self):
         self.town(LISTING)
