@@ -1,0 +1,12 @@
+-- `many::count::refused` meets its contract. Assumes nothing.
+use mathlib.Core.Path.{refl}
+use Rattle.many.specs.Many.{countRefused}
+use Rattle.many.proofs.count.refused.Statement.{statement}
+use Rattle.many.proofs.count.refused.Tie as tie
+
+returns : tie.Need-returns
+unfolding countRefused
+returns c = refl
+
+pub refused-spec : {M : Type 1} → statement M
+refused-spec = tie.close (tie.spec returns)

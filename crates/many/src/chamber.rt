@@ -1,0 +1,181 @@
+// The pairs of one chamber, kept on lent words: exactly those that the rule makes.
+use list::Terms;
+use plane::Spot;
+use sheet::Size;
+ghost use mathlib.Core.Path.{_≡_};
+ghost use mathlib.Core.Bool.{not, _&&_, _||_};
+ghost use Prim.Native.Nat.{ℕ, _<_};
+ghost use lib.Dec.{leb, ltb};
+ghost use lib.ListN.{length};
+ghost use Rattle.plane.specs.Rule.{SpotIn};
+ghost use Rattle.plane.specs.Point.{idAt, spotAt};
+ghost use Rattle.sheet.specs.Open.{Opens};
+ghost use Rattle.sheet.specs.Places.{pointsOf};
+ghost use Rattle.bits.specs.Set.{kept, Holds};
+ghost use Rattle.list.specs.Rows.{row};
+ghost use Rattle.list.specs.RingList.{pairBy};
+ghost use Rattle.list.specs.Terms.{profileFor};
+ghost use Rattle.join.specs.Sheets.{Alone};
+ghost use Rattle.seeds.specs.Covers.{Covers};
+ghost use Rattle.many.specs.Many.{smallFor};
+ghost use Rattle.many.specs.Chamber.{freeOf, Right, PairsOn};
+
+// What was found of the place tried last: where it is, and whether its pair with the chamber is clear. For a record at the same place no walk is made again.
+pub(crate) struct Seen {
+    known: bool,
+    at: Spot,
+    clear: bool,
+}
+
+// Whether a pair is one of those asked for, and what was found last.
+struct Judged {
+    holds: bool,
+    seen: Seen,
+}
+
+// Whether no record of either sheet blocks the pair of the places a and b. Of a self join the sheets are one.
+fn is_free(p: &[i32], hp: Size, q: &[i32], hq: Size, terms: Terms, a: Spot, b: Spot) -> bool
+    requires { ⌜ Opens (now p) (hp .n) (hp .m) × Opens (now q) (hq .n) (hq .m) × Alone terms (now p) (now q) × SpotIn a × SpotIn b ⌝ }
+    ensures { λ r. ⌜ r ≡ freeOf terms (now (p .entry)) (now (q .entry)) a b ⌝ }
+{
+    let grid = terms.grid;
+    let own = terms.own;
+    let x = walk::ring::ring_on(q, hq.n, hq.m, 1, a, b, 0, grid);
+    if !walk::clear_after(x) {
+        return false;
+    }
+    if own {
+        return true;
+    }
+    let y = walk::ring::ring_on(p, hp.n, hp.m, 0, a, b, 0, grid);
+    walk::clear_after(y)
+}
+
+// The same, by what was found last where it was of the place b.
+fn seen_at(
+    p: &[i32],
+    hp: Size,
+    q: &[i32],
+    hq: Size,
+    terms: Terms,
+    a: Spot,
+    b: Spot,
+    seen: Seen,
+) -> Seen
+    requires { ⌜ Opens (now p) (hp .n) (hp .m) × Opens (now q) (hq .n) (hq .m) × Alone terms (now p) (now q) × SpotIn a × SpotIn b × Right terms (now p) (now q) a (seen .known) (seen .at) (seen .clear) ⌝ }
+    ensures { λ r. ⌜ Right terms (now (p .entry)) (now (q .entry)) a (r .known) (r .at) (r .clear) × (r .clear ≡ freeOf terms (now (p .entry)) (now (q .entry)) a b) ⌝ }
+{
+    let at = seen.at;
+    if seen.known & plane::is_same(at, b) {
+        return seen;
+    }
+    Seen {
+        known: true,
+        at: b,
+        clear: is_free(p, hp, q, hq, terms, a, b),
+    }
+}
+
+// Whether the pair of position j of Q and position i of P may be asked for, whatever blocks it: of a self join the ids ascend; and its size is at most the largest.
+fn may_be(
+    p: &[i32],
+    hp: Size,
+    q: &[i32],
+    hq: Size,
+    terms: Terms,
+    largest: u64,
+    j: usize,
+    i: usize,
+) -> bool
+    requires { ⌜ Opens (now p) (hp .n) (hp .m) × Opens (now q) (hq .n) (hq .m) × (j < hq .n) × (i < hp .n) ⌝ }
+    ensures { λ r. ⌜ r ≡ ((not (terms .own) || ltb (idAt (pointsOf (now (q .entry))) j) (idAt (pointsOf (now (p .entry))) i)) && leb (profileFor terms .size (spotAt (pointsOf (now (q .entry))) j) (spotAt (pointsOf (now (p .entry))) i)) largest) ⌝ }
+{
+    let v = walk::pair::pair_by(p, hp, q, hq, j, i, terms.grid);
+    let own = terms.own;
+    (!own | (v.q < v.p)) & (v.size <= largest)
+}
+
+// Whether the pair of position j of Q and position i of P is one of those asked for.
+fn judge(
+    p: &[i32],
+    hp: Size,
+    q: &[i32],
+    hq: Size,
+    terms: Terms,
+    largest: u64,
+    j: usize,
+    i: usize,
+    a: Spot,
+    seen: Seen,
+) -> Judged
+    requires { ⌜ Opens (now p) (hp .n) (hp .m) × Opens (now q) (hq .n) (hq .m) × Alone terms (now p) (now q) × (j < hq .n) × (i < hp .n) × (a ≡ spotAt (pointsOf (now q)) j) × Right terms (now p) (now q) a (seen .known) (seen .at) (seen .clear) ⌝ }
+    ensures { λ r. ⌜ (r .holds ≡ smallFor largest terms (pointsOf (now (p .entry))) (pointsOf (now (q .entry))) j i) × Right terms (now (p .entry)) (now (q .entry)) a (r .seen .known) (r .seen .at) (r .seen .clear) ⌝ }
+{
+    if !may_be(p, hp, q, hq, terms, largest, j, i) {
+        return Judged {
+            holds: false,
+            seen: seen,
+        };
+    }
+    let b = sheet::reads::spot_at(p, hp.n, hp.m, i);
+    let s = seen_at(p, hp, q, hq, terms, a, b, seen);
+    let clear = s.clear;
+    Judged {
+        holds: clear,
+        seen: s,
+    }
+}
+
+// Of the candidates of the chamber at position j those stay kept whose pair is asked for: how many they are.
+fn keep_pairs(
+    p: &[i32],
+    hp: Size,
+    q: &[i32],
+    hq: Size,
+    terms: Terms,
+    largest: u64,
+    j: usize,
+    bits: &mut [u64],
+) -> usize
+    requires { ⌜ Opens (now p) (hp .n) (hp .m) × Opens (now q) (hq .n) (hq .m) × Alone terms (now p) (now q) × (j < hq .n) × Holds (now bits) (hp .n) × Covers (terms .grid) (now p) (now q) j (now bits) ⌝ }
+    ensures { λ r. ⌜ PairsOn (smallFor largest terms (pointsOf (now (p .entry))) (pointsOf (now (q .entry)))) (pairBy (profileFor terms) (pointsOf (now (p .entry))) (pointsOf (now (q .entry)))) j (hp .n) (now (bits .exit)) r ⌝ }
+{
+    let n = hp.n;
+    let a = sheet::reads::spot_at(q, hq.n, hq.m, j);
+    let mut seen = Seen {
+        known: false,
+        at: a,
+        clear: false,
+    };
+    let mut count: usize = 0;
+    let mut i = bits::next_from(bits, 0);
+    while i < n {
+        let r = judge(p, hp, q, hq, terms, largest, j, i, a, seen);
+        seen = r.seen;
+        if r.holds {
+            count += 1;
+        } else {
+            bits::remove(bits, i);
+        }
+        i = bits::next_from(bits, i + 1);
+    }
+    count
+}
+
+// The pairs of the chamber at position j, kept on the words lent: how many they are.
+pub(crate) fn pairs_of(
+    p: &[i32],
+    hp: Size,
+    q: &[i32],
+    hq: Size,
+    terms: Terms,
+    largest: u64,
+    j: usize,
+    bits: &mut [u64],
+) -> usize
+    requires { ⌜ Opens (now p) (hp .n) (hp .m) × Opens (now q) (hq .n) (hq .m) × Alone terms (now p) (now q) × (j < hq .n) × Holds (now bits) (hp .n) ⌝ }
+    ensures { λ r. ⌜ PairsOn (smallFor largest terms (pointsOf (now (p .entry))) (pointsOf (now (q .entry)))) (pairBy (profileFor terms) (pointsOf (now (p .entry))) (pointsOf (now (q .entry)))) j (hp .n) (now (bits .exit)) r ⌝ }
+{
+    seeds::candidates(p, hp, q, hq, j, bits, terms.grid);
+    keep_pairs(p, hp, q, hq, terms, largest, j, bits)
+}
