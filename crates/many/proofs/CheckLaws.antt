@@ -33,7 +33,8 @@ use Rattle.ring.proofs.LentLaws.{wiped-refused, wiped-given}
 use Rattle.many.specs.declared.Wanted.{Wanted}
 use Rattle.many.specs.declared.Which.{Which}
 use Rattle.many.specs.declared.Counted.{Counted}
-use Rattle.many.specs.Many.{largestNo, pairsNo, countNo, ownPairsNo, ownCountNo, restNo, listTo, countGiven}
+use Rattle.chamber.specs.Sized.{listTo}
+use Rattle.many.specs.Many.{largestNo, pairsNo, countNo, ownPairsNo, ownCountNo, restNo, countGiven}
 use Rattle.many.specs.Checked.{Served}
 
 -- ---- the first of some numbers

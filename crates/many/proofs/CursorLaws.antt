@@ -22,10 +22,10 @@ use Rattle.list.specs.Pairs.{keyOf, follows, after}
 use Rattle.list.specs.Rows.{row, rows, listBy}
 use Rattle.list.specs.RingList.{pairAt, pairBy}
 use Rattle.list.proofs.Order.{after-append}
-use Rattle.many.specs.Chamber.{ListedOn}
+use Rattle.chamber.specs.Chamber.{ListedOn}
 use Rattle.many.specs.Cursor.{lateTo, Early, Seeks, restTo, Entered, leftTo, Holding, Advanced}
-use Rattle.many.proofs.KeepLaws.{between, row-yes, row-no, row-nil, rest-yes, rest-no, rest-end}
-use Rattle.many.proofs.ListedLaws.{row-empty, rows-next, rows-end}
+use Rattle.chamber.proofs.KeepLaws.{between, row-yes, row-no, row-nil, rest-yes, rest-no, rest-end}
+use Rattle.chamber.proofs.ListedLaws.{row-empty, rows-next, rows-end}
 
 -- ---- chambers before the key
 

@@ -20,7 +20,8 @@ use Rattle.list.specs.Rows.{row, atLeast, listBy}
 use Rattle.list.specs.RingList.{pairBy, Reached}
 use Rattle.list.specs.Terms.{profileFor, pairFor, listedFor, listFor}
 use Rattle.list.proofs.RowLaws.{row-same, list-same}
-use Rattle.many.specs.Many.{smallFor, listedTo, listTo, lastLargest}
+use Rattle.chamber.specs.Sized.{smallFor, listedTo, listTo}
+use Rattle.many.specs.Many.{lastLargest}
 
 module _ (a : Terms) (o : List ℕ) (P Q : List Point) (rp : Reached (profileFor a) P) (rq : Reached (profileFor a) Q) where
   most-taken : (g : Bool) → profileOf g .most ≤ lastLargest

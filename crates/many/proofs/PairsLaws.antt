@@ -28,7 +28,8 @@ use Rattle.many.specs.declared.Wanted.{Wanted}
 use Rattle.many.specs.declared.Many.{Many}
 use Rattle.many.specs.declared.step.Task.{Task}
 use Rattle.many.specs.declared.step.Step.{Step}
-use Rattle.many.specs.Many.{listTo, wantedTerms, pairsNo, pairsList, manyGiven, manyRefused, stored, pairsAnswer, pairsSlots, pairsBits, ownPairsNo, ownList, ownPairsAnswer, ownPairsSlots, ownPairsBits}
+use Rattle.chamber.specs.Sized.{listTo}
+use Rattle.many.specs.Many.{wantedTerms, pairsNo, pairsList, manyGiven, manyRefused, stored, pairsAnswer, pairsSlots, pairsBits, ownPairsNo, ownList, ownPairsAnswer, ownPairsSlots, ownPairsBits}
 use Rattle.many.specs.Step.{leftOf, Stand, Ahead, Started, Begun, OwnBegun}
 
 -- ---- the slots after k stores of a list

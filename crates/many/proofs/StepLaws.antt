@@ -32,11 +32,12 @@ use Rattle.ring.proofs.LentLaws.{wiped-refused, wiped-given}
 use Rattle.many.specs.declared.Wanted.{Wanted}
 use Rattle.many.specs.declared.step.Task.{Task}
 use Rattle.many.specs.declared.step.Step.{Step}
-use Rattle.many.specs.Many.{listedTo, listTo, pairsNo, wantedTerms, ownPairsNo}
+use Rattle.chamber.specs.Sized.{listedTo, listTo}
+use Rattle.many.specs.Many.{pairsNo, wantedTerms, ownPairsNo}
 use Rattle.many.specs.Cursor.{lateTo, Early, restTo, leftTo, Holding, Advanced}
 use Rattle.many.specs.Step.{ruleOf, pairOf, leftOf, Able, Stand, Ahead, Started, Begun, OwnBegun}
-use Rattle.many.proofs.KeepLaws.{rest-yes, rest-end}
-use Rattle.many.proofs.ListedLaws.{row-empty, rows-next, list-of-sheets}
+use Rattle.chamber.proofs.KeepLaws.{rest-yes, rest-end}
+use Rattle.chamber.proofs.ListedLaws.{row-empty, rows-next, list-of-sheets}
 
 -- ---- the pair at hand is the first of what is left
 

@@ -18,7 +18,8 @@ use Rattle.many.specs.declared.step.Step.{Step}
 use Rattle.list.specs.Pairs.{after}
 use Rattle.ring.specs.Lent.{need}
 use Rattle.many.specs.declared.Wanted.{Wanted}
-use Rattle.many.specs.Many.{listedTo, listTo, pairsNo, wantedTerms, ownPairsNo}
+use Rattle.chamber.specs.Sized.{listedTo, listTo}
+use Rattle.many.specs.Many.{pairsNo, wantedTerms, ownPairsNo}
 use Rattle.many.specs.Cursor.{leftTo, Holding}
 
 -- the rule and the pairs of a task, and what is left of its list

@@ -13,7 +13,7 @@ ghost use Rattle.list.specs.Pairs.{keyOf, follows};
 ghost use Rattle.list.specs.RingList.{pairAt, pairBy};
 ghost use Rattle.list.specs.Terms.{profileFor};
 ghost use Rattle.join.specs.Sheets.{Alone};
-ghost use Rattle.many.specs.Many.{listedTo};
+ghost use Rattle.chamber.specs.Sized.{listedTo};
 ghost use Rattle.many.specs.Cursor.{Seeks, Early, lateTo, Entered, Holding, Advanced};
 
 // Where the search stands: the chamber whose pairs are kept on the words lent, the position to go on from there, and the chamber after which none was entered yet.
@@ -92,7 +92,7 @@ fn entered(
     requires { ⌜ Opens (now p) (hp .n) (hp .m) × Opens (now q) (hq .n) (hq .m) × Alone terms (now p) (now q) × (j < hq .n) × Holds (now bits) (hp .n) ⌝ }
     ensures { λ r. ⌜ Entered (listedTo largest terms (now (owners .entry)) (pointsOf (now (p .entry))) (pointsOf (now (q .entry)))) (pairBy (profileFor terms) (pointsOf (now (p .entry))) (pointsOf (now (q .entry)))) key (now (bits .exit)) j (hp .n) r ⌝ }
 {
-    let found = crate::all::listed_of(p, hp, q, hq, owners, terms, largest, j, bits);
+    let found = chamber::listed_of(p, hp, q, hq, owners, terms, largest, j, bits);
     if found == 0 {
         return hp.n;
     }

@@ -1,6 +1,5 @@
 // Many pairs of a list at once, and how many a list has. No count of nodes is promised, so each chamber's pump houses are found in whatever way is fast: `seeds` has it.
 mod all;
-mod chamber;
 mod check;
 pub mod count;
 mod cursor;

@@ -7,8 +7,8 @@ use Rattle.sheet.specs.Places.{pointsOf}
 use Rattle.list.specs.RingList.{pairBy}
 use Rattle.list.specs.Terms.{profileFor}
 use Rattle.walk.proofs.FilterCode.{still-holds}
-use Rattle.many.specs.Many.{listedTo}
-use Rattle.many.proofs.ListedLaws.{Counting, count-start, count-room, count-more, count-by, count-end, count-fits, list-of-sheets}
+use Rattle.chamber.specs.Sized.{listedTo}
+use Rattle.chamber.proofs.ListedLaws.{Counting, count-start, count-room, count-more, count-by, count-end, count-fits, list-of-sheets}
 use Rattle.many.proofs.all.count_all.Statement.{statement}
 use Rattle.many.proofs.all.count_all.Tie as tie
 

@@ -10,7 +10,7 @@ use Rattle.sheet.specs.Places.{pointsOf}
 use Rattle.list.specs.RingList.{pairBy}
 use Rattle.list.specs.Terms.{profileFor}
 use Rattle.walk.proofs.FilterCode.{still-holds}
-use Rattle.many.specs.Many.{listedTo}
+use Rattle.chamber.specs.Sized.{listedTo}
 use Rattle.many.proofs.CursorLaws.{Going, go-start, go-here, go-enter, go-end, go-all}
 use Rattle.many.proofs.cursor.advance.Statement.{statement}
 use Rattle.many.proofs.cursor.advance.Tie as tie

@@ -1,8 +1,8 @@
--- `many::chamber::is_free` meets its contract. Assumes nothing.
-use Rattle.many.proofs.KeepLaws.{walk-free, free-no, free-own, free-both}
+-- `chamber::is_free` meets its contract. Assumes nothing.
+use Rattle.chamber.proofs.KeepLaws.{walk-free, free-no, free-own, free-both}
 use borrow.Author.Needs.{needs}
-use Rattle.many.proofs.chamber.is_free.Statement.{statement}
-use Rattle.many.proofs.chamber.is_free.Tie as tie
+use Rattle.chamber.proofs.is_free.Statement.{statement}
+use Rattle.chamber.proofs.is_free.Tie as tie
 
 ring-on-requires : tie.Need-ring-on-requires
 ring-on-requires c κs = search needs

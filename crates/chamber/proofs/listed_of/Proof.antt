@@ -1,9 +1,9 @@
--- `many::all::listed_of` meets its contract. Assumes nothing.
+-- `chamber::listed_of` meets its contract. Assumes nothing.
 use native.Mathlib.Omega.{arith}
-use Rattle.many.proofs.ListedLaws.{points-many, listed-other, listed-few, listed-all}
+use Rattle.chamber.proofs.ListedLaws.{points-many, listed-other, listed-few, listed-all}
 use borrow.Author.Needs.{needs}
-use Rattle.many.proofs.all.listed_of.Statement.{statement}
-use Rattle.many.proofs.all.listed_of.Tie as tie
+use Rattle.chamber.proofs.listed_of.Statement.{statement}
+use Rattle.chamber.proofs.listed_of.Tie as tie
 
 is-mine-requires : tie.Need-is-mine-requires
 is-mine-requires c κs = search needs

@@ -1,8 +1,8 @@
--- `many::chamber::may_be` meets its contract. Assumes nothing.
-use Rattle.many.proofs.KeepLaws.{may-is}
+-- `chamber::may_be` meets its contract. Assumes nothing.
+use Rattle.chamber.proofs.KeepLaws.{may-is}
 use borrow.Author.Needs.{needs}
-use Rattle.many.proofs.chamber.may_be.Statement.{statement}
-use Rattle.many.proofs.chamber.may_be.Tie as tie
+use Rattle.chamber.proofs.may_be.Statement.{statement}
+use Rattle.chamber.proofs.may_be.Tie as tie
 
 pair-by-requires : tie.Need-pair-by-requires
 pair-by-requires c κs = search needs

@@ -1,10 +1,10 @@
--- `many::chamber::judge` meets its contract. Assumes nothing.
+-- `chamber::judge` meets its contract. Assumes nothing.
 use Rattle.sheet.proofs.RangeLaws.{spot-in}
 use Rattle.walk.proofs.NodeLaws.{spot-fits}
-use Rattle.many.proofs.KeepLaws.{small-not, small-free, chamber-in}
+use Rattle.chamber.proofs.KeepLaws.{small-not, small-free, chamber-in}
 use borrow.Author.Needs.{needs}
-use Rattle.many.proofs.chamber.judge.Statement.{statement}
-use Rattle.many.proofs.chamber.judge.Tie as tie
+use Rattle.chamber.proofs.judge.Statement.{statement}
+use Rattle.chamber.proofs.judge.Tie as tie
 
 may-be-requires : tie.Need-may-be-requires
 may-be-requires c κs = search needs

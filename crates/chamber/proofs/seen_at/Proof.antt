@@ -1,8 +1,8 @@
--- `many::chamber::seen_at` meets its contract. Assumes nothing.
-use Rattle.many.proofs.KeepLaws.{right-same, right-new}
+-- `chamber::seen_at` meets its contract. Assumes nothing.
+use Rattle.chamber.proofs.KeepLaws.{right-same, right-new}
 use borrow.Author.Needs.{needs}
-use Rattle.many.proofs.chamber.seen_at.Statement.{statement}
-use Rattle.many.proofs.chamber.seen_at.Tie as tie
+use Rattle.chamber.proofs.seen_at.Statement.{statement}
+use Rattle.chamber.proofs.seen_at.Tie as tie
 
 is-same-requires : tie.Need-is-same-requires
 is-same-requires c κs = search needs

@@ -17,8 +17,8 @@ ghost use Rattle.list.specs.RingList.{pairBy};
 ghost use Rattle.list.specs.Terms.{profileFor};
 ghost use Rattle.join.specs.Sheets.{Alone};
 ghost use Rattle.seeds.specs.Covers.{Covers};
-ghost use Rattle.many.specs.Many.{smallFor};
-ghost use Rattle.many.specs.Chamber.{freeOf, Right, PairsOn};
+ghost use Rattle.chamber.specs.Sized.{smallFor, listedTo};
+ghost use Rattle.chamber.specs.Chamber.{freeOf, Right, PairsOn, ListedOn};
 
 // What was found of the place tried last: where it is, and whether its pair with the chamber is clear. For a record at the same place no walk is made again.
 pub(crate) struct Seen {
@@ -163,7 +163,7 @@ fn keep_pairs(
 }
 
 // The pairs of the chamber at position j, kept on the words lent: how many they are.
-pub(crate) fn pairs_of(
+pub fn pairs_of(
     p: &[i32],
     hp: Size,
     q: &[i32],
@@ -178,4 +178,35 @@ pub(crate) fn pairs_of(
 {
     seeds::candidates(p, hp, q, hq, j, bits, terms.grid);
     keep_pairs(p, hp, q, hq, terms, largest, j, bits)
+}
+
+fn wide(t: u32) -> usize
+    ensures { λ r. ⌜ r ≡ t ⌝ }
+{
+    t as usize
+}
+
+// How many pairs of the chamber at position j are listed; where there are any they are kept on the words lent.
+pub fn listed_of(
+    p: &[i32],
+    hp: Size,
+    q: &[i32],
+    hq: Size,
+    owners: &[u8],
+    terms: Terms,
+    largest: u64,
+    j: usize,
+    bits: &mut [u64],
+) -> usize
+    requires { ⌜ Opens (now p) (hp .n) (hp .m) × Opens (now q) (hq .n) (hq .m) × Alone terms (now p) (now q) × (j < hq .n) × Holds (now bits) (hp .n) ⌝ }
+    ensures { λ r. ⌜ ListedOn (listedTo largest terms (now (owners .entry)) (pointsOf (now (p .entry))) (pointsOf (now (q .entry)))) (pairBy (profileFor terms) (pointsOf (now (p .entry))) (pointsOf (now (q .entry)))) j (hp .n) (now (bits .exit)) r ⌝ }
+{
+    if !list::is_mine(owners, terms.contractor, j) {
+        return 0;
+    }
+    let found = pairs_of(p, hp, q, hq, terms, largest, j, bits);
+    if found < wide(terms.threshold) {
+        return 0;
+    }
+    found
 }

@@ -1,4 +1,4 @@
--- `many::chamber::keep_pairs` meets its contract. The loop's invariant is `Keeping`: the positions before i are settled. Assumes nothing.
+-- `chamber::keep_pairs` meets its contract. The loop's invariant is `Keeping`: the positions before i are settled. Assumes nothing.
 use mathlib.Core.Path.{sym, _∙_}
 use mathlib.Core.Logic.{⊎-elim}
 use Prim.Native.Nat.{_+_, _-_}
@@ -10,11 +10,11 @@ use Rattle.bits.proofs.NextLaws.{from-le}
 use Rattle.walk.proofs.NodeLaws.{spot-fits}
 use Rattle.list.specs.RingList.{pairBy}
 use Rattle.list.specs.Terms.{profileFor}
-use Rattle.many.specs.Many.{smallFor}
-use Rattle.many.specs.Chamber.{Right}
-use Rattle.many.proofs.KeepLaws.{Keeping, keep-start, keep-next, keep-yes, keep-no, keep-few, keep-end, small-covered, right-start}
-use Rattle.many.proofs.chamber.keep_pairs.Statement.{statement}
-use Rattle.many.proofs.chamber.keep_pairs.Tie as tie
+use Rattle.chamber.specs.Sized.{smallFor}
+use Rattle.chamber.specs.Chamber.{Right}
+use Rattle.chamber.proofs.KeepLaws.{Keeping, keep-start, keep-next, keep-yes, keep-no, keep-few, keep-end, small-covered, right-start}
+use Rattle.chamber.proofs.keep_pairs.Statement.{statement}
+use Rattle.chamber.proofs.keep_pairs.Tie as tie
 
 abbrev Inv-loop : tie.InvT-loop
 Inv-loop p hp q hq terms largest j bits₀ n a seen₀ count₀ i₀ bits seen count i =

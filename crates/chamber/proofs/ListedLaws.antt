@@ -24,9 +24,9 @@ use Rattle.list.specs.Rows.{row, rows, atLeast, listBy}
 use Rattle.list.specs.RingList.{pairBy}
 use Rattle.list.specs.Terms.{profileFor}
 use Rattle.list.proofs.RowLaws.{row-same}
-use Rattle.many.specs.Many.{smallFor, listedTo, listTo}
-use Rattle.many.specs.Chamber.{PairsOn, ListedOn}
-use Rattle.many.proofs.KeepLaws.{row-nil, row-no, row-short}
+use Rattle.chamber.specs.Sized.{smallFor, listedTo, listTo}
+use Rattle.chamber.specs.Chamber.{PairsOn, ListedOn}
+use Rattle.chamber.proofs.KeepLaws.{row-nil, row-no, row-short}
 
 pub points-many : (w : List ℤ) (n m : ℕ) → Opens w n m → length (pointsOf w) ≡ n
 points-many w n m o = length-points w ∙ o .n-is

@@ -37,8 +37,8 @@ use Rattle.walk.specs.RingWalk.{clear, clearAt, ringOn, ringWalk}
 use Rattle.walk.proofs.Meaning.{walk-clear-iff}
 use Rattle.join.specs.Sheets.{Alone}
 use Rattle.seeds.specs.Covers.{Covers}
-use Rattle.many.specs.Many.{smallFor}
-use Rattle.many.specs.Chamber.{freeOf, Right, PairsOn}
+use Rattle.chamber.specs.Sized.{smallFor}
+use Rattle.chamber.specs.Chamber.{freeOf, Right, PairsOn}
 
 -- ---- places that are one
 
