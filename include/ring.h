@@ -14,8 +14,8 @@
  *
  * What the caller sees to, since no call can test it
  *   - a pointer and its number describe memory that is there, aligned for its elements, and that nobody else writes during the call;
- *   - memory that a call may write (`out` of ring_pack and of ring_forms, `slots` of ring_book_take, of ring_depot_take and of ring_leaf_run, `waiting` of
- *     ring_nearest and of ring_near_filter, `bits` wherever it stands) overlaps no other array of the same call;
+ *   - memory that a call may write (`out` of ring_pack and of ring_forms, `slots` of ring_book_take, of ring_depot_take, of ring_leaf_run, of ring_pairs and of
+ *     ring_own_pairs, `waiting` of ring_nearest and of ring_near_filter, `bits` wherever it stands) overlaps no other array of the same call;
  *   - there is room on the stack: some 120 KB for ring_leaf_run where P has over 1,024 points, some 60 KB for ring_pack of form 2, a few KB for any other call;
  *   - a bool is 0 or 1, as C's own bool always is.
  * A negative number handed in for an unsigned one arrives as a large one, and is answered as such.
@@ -33,8 +33,8 @@
  *   - false, the circle: a record blocks a pair when it stands in or on the smallest circle around the two; a pair's size is the squared distance of the two.
  *   - true, the street grid: distances are along the streets, |dx| + |dy|. A record x blocks a, b when the distance of 2x and a+b is at most that of a and b; a
  *     pair's size is the square of the latter, at most 16,000,000,000,000. Sheets of form 1 only: 29 else.
- *   In both a record at exactly the place of either end doesn't block. Pages, books and ring_pair_walk are of either profile, every other call of the circle.
- *   Along the streets two sheets that hold assets may give no pair at all.
+ *   In both a record at exactly the place of either end doesn't block. Pages, books, ring_pair_walk, ring_pairs, ring_count and those of self joins are of either
+ *   profile, every other call of the circle. Along the streets two sheets that hold assets may give no pair at all.
  *
  * Words lent for kept sets: `bits`
  *   - A call that filters works on 64-bit words that the caller lends: at least RING_WORDS(n), where n is P's number of points (ring_open says it), of a self
@@ -58,12 +58,12 @@ extern "C" {
 /* The version of this header and of the archive. The first number goes up where a struct, a call's arguments or the lists themselves change, so that callers are
  * compiled anew; the second where something is added. docs/GUIDE.md says what each changed for a caller. */
 #define RING_VERSION_MAJOR 10
-#define RING_VERSION_MINOR 0
+#define RING_VERSION_MINOR 1
 #define RING_VERSION_PATCH 0
-#define RING_VERSION "10.0.0"
+#define RING_VERSION "10.1.0"
 
 /* The numbers of refusal: X(number, name, reason in words). The reason says what may be wrong whichever call gave the number; the list at the end of this file
- * says it call by call. 23 is given by no call. */
+ * says it call by call. 23 and 32 to 39 are given by no call. */
 #define RING_REFUSALS(X) \
     X(1, RING_FEW_WORDS, "it has fewer than 6 words, so no trailer") \
     X(2, RING_BAD_FORM, "its form number is not 1 or 2") \
@@ -95,10 +95,11 @@ extern "C" {
     X(28, RING_OTHER_CONTRACTOR, "the page is of another contractor") \
     X(29, RING_WIDE_GRID, "the street grid is asked for, and a sheet is of form 2") \
     X(30, RING_OTHER_PROFILE, "the page is of the other profile: the circle, or the street grid") \
-    X(31, RING_OTHER_THRESHOLD, "the page is of another threshold")
+    X(31, RING_OTHER_THRESHOLD, "the page is of another threshold") \
+    X(40, RING_BAD_LARGEST, "the largest size is over 8,000,000,000,000,000,000")
 
 #define RING_NAMED(number, name, reason) name = number,
-enum { RING_SERVED = 0, RING_REFUSALS(RING_NAMED) RING_LAST_REFUSAL = 31 };
+enum { RING_SERVED = 0, RING_REFUSALS(RING_NAMED) RING_LAST_REFUSAL = 40 };
 #undef RING_NAMED
 
 /* The reason of a number of refusal, in words; of 0 "served", of a number that no call gives "no number of refusal". */
@@ -320,6 +321,37 @@ typedef struct RingRun {
     uint64_t opened;
 } RingRun;
 
+/* Which list is counted: `largest` is the greatest size of its pairs, to 8,000,000,000,000,000,000, which means all; the threshold: with one above 0 it is of
+ * the chambers that have at least so many pairs no larger than that; the contractor, 0 or 1, or 2 for an undivided list; the profile. */
+typedef struct RingWhich {
+    uint64_t largest;
+    uint32_t threshold;
+    uint32_t contractor;
+    bool grid;
+} RingWhich;
+
+/* What is asked for of such a list: the pairs strictly after a key. The key has no part in what the threshold counts. */
+typedef struct RingWanted {
+    RingKey key;
+    uint64_t largest;
+    uint32_t threshold;
+    uint32_t contractor;
+    bool grid;
+} RingWanted;
+
+/* The answer of ring_count and ring_own_count: how many pairs the list has. */
+typedef struct RingCounted {
+    uint32_t number;
+    uint64_t count;
+} RingCounted;
+
+/* The answer of ring_pairs and ring_own_pairs: how many pairs were stored, and whether more follow. */
+typedef struct RingMany {
+    uint32_t number;
+    size_t count;
+    bool more;
+} RingMany;
+
 /* The answer of ring_marker. */
 typedef struct RingMarker {
     uint32_t number;
@@ -494,6 +526,44 @@ RingMarker ring_marker(int32_t ax, int32_t ay, int32_t bx, int32_t by);
 RingRun ring_leaf_run(const int32_t *p, size_t p_len, const int32_t *q, size_t q_len, size_t leaf, RingPair *slots, size_t slots_len, uint64_t *bits,
                       size_t bits_len);
 
+/* Many pairs at once: of the list of the terms, those whose size is at most `largest`, of these the first after the key. With a threshold above 0 the list is of
+ * the chambers that have at least so many pairs no larger than that, whatever the key. To go on ask again with the key of the last pair stored.
+ * Input    both sheets, the owner bytes as for ring_page, and what is wanted: a key, which need not be a listed pair, the largest size, a threshold 0 to 60,000,
+ *          the contractor, and the profile. The sheets' words and the bytes are only read.
+ * Lent     slots: any number. The pairs stand from the first slot on; slots past them are not written. ring_count says how many there are in all.
+ *          bits: RING_WORDS(P's n) words or more. After an answer the first so many are 0; those past them are not written.
+ * Answer   how many pairs were stored: as many as there are slots, or all that follow where they are fewer; and whether more follow the last one stored. With no
+ *          slots 0, and whether any follow the key.
+ * Refused  1 to 8 for P, then 1 to 8 for Q, then 27 where the contractor is over 2, then 26 where the owner bytes are not one 0 or 1 a chamber, or for 2 there is
+ *          any, then 29 where `grid` is set and a sheet is of form 2, then 9 where an id of the key is over 2,000,000,000, then 21, then 40 where the largest size
+ *          is over 8,000,000,000,000,000,000, then 24 where fewer words are lent; neither a slot nor a word is written. */
+RingMany ring_pairs(const int32_t *p, size_t p_len, const int32_t *q, size_t q_len, const uint8_t *owners, size_t owners_len, RingWanted wanted, RingPair *slots,
+                    size_t slots_len, uint64_t *bits, size_t bits_len);
+
+/* The same of the self join of one sheet, which is undivided and has no threshold: in a pair q is the lower id, p the higher.
+ * Input    the sheet, a key, the largest size, and the profile. The sheet's words are only read.
+ * Lent     slots and bits as for ring_pairs, by the sheet's n.
+ * Answer   as of ring_pairs.
+ * Refused  1 to 8, then 29 where `grid` is set and the sheet is of form 2, then 9 where an id of the key is over 2,000,000,000, then 40, then 24; neither a slot
+ *          nor a word is written. */
+RingMany ring_own_pairs(const int32_t *words, size_t words_len, RingKey key, uint64_t largest, bool grid, RingPair *slots, size_t slots_len, uint64_t *bits,
+                        size_t bits_len);
+
+/* How many pairs such a list has, so that a caller can lend as many slots.
+ * Input    both sheets, the owner bytes as for ring_page, and which list. The sheets' words and the bytes are only read.
+ * Lent     bits: RING_WORDS(P's n) words or more. After an answer the first so many are 0; those past them are not written.
+ * Answer   the number of its pairs.
+ * Refused  1 to 8 for P, then 1 to 8 for Q, then 27, then 26, then 29, then 21, then 40, then 24, each as by ring_pairs; no lent word is written. */
+RingCounted ring_count(const int32_t *p, size_t p_len, const int32_t *q, size_t q_len, const uint8_t *owners, size_t owners_len, RingWhich which, uint64_t *bits,
+                       size_t bits_len);
+
+/* The same of the self join of one sheet.
+ * Input    the sheet, the largest size, and the profile. The sheet's words are only read.
+ * Lent     bits: RING_WORDS(the sheet's n) words or more. After an answer the first so many are 0; those past them are not written.
+ * Answer   the number of its pairs.
+ * Refused  1 to 8, then 29, then 40, then 24, each as by ring_own_pairs; no lent word is written. */
+RingCounted ring_own_count(const int32_t *words, size_t words_len, uint64_t largest, bool grid, uint64_t *bits, size_t bits_len);
+
 /*
  * The numbers of refusal, and the calls that give them; `a sheet`: every call that is given one
  *    1  under 6 words (a sheet)
@@ -504,7 +574,7 @@ RingRun ring_leaf_run(const int32_t *p, size_t p_len, const int32_t *q, size_t q
  *    6  order (and rank) not as stated (a sheet, ring_pack)
  *    7  level, first or count wrong, or n and m disagree on zero (a sheet)
  *    8  a box is not tightest (a sheet)
- *    9  key out of range (ring_page, ring_own_page); a position not below its sheet's n (ring_point, ring_filter_walk, ring_pair_walk)
+ *    9  key out of range (ring_page, ring_own_page, ring_pairs, ring_own_pairs); a position not below its sheet's n (ring_point, ring_filter_walk, ring_pair_walk)
  *   10  size out of range (ring_page, ring_own_page, ring_nearest); k out of range (ring_shortest)
  *   11  held exceeds the slots (ring_book_next_key, ring_book_take, ring_forms, ring_depot_take)
  *   12  book closed (ring_book_take)
@@ -518,17 +588,19 @@ RingRun ring_leaf_run(const int32_t *p, size_t p_len, const int32_t *q, size_t q
  *   18  point words not 3n, or order list not n long (ring_pack)
  *   19  no such leaf (ring_leaf_run)
  *   20  unknown q id (ring_partners, ring_nearest, ring_near_filter); unknown id (ring_position)
- *   21  threshold outside 0 to 60,000 (ring_page, ring_partners, ring_book_begin), or 0 (ring_partners), or above 0 for a self join (ring_book_begin)
+ *   21  threshold outside 0 to 60,000 (ring_page, ring_pairs, ring_count, ring_partners, ring_book_begin), or 0 (ring_partners), or above 0 for a self join
+ *       (ring_book_begin)
  *   22  page of the other kind (ring_book_take)
- *   24  fewer words lent than the points need (ring_filter_walk, ring_page, ring_own_page, ring_partners, ring_shortest, ring_near_filter), or than
- *       16 times so many (ring_leaf_run)
+ *   24  fewer words lent than the points need (ring_filter_walk, ring_page, ring_own_page, ring_partners, ring_shortest, ring_near_filter, ring_pairs,
+ *       ring_own_pairs, ring_count, ring_own_count), or than 16 times so many (ring_leaf_run)
  *   25  fewer numbers lent than P has points and nodes (ring_nearest, ring_near_filter)
- *   26  owner bytes not one 0 or 1 a chamber, or any for contractor 2 (ring_page)
- *   27  contractor outside 0 to 2 (ring_page, ring_book_begin), or not 2 for a self join (ring_book_begin)
+ *   26  owner bytes not one 0 or 1 a chamber, or any for contractor 2 (ring_page, ring_pairs, ring_count)
+ *   27  contractor outside 0 to 2 (ring_page, ring_pairs, ring_count, ring_book_begin), or not 2 for a self join (ring_book_begin)
  *   28  page of another contractor (ring_book_take)
- *   29  form 2 with `grid` set (ring_pair_walk, ring_page, ring_own_page)
+ *   29  form 2 with `grid` set (ring_pair_walk, ring_page, ring_own_page, ring_pairs, ring_own_pairs, ring_count, ring_own_count)
  *   30  page of the other profile (ring_book_take)
  *   31  page of another threshold (ring_book_take)
+ *   40  largest size over 8,000,000,000,000,000,000 (ring_pairs, ring_own_pairs, ring_count, ring_own_count)
  */
 
 #ifdef __cplusplus

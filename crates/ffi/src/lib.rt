@@ -11,6 +11,10 @@ use list::Pair;
 use list::Request;
 use list::Source;
 use list::Terms;
+use many::Counted;
+use many::Many;
+use many::Wanted;
+use many::Which;
 use nearest::Found;
 use ring::Filtered;
 use ring::Paged;
@@ -31,6 +35,7 @@ ghost use Rattle.book.specs.Rules.{begunFor, asked, taken, takenSlots};
 ghost use Rattle.depot.specs.Forms.{formsAnswer, formsOut};
 ghost use Rattle.depot.specs.Depot.{begunDepot, stored, storedSlots};
 ghost use Rattle.runs.specs.Run.{runAnswer, runSlots, runBits};
+ghost use Rattle.many.specs.Many.{pairsAnswer, pairsSlots, pairsBits, ownPairsAnswer, ownPairsSlots, ownPairsBits, countAnswer, countBits, ownCountAnswer, ownCountBits};
 ghost use Rattle.nearest.specs.Nearest.{nearestNo, nearFilterNo, nearestAnswer, nearFiltered, nearFilteredBits, waitedBy};
 ghost use Rattle.ffi.specs.Over.{headOver, pointOver, hitOver, walkOver, bookOver, nextOver, keyOver, outcomeOver, storeOver, markOver, markedAt};
 
@@ -493,4 +498,62 @@ pub extern "C" fn ring_leaf_run(
     ensures { λ r. ⌜ (r ≡ runAnswer (now (p .entry)) (now (q .entry)) leaf (length (now (slots .entry))) (length (now (bits .entry)))) × (now (slots .exit) ≡ runSlots (now (p .entry)) (now (q .entry)) leaf (now (slots .entry)) (length (now (bits .entry)))) × (now (bits .exit) ≡ runBits (now (p .entry)) (now (q .entry)) leaf (length (now (slots .entry))) (now (bits .entry))) ⌝ }
 {
     runs::leaf_run(p, q, leaf, slots, bits)
+}
+
+// Of a list, to a size, the pairs strictly after a key, the first so many as there are slots, in the lent slots, and whether more follow: 0, or 1 to 8 of P, of Q, 27, 26, 29, 9, 21, 40, 24
+// with all that is lent as it was.
+#[no_mangle]
+pub extern "C" fn ring_pairs(
+    p: &[i32],
+    q: &[i32],
+    owners: &[u8],
+    wanted: Wanted,
+    slots: &mut [Pair],
+    bits: &mut [u64],
+) -> Many
+    ensures { λ r. ⌜ (r ≡ pairsAnswer (now (p .entry)) (now (q .entry)) (now (owners .entry)) wanted (length (now (slots .entry))) (length (now (bits .entry)))) × (now (slots .exit) ≡ pairsSlots (now (p .entry)) (now (q .entry)) (now (owners .entry)) wanted (now (slots .entry)) (length (now (bits .entry)))) × (now (bits .exit) ≡ pairsBits (now (p .entry)) (now (q .entry)) (now (owners .entry)) wanted (now (bits .entry))) ⌝ }
+{
+    many::pairs::pairs(p, q, owners, wanted, slots, bits)
+}
+
+// The same of the self join of one sheet, lower id first: 0, or 1 to 8, 29, 9, 40, 24 with all that is lent as it was.
+#[no_mangle]
+pub extern "C" fn ring_own_pairs(
+    words: &[i32],
+    key: Key,
+    largest: u64,
+    grid: bool,
+    slots: &mut [Pair],
+    bits: &mut [u64],
+) -> Many
+    ensures { λ r. ⌜ (r ≡ ownPairsAnswer (now (words .entry)) key largest grid (length (now (slots .entry))) (length (now (bits .entry)))) × (now (slots .exit) ≡ ownPairsSlots (now (words .entry)) key largest grid (now (slots .entry)) (length (now (bits .entry)))) × (now (bits .exit) ≡ ownPairsBits (now (words .entry)) key largest grid (now (bits .entry))) ⌝ }
+{
+    many::pairs::own_pairs(words, key, largest, grid, slots, bits)
+}
+
+// How many pairs such a list has: 0, or 1 to 8 of P, of Q, 27, 26, 29, 21, 40, 24 with the words as they were.
+#[no_mangle]
+pub extern "C" fn ring_count(
+    p: &[i32],
+    q: &[i32],
+    owners: &[u8],
+    which: Which,
+    bits: &mut [u64],
+) -> Counted
+    ensures { λ r. ⌜ (r ≡ countAnswer (now (p .entry)) (now (q .entry)) (now (owners .entry)) which (length (now (bits .entry)))) × (now (bits .exit) ≡ countBits (now (p .entry)) (now (q .entry)) (now (owners .entry)) which (now (bits .entry))) ⌝ }
+{
+    many::count::count(p, q, owners, which, bits)
+}
+
+// The same of the self join of one sheet: 0, or 1 to 8, 29, 40, 24 with the words as they were.
+#[no_mangle]
+pub extern "C" fn ring_own_count(
+    words: &[i32],
+    largest: u64,
+    grid: bool,
+    bits: &mut [u64],
+) -> Counted
+    ensures { λ r. ⌜ (r ≡ ownCountAnswer (now (words .entry)) largest grid (length (now (bits .entry)))) × (now (bits .exit) ≡ ownCountBits (now (words .entry)) largest grid (now (bits .entry))) ⌝ }
+{
+    many::count::own_count(words, largest, grid, bits)
 }
