@@ -3,6 +3,10 @@
 use list::Key;
 use list::Pair;
 use list::Request;
+use many::Counted;
+use many::Many;
+use many::Wanted;
+use many::Which;
 use nearest::Found;
 use ring::Filtered;
 use ring::Head;
@@ -21,6 +25,7 @@ ghost use Rattle.ring.specs.Own.{ownAnswer, ownBits};
 ghost use Rattle.ring.specs.Partners.{partnersAnswer, partnersBits};
 ghost use Rattle.runs.specs.Run.{runAnswer, runSlots, runBits};
 ghost use Rattle.shortest.specs.Answer.{shortAnswer, shortBits};
+ghost use Rattle.many.specs.Many.{pairsAnswer, pairsSlots, pairsBits, ownPairsAnswer, ownPairsSlots, ownPairsBits, countAnswer, countBits, ownCountAnswer, ownCountBits};
 ghost use Rattle.nearest.specs.Nearest.{nearestNo, nearestAnswer, nearFilterNo, nearFiltered, nearFilteredBits, waitedBy};
 ghost use Rattle.view.specs.Shown.{shown, openOf};
 
@@ -179,6 +184,60 @@ pub fn near_filter_at<'a, 'b, 'c, 'd>(
     ensures { λ r. ⌜ (r ≡ nearFiltered (now (p .entry .words)) (now (q .entry .words)) id (length (now (bits .entry))) (length (now (waiting .entry)))) × (now (waiting .exit) ≡ waitedBy (nearFilterNo (now (p .entry .words)) (now (q .entry .words)) id (length (now (bits .entry))) (length (now (waiting .entry)))) (now (p .entry .words)) (now (waiting .entry))) × (now (bits .exit) ≡ nearFilteredBits (now (p .entry .words)) (now (q .entry .words)) id (length (now (waiting .entry))) (now (bits .entry))) ⌝ }
 {
     nearest::near_filter(p.words, q.words, id, waiting, bits)
+}
+
+// Of a list, to a size, the pairs strictly after a key, in the lent slots, and whether more follow; refused by 1 to 8 of P's words, then of Q's, then by 27 for the contractor, by 26 for the owner bytes,
+// by 29, by 9 for the key, by 21 for the threshold, by 40 for the largest size, by 24 for the words lent.
+pub fn pairs_at<'a, 'b, 'c, 'd, 'e>(
+    p: Sheet<'a>,
+    q: Sheet<'b>,
+    owners: &'c [u8],
+    wanted: Wanted,
+    slots: &'d mut [Pair],
+    bits: &'e mut [u64],
+) -> Many
+    ensures { λ r. ⌜ (r ≡ pairsAnswer (now (p .entry .words)) (now (q .entry .words)) (now (owners .entry)) wanted (length (now (slots .entry))) (length (now (bits .entry)))) × (now (slots .exit) ≡ pairsSlots (now (p .entry .words)) (now (q .entry .words)) (now (owners .entry)) wanted (now (slots .entry)) (length (now (bits .entry)))) × (now (bits .exit) ≡ pairsBits (now (p .entry .words)) (now (q .entry .words)) (now (owners .entry)) wanted (now (bits .entry))) ⌝ }
+{
+    many::pairs::pairs(p.words, q.words, owners, wanted, slots, bits)
+}
+
+// The same of a self join; refused by 1 to 8 of the words, then by 29, by 9 for the key, by 40 for the largest size, by 24 for the words lent.
+pub fn own_pairs_at<'a, 'b, 'c>(
+    sheet: Sheet<'a>,
+    key: Key,
+    largest: u64,
+    grid: bool,
+    slots: &'b mut [Pair],
+    bits: &'c mut [u64],
+) -> Many
+    ensures { λ r. ⌜ (r ≡ ownPairsAnswer (now (sheet .entry .words)) key largest grid (length (now (slots .entry))) (length (now (bits .entry)))) × (now (slots .exit) ≡ ownPairsSlots (now (sheet .entry .words)) key largest grid (now (slots .entry)) (length (now (bits .entry)))) × (now (bits .exit) ≡ ownPairsBits (now (sheet .entry .words)) key largest grid (now (bits .entry))) ⌝ }
+{
+    many::pairs::own_pairs(sheet.words, key, largest, grid, slots, bits)
+}
+
+// How many pairs such a list has; refused by 1 to 8 of P's words, then of Q's, then by 27, by 26, by 29, by 21, by 40, by 24.
+pub fn count_at<'a, 'b, 'c, 'd>(
+    p: Sheet<'a>,
+    q: Sheet<'b>,
+    owners: &'c [u8],
+    which: Which,
+    bits: &'d mut [u64],
+) -> Counted
+    ensures { λ r. ⌜ (r ≡ countAnswer (now (p .entry .words)) (now (q .entry .words)) (now (owners .entry)) which (length (now (bits .entry)))) × (now (bits .exit) ≡ countBits (now (p .entry .words)) (now (q .entry .words)) (now (owners .entry)) which (now (bits .entry))) ⌝ }
+{
+    many::count::count(p.words, q.words, owners, which, bits)
+}
+
+// The same of a self join; refused by 1 to 8 of the words, then by 29, by 40, by 24.
+pub fn own_count_at<'a, 'b>(
+    sheet: Sheet<'a>,
+    largest: u64,
+    grid: bool,
+    bits: &'b mut [u64],
+) -> Counted
+    ensures { λ r. ⌜ (r ≡ ownCountAnswer (now (sheet .entry .words)) largest grid (length (now (bits .entry)))) × (now (bits .exit) ≡ ownCountBits (now (sheet .entry .words)) largest grid (now (bits .entry))) ⌝ }
+{
+    many::count::own_count(sheet.words, largest, grid, bits)
 }
 
 // For callers that hold no view: what `open` shows of the words.
