@@ -3,7 +3,6 @@ import argparse
 import bisect
 import json
 import os
-import subprocess
 import sys
 import time
 from fractions import Fraction
@@ -426,31 +425,21 @@ def show_store(args, store, issued=None):
 def book_send(ring, args):
     """Sends the orders of a store to a receiver program, each until it is confirmed."""
     with opened_store(args, begun=False) as store:
-        from .receiver import line_of
+        from .receiver import Program
+        count = 0
         try:
-            with subprocess.Popen(args.receiver, stdin=subprocess.PIPE, stdout=subprocess.PIPE, text=True) as work, Progress() as progress:
-                def give(number, form):
-                    try:
-                        work.stdin.write(line_of(number, form))
-                        work.stdin.flush()
-                    except BrokenPipeError:
-                        return False
-                    return work.stdout.readline().strip() == str(number)
-                count = 0
-                for confirmed in follow.send(store, give):
+            with Program(args.receiver, args.wait) as receiver, Progress() as progress:
+                for confirmed in follow.send(store, receiver.give):
                     count += confirmed
                     progress.tell("%d orders confirmed" % count)
-                try:
-                    work.stdin.close()
-                except BrokenPipeError:
-                    pass
         except OSError as fault:
             raise door.Failed("%s: %s" % (args.receiver[0], fault.strerror or fault))
         held, waiting = store.counts()
         answer(args, {"file": args.store, "orders": held, "confirmed": count, "unconfirmed": waiting},
                "%s: %d orders confirmed now, %d of %d not confirmed\n" % (args.store, count, waiting, held))
         if waiting:
-            raise door.Failed("%d orders are not confirmed: the same command sends them again" % waiting)
+            why = "the receiver was silent for %g seconds, and was ended; " % args.wait if receiver.silent else ""
+            raise door.Failed("%s%d orders are not confirmed: the same command sends them again" % (why, waiting))
 
 
 # ---------------------------------------------------------------- the picture
@@ -692,6 +681,7 @@ def parser():
                 "./ring book send --store town.store -- python3 python/ring/receiver.py orders.received",
                 "\nThe receiver is handed an order a line, as JSON, and answers its number once it holds it.")
     with_store(one)
+    one.add_argument("--wait", type=float, default=follow.SILENT, metavar="SECONDS", help="so long is an answer waited for (60)")
     one.add_argument("receiver", nargs="+", metavar="RECEIVER", help="the words that run it, after --")
     one = added(commands, "depot", depot, "the forms of closed books handed to a depot", "./ring depot town.depot town.book",
                 " Each order is held once: what is handed in again\nis known, and issues nothing. With no book it shows what the depot holds.")

@@ -8,8 +8,8 @@ from .faults import Refused
 FORMED = 5.0
 # a page that is not the next, or for a book that is closed: it came twice, late or out of order, or another process was faster
 NOT_NEXT = (12, 14)
-# how many confirmations are kept at once
-CONFIRMED = 64
+# how many confirmations are kept at once, and how many seconds a receiver program may be silent
+CONFIRMED, SILENT = 64, 60.0
 
 
 def follow(book, page_after, seconds=FORMED, pages=None, clock=time.monotonic):

@@ -9,8 +9,8 @@ import os
 import struct
 
 HERE = os.path.dirname(os.path.abspath(__file__))
-# how many of the shortest are listed
-SHORTEST = 16
+# how many of the shortest are stored, of which the page lists and marks as many as its reader says
+SHORTEST = 100
 
 
 def packed(numbers, kind):

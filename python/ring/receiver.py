@@ -5,9 +5,13 @@
 reads an order a line, as JSON with its number, from standard input, and answers its number on a line of its own: what `./ring book send` waits for. A repeat is told
 by its key, which is all of a form but the size, and not by its number.
 """
+import contextlib
 import json
 import os
+import queue
+import subprocess
 import sys
+import threading
 
 if __name__ == "__main__":
     sys.dont_write_bytecode = True
@@ -42,6 +46,54 @@ class Receiver(File):
 def line_of(number, form):
     """An order as it is sent."""
     return json.dumps(dict(number=number, **form._asdict())) + "\n"
+
+
+class Program:
+    """A receiver program, at the other end of two pipes: it is handed an order a line, and confirms it by its number on a line. One that is silent for so many
+    seconds is ended, and confirms nothing more."""
+
+    def __init__(self, words, wait):
+        self.wait, self.gone, self.silent = wait, False, False
+        self.work = subprocess.Popen(words, stdin=subprocess.PIPE, stdout=subprocess.PIPE, text=True)
+        self.said = queue.SimpleQueue()
+        self.listener = threading.Thread(target=self.listen, daemon=True)
+        self.listener.start()
+
+    def listen(self):
+        for line in self.work.stdout:
+            self.said.put(line.strip())
+        self.said.put(None)
+
+    def give(self, number, form):
+        """Whether it confirms an order that it is handed."""
+        if self.gone:
+            return False
+        try:
+            self.work.stdin.write(line_of(number, form))
+            self.work.stdin.flush()
+            said = self.said.get(timeout=self.wait)
+        except queue.Empty:
+            said, self.silent = None, True
+        except BrokenPipeError:
+            said = None
+        self.gone = said is None
+        return said == str(number)
+
+    def __enter__(self):
+        return self
+
+    def __exit__(self, *_):
+        with contextlib.suppress(BrokenPipeError):
+            self.work.stdin.close()
+        try:
+            self.work.wait(0 if self.silent else self.wait)
+        except subprocess.TimeoutExpired:
+            self.work.kill()
+            self.work.wait()
+        # one that it started may hold its output still
+        self.listener.join(1)
+        if not self.listener.is_alive():
+            self.work.stdout.close()
 
 
 def main(words):

@@ -99,8 +99,8 @@ class File:
     def changing(self, how="IMMEDIATE"):
         """A transaction: others that would change the file wait, and all of it is kept or nothing."""
         with self.told():
-            self._db.execute("BEGIN %s" % how)
             try:
+                self._db.execute("BEGIN %s" % how)
                 yield
                 self._db.execute("COMMIT")
             except BaseException:

@@ -31,10 +31,15 @@ def points(part):
     return list(zip(numbers(part["id"], "I"), numbers(part["x"], "i"), numbers(part["y"], "i")))
 
 
+def listed():
+    """The town's list, as it is stored."""
+    return [tuple(map(int, (line.split()[0], line.split()[1], line.split()[4]))) for line in stored("listing.txt").decode().split("\n")[:-2]]
+
+
 class Pages(Commands):
     def setUp(self):
         super().setUp()
-        self.listed = [tuple(map(int, (line.split()[0], line.split()[1], line.split()[4]))) for line in stored("listing.txt").decode().split("\n")[:-2]]
+        self.listed = listed()
         self.out = self.path("town.html")
 
     def page(self, *words):
@@ -50,7 +55,9 @@ class Pages(Commands):
         self.assertEqual((points(data["p"]), points(data["q"])), ([tuple(one) for one in self.pumps.points], [tuple(one) for one in self.chambers.points]))
         self.assertEqual((data["p"]["name"], data["q"]["edition"], data["mine"], data["contractor"], data["grid"]), ("pumps.sheet", 9, 120, None, False))
         self.assertEqual(self.pairs(data), [pair[:2] for pair in self.listed])
-        self.assertEqual([self.listed[k] for k in data["shortest"]], reading.shortest_of(self.listed, 16))
+        self.assertEqual([self.listed[k] for k in data["shortest"]], reading.shortest_of(self.listed, 100))
+        # the first of them are the call's own answer
+        self.assertEqual([self.listed[k] for k in data["shortest"][:16]], self.ring.shortest(self.pumps, self.chambers, 16))
         self.assertEqual(self.page(), data)
 
     def test_what_blocks_is_the_walks_answer(self):
@@ -84,7 +91,7 @@ class Pages(Commands):
         grid = reading.ring_list(*both, True)
         data = self.page("--grid")
         self.assertEqual((self.pairs(data), data["grid"]), ([pair[:2] for pair in grid], True))
-        self.assertEqual([grid[k] for k in data["shortest"]], reading.shortest_of(grid, 16))
+        self.assertEqual([grid[k] for k in data["shortest"]], reading.shortest_of(grid, 100))
         few = reading.list_of(self.listed, 3)
         data = self.page("--threshold", 3)
         self.assertEqual((self.pairs(data), data["threshold"]), ([pair[:2] for pair in few], 3))
@@ -160,6 +167,10 @@ class Used(Folder):
 
 
 class Town(Used, Commands):
+    def setUp(self):
+        super().setUp()
+        self.listed = listed()
+
     @classmethod
     def setUpClass(cls):
         Commands.setUpClass.__func__(cls)
@@ -223,6 +234,24 @@ class Town(Used, Commands):
         self.assertTrue(self.page.text("panel").startswith("chamber 1322"))
         self.page.click(5, 300)
         self.assertIn("61 chambers without a visit", self.page.text("panel"))
+
+    def test_the_k_shortest(self):
+        """As many as are asked for are listed, in order, and marked on the map."""
+        self.town(LISTING)
+        rows = [("chamber %d with pump house %d" % pair[:2]) for pair in reading.shortest_of(self.listed, 100)]
+        for k, listed in ((16, 16), (3, 3), (40, 40), (1000, 100), (0, 100)):
+            if k != 16:
+                self.page.run("byId('short').select()")
+                x, y = self.page.run("(r => [r.left + 8, r.top + r.height / 2])(byId('short').getBoundingClientRect())")
+                self.page.click(x, y)
+                self.page.run("byId('short').select()")
+                self.page.type(str(k))
+            said = self.page.run("[...document.querySelectorAll('#panel button')].map(one => one.innerText)")
+            self.assertEqual([one.split(", distance")[0] for one in said if " with " in one], rows[:listed])
+            marked = self.inks("#e0a800")
+            self.assertGreater(marked, 30 * min(listed, 16))
+        self.page.button("chamber 1121 with")
+        self.assertLess(self.inks("#e0a800"), marked / 4)
 
     def test_an_id_that_is_not_there(self):
         self.town(LISTING)

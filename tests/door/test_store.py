@@ -344,6 +344,14 @@ class Sending(Stores):
             self.assertEqual(receiver.orders(), sorted(self.forms[40:]))
         self.assertEqual(self.call("book", "send", "--store", self.at, "--", self.path("none"))[::2], (3, "ring: %s: No such file or directory\n" % self.path("none")))
 
+    def test_to_a_program_that_falls_silent(self):
+        """It is ended after a while, what it confirmed before is kept, and another is sent the rest."""
+        silent = self.file("silent.py", "import sys, time\nfor k in range(70):\n    print(__import__('json').loads(sys.stdin.readline())['number'], flush=True)\ntime.sleep(600)\n")
+        status, printed, said = self.call("book", "send", "--store", self.at, "--wait", 0.5, "--", sys.executable, silent)
+        self.assertEqual((status, printed), (3, "%s: 70 orders confirmed now, 34 of 104 not confirmed\n" % self.at))
+        self.assertIn("ring: the receiver was silent for 0.5 seconds, and was ended; 34 orders are not confirmed: the same command sends them again\n", said)
+        self.assertEqual(self.call("book", "send", "--store", self.at, "--", *RECEIVER, self.received)[:2], (0, "%s: 34 orders confirmed now, 0 of 104 not confirmed\n" % self.at))
+
     def test_the_receiver_drops_repeats_by_key(self):
         one, two = self.forms[0], self.forms[0]._replace(p_edition=8)
         lines = "".join(json.dumps(dict(form._asdict(), number=number)) + "\n" for number, form in ((5, one), (6, two), (9, one)))
@@ -365,10 +373,12 @@ class Faults(unittest.TestCase):
         self.assertEqual((status, said), (0, ""), printed)
         self.assertRegex(printed.decode(), r"^store: [89] kills .* orders: lost 0, doubled 0\. Seed 25, ")
 
-    def test_a_transaction_split_in_two_is_seen(self):
-        status, printed, said = self.ran("--split", "--seed", "2")
-        self.assertEqual((status, said), (0, ""), printed)
-        self.assertRegex(printed.decode(), r"^store: split in two, it fails after \d+ kills: \d+ slots beside a state of \d+ held\n$")
+    def test_wrong_stores_are_seen(self):
+        """A transaction split in two, and a worker that keeps an older state: the others are kept commands."""
+        for wrong, told in (("split", r"\d+ slots beside a state of \d+ held"), ("older", r".* was altered: UNIQUE constraint failed: slots.book, slots.at")):
+            status, printed, said = self.ran("--wrong", wrong, "--seed", "2")
+            self.assertEqual((status, said), (0, ""), printed)
+            self.assertRegex(printed.decode(), r"^store: wrong \(%s\), it fails after \d+ kills, \d+ times a second process: %s\n$" % (wrong, told))
 
     @unittest.skipUnless(built(), "the archive is not built")
     def test_a_million_deliveries_over_c(self):
