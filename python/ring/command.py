@@ -322,11 +322,12 @@ def show_book(args, kept):
     answer(args, record, "%s%s: %s; %s\n" % (rows, args.file, shown_source(kept.source), shown_held(kept)))
 
 
-def unmixed(args, file, editions):
+def unmixed(args, file, editions, what="orders"):
     """Refuses to order the visits of a new edition beside orders of others unasked."""
     if editions and not args.new_edition:
-        raise No("%s holds orders of editions %s, and the book is of others: a new edition has new keys, so that each visit would be ordered again. Close the old "
-                 "edition's orders first, and begin a depot anew, or say --new-edition" % (file, ", ".join("%d and %d" % pair for pair in sorted(editions))))
+        raise No("%s holds %s of editions %s, and the book is of others: a new edition has new keys, so that each visit would be ordered again. Close the old "
+                 "edition's orders first, and begin a %s anew, or say --new-edition" % (
+                     file, what, ", ".join("%d and %d" % pair for pair in sorted(editions)), "depot" if what == "orders" else "store"))
 
 
 def depot(ring, args):
@@ -390,9 +391,10 @@ def book_follow(ring, args):
         raise door.Wrong("book follow P.sheet Q.sheet --store FILE, or book follow S.sheet --self --store FILE")
     source, page_after = asked_of(ring, args)
     with opened_store(args, ring) as store:
-        unmixed(args, args.store, store.editions() - {source[:2]})
-        undoubled(args.store, store.sources(), source)
-        kept, count = store.book(source), 0
+        def allowed():
+            unmixed(args, args.store, store.editions() - {source[:2]}, "books")
+            undoubled(args.store, [other.source for other in store.books()], source)
+        kept, count = store.book(source, allowed), 0
         with Progress() as progress:
             for state, issued in follow.follow(kept, page_after, args.forms, args.pages):
                 count += len(issued)

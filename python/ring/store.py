@@ -20,18 +20,18 @@ MARK, VERSION = 0x52494E47, 1
 WAIT = 60.0
 # the least room that a book or a depot is lent; how many forms are handed in at once
 ROOM, HANDED = 1 << 12, 1 << 10
-KEY = "p_edition, q_edition, own, contractor, grid, q, p"
+SOURCE, KEY = "p_edition, q_edition, threshold, contractor, own, grid", "p_edition, q_edition, own, contractor, grid, q, p"
 TABLES = """
 CREATE TABLE books (book INTEGER PRIMARY KEY, p_edition INTEGER NOT NULL, q_edition INTEGER NOT NULL, threshold INTEGER NOT NULL, contractor INTEGER NOT NULL,
     own INTEGER NOT NULL, grid INTEGER NOT NULL, held INTEGER NOT NULL, closed INTEGER NOT NULL, formed INTEGER NOT NULL,
-    UNIQUE (p_edition, q_edition, threshold, contractor, own, grid));
+    UNIQUE (%s));
 CREATE TABLE slots (book INTEGER NOT NULL, at INTEGER NOT NULL, q INTEGER NOT NULL, p INTEGER NOT NULL, size INTEGER NOT NULL, PRIMARY KEY (book, at)) WITHOUT ROWID;
 CREATE TABLE pages (book INTEGER NOT NULL, at INTEGER NOT NULL, end INTEGER NOT NULL, q INTEGER NOT NULL, p INTEGER NOT NULL, count INTEGER NOT NULL,
     PRIMARY KEY (book, at, end)) WITHOUT ROWID;
 CREATE TABLE orders (number INTEGER PRIMARY KEY, p_edition INTEGER NOT NULL, q_edition INTEGER NOT NULL, own INTEGER NOT NULL, contractor INTEGER NOT NULL,
     grid INTEGER NOT NULL, q INTEGER NOT NULL, p INTEGER NOT NULL, size INTEGER NOT NULL, sent INTEGER NOT NULL DEFAULT 0, UNIQUE (%s));
 CREATE INDEX waiting ON orders (number) WHERE sent = 0;
-""" % KEY
+""" % (SOURCE, KEY)
 
 
 class State(NamedTuple):
@@ -130,26 +130,23 @@ class Store(File):
 
     # ------------------------------------------------------------ what it holds
 
-    def sources(self):
-        """What lists it has books of."""
-        with self.told():
-            return [source_of(row) for row in self._db.execute("SELECT p_edition, q_edition, threshold, contractor, own, grid FROM books ORDER BY book")]
-
-    def book(self, source):
-        """The book of a list: the one that it has, or one begun now."""
-        line = "SELECT book FROM books WHERE (p_edition, q_edition, threshold, contractor, own, grid) = (?, ?, ?, ?, ?, ?)"
-        with self.told():
+    def book(self, source, allowed=lambda: None):
+        """The book of a list: the one that it has, or one begun now. `allowed` is called first, and may refuse it by what the store holds: until the book is begun no
+        other process changes that."""
+        with self.changing():
+            allowed()
+            line = "SELECT book FROM books WHERE (%s) = (?, ?, ?, ?, ?, ?)" % SOURCE
             found = self._one(line, source)
-        if found is None:
-            # what cannot be begun is refused by the call
-            self.ring.book(source, 1).close()
-            with self.changing():
-                self._db.execute("INSERT OR IGNORE INTO books (p_edition, q_edition, threshold, contractor, own, grid, held, closed, formed) VALUES (?, ?, ?, ?, ?, ?, 0, 0, 0)", source)
+            if found is None:
+                # what cannot be begun is refused by the call
+                self.ring.book(source, 1).close()
+                self._db.execute("INSERT INTO books (%s, held, closed, formed) VALUES (?, ?, ?, ?, ?, ?, 0, 0, 0)" % SOURCE, source)
                 found = self._one(line, source)
         return KeptBook(self, found[0], source)
 
     def books(self):
-        return [self.book(source) for source in self.sources()]
+        with self.told():
+            return [KeptBook(self, row[0], source_of(row[1:])) for row in self._db.execute("SELECT book, %s FROM books ORDER BY book" % SOURCE)]
 
     def orders(self):
         """The forms that the depot holds, in the order in which they were issued."""
@@ -162,9 +159,9 @@ class Store(File):
             return tuple(self._one("SELECT %s FROM orders" % what)[0] for what in ("count(*)", "count(*) FILTER (WHERE sent = 0)"))
 
     def editions(self):
-        """The editions of the orders that it holds."""
+        """The editions of the books that it has, and so of its orders."""
         with self.told():
-            return set(self._db.execute("SELECT DISTINCT p_edition, q_edition FROM orders"))
+            return set(self._db.execute("SELECT DISTINCT p_edition, q_edition FROM books"))
 
     # ------------------------------------------------------------ sending
 

@@ -205,7 +205,7 @@ class Books(Stores):
 
     def test_books_of_every_kind(self):
         self.served("book", "follow", TOWN_SHEETS[0], "--self", "--store", self.at)
-        self.assertIn("holds orders of editions 7 and 7, and the book is of others", self.call("book", "follow", *TOWN_SHEETS, "--store", self.at)[2])
+        self.refused("holds books of editions 7 and 7, and the book is of others", "book", "follow", *TOWN_SHEETS, "--store", self.at)
         for words in (("--threshold", 2), ("--grid",)):
             self.served("book", "follow", *TOWN_SHEETS, "--store", self.at, "--new-edition", *words)
         with self.opened() as one:
@@ -218,6 +218,23 @@ class Books(Stores):
         # the whole list and that of a threshold share their orders
         said = self.json("book", "follow", *TOWN_SHEETS, "--store", self.at, "--new-edition")
         self.assertEqual(said["issued"], 104 - len(several))
+
+    def test_what_may_be_begun_is_settled_as_it_is_begun(self):
+        """Two processes begin a book at once: what the second is allowed is by what the first has begun."""
+        with self.opened() as one, Store(self.at, self.ring, wait=0.05) as two:
+            def allowed():
+                with self.assertRaises(door.Failed):
+                    two.book(SOURCE._replace(contractor=1))
+            one.book(SOURCE, allowed)
+            self.assertEqual((two.editions(), [book.source for book in two.books()]), ({(7, 9)}, [SOURCE]))
+
+            def refused():
+                raise KeyboardInterrupt
+            with self.assertRaises(KeyboardInterrupt):
+                two.book(SOURCE._replace(contractor=1), refused)
+            self.assertEqual(len(one.books()), 1)
+        # a book of other editions counts before its first order
+        self.refused("holds books of editions 7 and 9, and the book is of others", "book", "follow", TOWN_SHEETS[0], "--self", "--store", self.at)
 
     def test_contractors_share_a_store_and_no_visit_has_two_keys(self):
         owners = self.file("o.csv", "id,owner\n" + "".join("%d,%d\n" % (one.id, k % 2) for k, one in enumerate(self.chambers.points)))
