@@ -620,7 +620,12 @@ class Papers(Commands):
             progress.FIRST = before
         self.assertIn("104 orders, 0 not confirmed", self.served("book", "show", "--store", self.path("town.store")))
         self.assertTrue(os.path.exists(self.path("town.html")))
-        code = re.search(r"^From Python:\n\n((?:    .*\n)+)", read(os.path.join(TOP, "docs", "GUIDE.md")).decode(), re.M).group(1)
+        guide = read(os.path.join(TOP, "docs", "GUIDE.md")).decode()
+        # the example receiver's own lines, in its order
+        quoted, source = re.search(r"^((?:    .*\n)+)\nFrom Python:\n", guide, re.M).group(1), read(os.path.join(TOP, "python", "ring", "receiver.py")).decode()
+        places = [source.index(line[4:] + "\n") for line in quoted.splitlines()]
+        self.assertEqual((places, len(places)), (sorted(places), 5))
+        code = re.search(r"^From Python:\n\n((?:    .*\n)+)", guide, re.M).group(1)
         os.unlink(self.path("town.store"))
         status, printed, said = ran([sys.executable, "-c", "\n".join(line[4:] for line in code.split("\n"))], cwd=self.folder, PYTHONPATH=os.path.join(TOP, "python"))
         self.assertEqual((status, said, printed.split()[-2:]), (0, "", [b"104", b"104"]))
