@@ -2,8 +2,10 @@
 """A headless Chromium, driven over its debugging pipe: a page is loaded, clicked, typed into, looked at. Standard library only.
 
     tests/door/browser.py PAGE.html CHAMBER TEXT OUT.png
+    tests/door/browser.py PAGE.html --zoom
 
-takes a picture of a planner's page, a chamber searched for by its id and the first row clicked that begins with a text.
+The first takes a picture of a planner's page, a chamber searched for by its id and the first row clicked that begins with a text. The second turns the wheel from the
+whole town to its middle, step by step and back, and says how long a step takes: from the wheel's event until the picture is drawn and read back.
 """
 import base64
 import contextlib
@@ -135,6 +137,11 @@ class Browser:
             self.mouse("mouseWheel", x, y, deltaX=0, deltaY=-100 if turns > 0 else 100)
         self.settled()
 
+    def step(self, x, y, turn):
+        """The milliseconds of a step of the wheel: from its event to the end of the frame that draws it, read back, so that it is done."""
+        return self.run("new Promise(done => { const at = performance.now(); canvas.dispatchEvent(new WheelEvent('wheel', {deltaY: %d, clientX: %d, clientY: %d, cancelable: true})); "
+                        "requestAnimationFrame(() => { pen.getImageData(0, 0, 1, 1); done(performance.now() - at); }); })" % (-100 if turn > 0 else 100, x, y))
+
     def pinch(self, a, b, to_a, to_b):
         """Two fingers put down, moved and lifted."""
         self.call("Emulation.setTouchEmulationEnabled", enabled=True, maxTouchPoints=2)
@@ -163,7 +170,20 @@ class Browser:
             f.write(base64.b64decode(self.call("Page.captureScreenshot", format="png")["data"]))
 
 
+def zoomed(page, steps=26, turns=3):
+    """How long the steps of the wheel take, from the whole town in and out again, some times over."""
+    with Browser() as one:
+        begun = time.monotonic()
+        one.load(os.path.abspath(page))
+        loaded = 1000 * (time.monotonic() - begun)
+        took = sorted(one.step(535, 378, turn) for _ in range(turns) for turn in [1] * steps + [-1] * steps)
+        print("%s: %s; loaded in %.0f ms, first drawn in %.0f ms; %d zoom steps: the middle one %.0f ms, one in twenty over %.0f ms, the slowest %.0f ms" % (
+            os.path.basename(page), one.text("about").split(".")[0], loaded, one.run("stats.first"), len(took), took[len(took) // 2], took[len(took) * 19 // 20], took[-1]))
+
+
 def main(words):
+    if words[1:] == ["--zoom"]:
+        return zoomed(words[0])
     if len(words) != 4:
         sys.exit(__doc__)
     page, chamber, text, out = words
