@@ -229,9 +229,11 @@ class Ring:
     def read_depot(self, path, room=None):
         """A depot of a file that `Depot.write` wrote; with more room where that is given."""
         kept, held = stored.read_depot(path)
-        room = kept if room is None else room
+        return self._put_back_depot(kept if room is None else room, held, str(path))
+
+    def _put_back_depot(self, room, held, what=None):
         words = [number(room, "the room"), len(held)] + [word for form in held for word in form_words(form)]
-        return Depot(self, self._worker.call(Call.STORED_DEPOT, words, 1, str(path))[0], room)
+        return Depot(self, self._worker.call(Call.STORED_DEPOT, words, 1, what)[0], room)
 
 
 class Kept:
@@ -273,10 +275,10 @@ class Book(Kept):
         """Takes a page. One that is not the next is refused and changes nothing: by 14 where it was taken already or one before it is missing."""
         self._call(Call.TAKE, page_words(page), 2)
 
-    def pairs(self):
-        """The pairs that it holds."""
+    def pairs(self, start=0):
+        """The pairs that it holds, from a place on."""
         said, held = [], self.held
-        for at in range(0, held, FETCHED):
+        for at in range(start, held, FETCHED):
             count = min(FETCHED, held - at)
             said += pairs_at(self._call(Call.SLOTS, [at, count], PAIR * count), 0, count)
         return said

@@ -7,7 +7,7 @@ import sys
 import time
 from fractions import Fraction
 
-from . import door, picture, sheets
+from . import door, follow, picture, planner, sheets
 from .api import UNDIVIDED, Ring
 from .faults import BadFile, BadTable, Refused, RingError, WorkerFault
 from .progress import Progress
@@ -16,6 +16,8 @@ from .table import DELIMITERS, read_owners, read_points
 
 # a book's first room, and how long it is followed before it is stored again
 ROOM, KEPT = 1 << 16, 5.0
+# of how many pump houses near each chamber a page says what blocks them, and up to how many chambers that is asked unasked
+NEAR, ASKED = 6, 1000
 STATUS = "Exit status: 0 answered, 1 refused, 2 wrong use, 3 input or output that fails, 130 an interrupt."
 
 
@@ -253,14 +255,19 @@ def book(ring, args):
         followed(ring, args)
 
 
-def followed(ring, args):
-    """Follows a book, and stores it."""
+def asked_of(ring, args):
+    """What list a book is of, and its page after a key."""
     if args.self and (args.threshold or args.contractor is not None):
         raise door.Wrong("a self join has no threshold and no contractor")
     opened_ = [opened(ring, name) for name in args.sheets]
     p, q = opened_[0], opened_[-1]
     terms = {"grid": args.grid} if args.self else terms_of(args, q)
-    source = source_of(args, p, q, terms)
+    return source_of(args, p, q, terms), lambda key: ring.own_page(p, key, **terms) if args.self else ring.page(p, q, key, **terms)
+
+
+def followed(ring, args):
+    """Follows a book, and stores it."""
+    source, page_after = asked_of(ring, args)
     if os.path.exists(args.file):
         kept = ring.read_book(args.file)
         if kept.source != source:
@@ -270,9 +277,6 @@ def followed(ring, args):
         kept.write(args.file)
     if args.room and args.room > kept.room:
         kept = kept.with_room(args.room)
-
-    def page_after(key):
-        return ring.own_page(p, key, **terms) if args.self else ring.page(p, q, key, **terms)
 
     taken, held, stored_at = 0, kept.held, time.monotonic()
     try:
@@ -306,12 +310,24 @@ def shown_source(source):
     return ", ".join(parts + (["street grid"] if source.grid else []))
 
 
+def shown_held(state):
+    return "%d pairs held, %s" % (state.held, "and these are all" if state.closed else "not all yet")
+
+
 def show_book(args, kept):
     record = dict(kept.source._asdict(), file=args.file, held=kept.held, closed=kept.closed, room=kept.room)
     if args.json:
         record["pairs"] = [pair._asdict() for pair in kept.pairs()]
     rows = "".join("%d %d %d\n" % pair for pair in kept.pairs()) if args.show else ""
-    answer(args, record, "%s%s: %s; %d pairs held, %s\n" % (rows, args.file, shown_source(kept.source), kept.held, "and these are all" if kept.closed else "not all yet"))
+    answer(args, record, "%s%s: %s; %s\n" % (rows, args.file, shown_source(kept.source), shown_held(kept)))
+
+
+def unmixed(args, file, editions, what="orders"):
+    """Refuses to order the visits of a new edition beside orders of others unasked."""
+    if editions and not args.new_edition:
+        raise No("%s holds %s of editions %s, and the book is of others: a new edition has new keys, so that each visit would be ordered again. Close the old "
+                 "edition's orders first, and begin a %s anew, or say --new-edition" % (
+                     file, what, ", ".join("%d and %d" % pair for pair in sorted(editions)), "depot" if what == "orders" else "store"))
 
 
 def depot(ring, args):
@@ -333,10 +349,8 @@ def handed(ring, args):
         raise No("%s is not there, and no book is given to begin it from" % args.file)
     else:
         there = ring.depot(args.room or len(forms))
-    editions = {form[:2] for form in there.forms()} - {form[:2] for form in forms}
-    if books and editions and not args.new_edition:
-        raise No("%s holds orders of editions %s, and the book is of others: a new edition has new keys, so that each visit would be ordered again. Close the old "
-                 "edition's orders first, and begin a depot anew, or say --new-edition" % (args.file, ", ".join("%d and %d" % pair for pair in sorted(editions))))
+    if books:
+        unmixed(args, args.file, {form[:2] for form in there.forms()} - {form[:2] for form in forms})
     issued, count = [], 0
     with Progress(lambda: "%d of %d forms handed in" % (count, len(forms))):
         for count, form in enumerate(forms, 1):
@@ -350,6 +364,84 @@ def handed(ring, args):
     rows = issued if books else there.forms()
     text = "".join("%s %d %d %d\n" % (shown_source(Source(form.p_edition, form.q_edition, 0, form.contractor, form.own, form.grid)), form.q, form.p, form.size) for form in rows)
     answer(args, record, text + "%s: %d issued, %d known, %d orders held\n" % (args.file, len(issued), len(forms) - len(issued), there.held))
+
+
+# ---------------------------------------------------------------- the store
+
+def opened_store(args, ring=None, begun=True):
+    # here, and not above: SQLite is needed by a store alone, and a few builds of Python come without it
+    try:
+        from .store import Store
+    except ImportError as fault:
+        raise door.Failed("a store needs Python's sqlite3, and this Python has none: %s" % fault)
+    return Store(args.store, ring, begun)
+
+
+def undoubled(file, sources, source):
+    """Refuses an undivided book beside a contractor's of the same list: each visit would have two keys, and so two orders."""
+    for other in sources:
+        if other._replace(threshold=0, contractor=0) == source._replace(threshold=0, contractor=0) and (other.contractor == UNDIVIDED) != (source.contractor == UNDIVIDED):
+            raise No("%s has a book of %s: beside it one of %s would order visits twice, under two keys. Keep one way of dividing a town" % (
+                file, shown_source(other), shown_source(source)))
+
+
+def book_follow(ring, args):
+    """Follows a book of a store until it is closed and all its orders are issued."""
+    if len(args.sheets) != (1 if args.self else 2):
+        raise door.Wrong("book follow P.sheet Q.sheet --store FILE, or book follow S.sheet --self --store FILE")
+    source, page_after = asked_of(ring, args)
+    with opened_store(args, ring) as store:
+        def allowed():
+            unmixed(args, args.store, store.editions() - {source[:2]}, "books")
+            undoubled(args.store, [other.source for other in store.books()], source)
+        kept, count = store.book(source, allowed), 0
+        with Progress() as progress:
+            for state, issued in follow.follow(kept, page_after, args.forms, args.pages):
+                count += len(issued)
+                progress.tell("%d pairs held, %d forms handed in" % (state.held, state.formed))
+        show_store(args, store, count)
+
+
+def book_show(ring, args):
+    with opened_store(args, begun=False) as store:
+        show_store(args, store)
+
+
+def show_store(args, store, issued=None):
+    """What a store holds, as of one moment."""
+    with store.reading():
+        rows = [(kept, kept.state()) for kept in store.books()]
+        held, waiting = store.counts()
+        record = {"file": args.store, "orders": held, "unconfirmed": waiting, "books": [dict(kept.source._asdict(), **state._asdict()) for kept, state in rows]}
+        if args.json and args.command == "book show":
+            for one, (kept, _) in zip(record["books"], rows):
+                one.update(pairs=[pair._asdict() for pair in kept.pairs()], pages=len(kept.taken()))
+            record["forms"] = [form._asdict() for form in store.orders()]
+    if issued is not None:
+        record["issued"] = issued
+    text = "".join("%s: %s; %s\n" % (args.store, shown_source(kept.source), shown_held(state)) for kept, state in rows)
+    new = "" if issued is None else "%d issued now, " % issued
+    answer(args, record, text + "%s: %d orders, %s%d not confirmed by a receiver\n" % (args.store, held, new, waiting))
+
+
+def book_send(ring, args):
+    """Sends the orders of a store to a receiver program, each until it is confirmed."""
+    with opened_store(args, begun=False) as store:
+        from .receiver import Program
+        count = 0
+        try:
+            with Program(args.receiver, args.wait) as receiver, Progress() as progress:
+                for confirmed in follow.send(store, receiver.give):
+                    count += confirmed
+                    progress.tell("%d orders confirmed" % count)
+        except OSError as fault:
+            raise door.Failed("%s: %s" % (args.receiver[0], fault.strerror or fault))
+        held, waiting = store.counts()
+        answer(args, {"file": args.store, "orders": held, "confirmed": count, "unconfirmed": waiting},
+               "%s: %d orders confirmed now, %d of %d not confirmed\n" % (args.store, count, waiting, held))
+        if waiting:
+            why = "the receiver was silent for %g seconds, and was ended; " % args.wait if receiver.silent else ""
+            raise door.Failed("%s%d orders are not confirmed: the same command sends them again" % (why, waiting))
 
 
 # ---------------------------------------------------------------- the picture
@@ -384,28 +476,48 @@ def listed(lines, p, q, grid):
             hint = "" if row[4] != sizes[not grid] or row[2:4] != middle(a, b) else ": it is of the %s" % ("circle" if grid else "street grid, say --grid")
             raise No("line %d is not of these sheets: %s, where %d and %d are %s%s" % (
                 number, line.strip(), row[0], row[1], " ".join(map(str, middle(a, b) + (sizes[grid],))), hint))
-        pairs.append(row[:2])
+        pairs.append((row[0], row[1], row[4]))
     if not ended:
         raise No("the listing has no last line 'end N'")
     return pairs
 
 
-def draw(ring, args):
+def shown(ring, args):
+    """What a picture or a page is of: both sheets, the terms, the ids of the chambers that may be named where not all may, and the pairs."""
     p, q = both(ring, args)
     terms = terms_of(args, q)
     mine = None
     if "owners" in terms:
         mine = {one.id for one, owner in zip(q.points, terms["owners"]) if owner == args.contractor}
     if args.listing is None:
-        pairs = [pair[:2] for pair in gathered(ring.pairs(p, q, **terms), q)]
-    else:
-        try:
-            pairs = listed(read(args.listing).decode("ascii", "replace").split("\n"), p, q, args.grid)
-            if mine is not None and not mine.issuperset(a for a, _ in pairs):
-                raise No("it has chambers of the other contractor")
-        except No as fault:
-            raise No("%s: %s" % (args.listing, fault))
-    put(args, picture.svg(p, q, pairs, args.grid, mine, (os.path.basename(p.name), os.path.basename(q.name))))
+        return p, q, terms, mine, gathered(ring.pairs(p, q, **terms), q)
+    try:
+        pairs = listed(read(args.listing).decode("ascii", "replace").split("\n"), p, q, args.grid)
+        if mine is not None and not mine.issuperset(pair[0] for pair in pairs):
+            raise No("it has chambers of the other contractor")
+    except No as fault:
+        raise No("%s: %s" % (args.listing, fault))
+    return p, q, terms, mine, pairs
+
+
+def names_of(p, q):
+    return os.path.basename(p.name), os.path.basename(q.name)
+
+
+def draw(ring, args):
+    p, q, _, mine, pairs = shown(ring, args)
+    put(args, picture.svg(p, q, [pair[:2] for pair in pairs], args.grid, mine, names_of(p, q)))
+
+
+def map_(ring, args):
+    p, q, terms, mine, pairs = shown(ring, args)
+    near = args.near
+    if near is None:
+        near = NEAR if q.n <= ASKED else 0
+        if not near:
+            say("%d chambers: what blocks near them is not asked for; --near K asks" % q.n)
+    with Progress() as progress:
+        put(args, planner.page(ring, p, q, pairs, terms, near, mine, names_of(p, q), units(args), progress.tell))
 
 
 # ---------------------------------------------------------------- the words of each command
@@ -468,6 +580,17 @@ def with_list(one):
     one.add_argument("--geojson", action="store_true", help="the pairs as GeoJSON lines, in the units of the CSV (--scale, --offset)")
     with_units(one, "coordinates")
     with_out(one)
+
+
+def with_listing(one):
+    with_sheets(one)
+    one.add_argument("listing", nargs="?", metavar="LISTING")
+    with_terms(one)
+    with_out(one)
+
+
+def with_store(one, what=""):
+    one.add_argument("--store", required=True, metavar="FILE", help="an SQLite file" + (", " + what if what else ""))
 
 
 def with_out(one):
@@ -544,6 +667,24 @@ def parser():
     one.add_argument("--pages", type=whole_number, metavar="N", help="take at most N pages now")
     one.add_argument("--room", type=whole_number, metavar="N", help="so many slots and no more")
     with_terms(one)
+    one = added(commands, "book follow", book_follow, "a book in a store, followed until it is closed and all its orders are issued",
+                "./ring book follow pumps.sheet chambers.sheet --store town.store",
+                "\nIt may be stopped at any moment, by a crash too: the same command goes on. A second process on the same\nstore does no harm.")
+    one.add_argument("sheets", nargs="+", metavar="SHEET", help="P.sheet Q.sheet, or one sheet with --self")
+    with_store(one, "made where it is not there")
+    one.add_argument("--self", action="store_true", help="of a self join")
+    one.add_argument("--pages", type=whole_number, metavar="N", help="ask for at most N pages now")
+    one.add_argument("--forms", type=float, default=follow.FORMED, metavar="SECONDS", help="make forms and issue orders every so many seconds (5); at the end in any case")
+    one.add_argument("--new-edition", action="store_true", help="beside orders of other editions")
+    with_terms(one)
+    one = added(commands, "book show", book_show, "what a store holds: its books, its orders, which are not confirmed", "./ring book show --store town.store")
+    with_store(one)
+    one = added(commands, "book send", book_send, "the orders of a store sent to a receiver program, each until it is confirmed",
+                "./ring book send --store town.store -- python3 python/ring/receiver.py orders.received",
+                "\nThe receiver is handed an order a line, as JSON, and answers its number once it holds it.")
+    with_store(one)
+    one.add_argument("--wait", type=float, default=follow.SILENT, metavar="SECONDS", help="so long is an answer waited for (60)")
+    one.add_argument("receiver", nargs="+", metavar="RECEIVER", help="the words that run it, after --")
     one = added(commands, "depot", depot, "the forms of closed books handed to a depot", "./ring depot town.depot town.book",
                 " Each order is held once: what is handed in again\nis known, and issues nothing. With no book it shows what the depot holds.")
     one.add_argument("file", metavar="FILE.depot")
@@ -553,15 +694,25 @@ def parser():
     one.add_argument("--new-edition", action="store_true", help="beside orders of other editions")
     one = added(commands, "draw", draw, "a picture of two sheets and their pairs", "./ring draw pumps.sheet chambers.sheet listing.txt --out town.svg",
                 " LISTING is what `./list` or `./ring list` prints of\nthe two sheets, - for standard input; without it the list is made.")
-    with_sheets(one)
-    one.add_argument("listing", nargs="?", metavar="LISTING")
-    with_terms(one)
-    with_out(one)
+    with_listing(one)
+    one = added(commands, "map", map_, "a page of two sheets and their pairs, to look at in a browser", "./ring map pumps.sheet chambers.sheet --out town.html",
+                " It is one file that needs nothing else: move,\nzoom, search an id, click a chamber for its visits and for what blocks the pump houses near it. LISTING as of `draw`.")
+    with_listing(one)
+    one.add_argument("--near", type=whole_number, metavar="K", help="of the K pump houses nearest to each chamber, what blocks those that are no partners (%d, or 0 for over %s chambers); at most 16"
+                     % (NEAR, format(ASKED, ",")))
+    with_units(one, "coordinates")
     return top
 
 
+def parsed(words):
+    """The words of a command. `book follow` and its like are commands of two words, beside `book` with a file."""
+    if len(words) > 1 and words[0] == "book" and words[1] in ("follow", "show", "send"):
+        words = [" ".join(words[:2])] + words[2:]
+    return parser().parse_args(words)
+
+
 def main(words, ring=None):
-    args = parser().parse_args(words)
+    args = parsed(words)
     mine = Ring() if ring is None else ring
     try:
         return args.call(mine, args) or door.SERVED

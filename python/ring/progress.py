@@ -14,7 +14,7 @@ class Progress:
     def __init__(self, told=None, out=None, clock=time.monotonic):
         self.told, self.out, self.clock = told or (lambda: "still working"), out or sys.stderr, clock
         self.begun, self.last = clock(), None
-        self.done = threading.Event()
+        self.done, self.lock = threading.Event(), threading.Lock()
         self.thread = threading.Thread(target=self.watch, daemon=True)
 
     def __enter__(self):
@@ -27,15 +27,21 @@ class Progress:
         if self.last is not None and self.out.isatty():
             print(file=self.out, flush=True)
 
+    def tell(self, what):
+        """These are the words from now on."""
+        self.told = lambda: what
+        self.say()
+
     def watch(self):
         while not self.done.wait(LOOK):
             self.say()
 
     def say(self):
         """A word, where it is time for one."""
-        now = self.clock()
-        if now - self.begun < FIRST or self.last is not None and now - self.last < BETWEEN:
-            return
-        self.last, over = now, self.out.isatty()
-        text = "%sring: %s, %d seconds so far" % ("\r\033[K" if over else "", self.told(), now - self.begun)
-        print(text, file=self.out, end="" if over else "\n", flush=True)
+        with self.lock:
+            now = self.clock()
+            if now - self.begun < FIRST or self.last is not None and now - self.last < BETWEEN:
+                return
+            self.last, over = now, self.out.isatty()
+            text = "%sring: %s, %d seconds so far" % ("\r\033[K" if over else "", self.told(), now - self.begun)
+            print(text, file=self.out, end="" if over else "\n", flush=True)

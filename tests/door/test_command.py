@@ -606,6 +606,30 @@ class Papers(Commands):
         self.follow(lines_under("docs/GUIDE.md", "From CSV to a list"), self.folder)
         self.assertTrue(os.path.exists(self.path("visits.geojson")))
 
+    def test_the_guides_store_and_page(self):
+        for name in ("pumps.sheet", "chambers.sheet"):
+            self.file(name, stored(name))
+        os.makedirs(self.path("python/ring"))
+        os.symlink(os.path.join(TOP, "python", "ring", "receiver.py"), self.path("python/ring/receiver.py"))
+        before = progress.FIRST
+        progress.FIRST = 1e9
+        try:
+            for title in ("A book that survives a crash", "The planner's page"):
+                self.follow(lines_under("docs/GUIDE.md", title), self.folder)
+        finally:
+            progress.FIRST = before
+        self.assertIn("104 orders, 0 not confirmed", self.served("book", "show", "--store", self.path("town.store")))
+        self.assertTrue(os.path.exists(self.path("town.html")))
+        guide = read(os.path.join(TOP, "docs", "GUIDE.md")).decode()
+        # the example receiver's own lines, in its order
+        quoted, source = re.search(r"^((?:    .*\n)+)\nFrom Python:\n", guide, re.M).group(1), read(os.path.join(TOP, "python", "ring", "receiver.py")).decode()
+        places = [source.index(line[4:] + "\n") for line in quoted.splitlines()]
+        self.assertEqual((places, len(places)), (sorted(places), 5))
+        code = re.search(r"^From Python:\n\n((?:    .*\n)+)", guide, re.M).group(1)
+        os.unlink(self.path("town.store"))
+        status, printed, said = ran([sys.executable, "-c", "\n".join(line[4:] for line in code.split("\n"))], cwd=self.folder, PYTHONPATH=os.path.join(TOP, "python"))
+        self.assertEqual((status, said, printed.split()[-2:]), (0, "", [b"104", b"104"]))
+
     def test_the_drawing_of_the_rooms(self):
         self.assertEqual(ran([sys.executable, os.path.join(TOP, "tools", "rooms"), "--check"])[0], 0)
 
@@ -638,7 +662,7 @@ def commands(parser, path=()):
     for action in parser._actions:
         if hasattr(action, "choices") and isinstance(action.choices, dict):
             for name, one in action.choices.items():
-                yield from commands(one, path + (name,))
+                yield from commands(one, path + tuple(name.split(" ")))
             return
     yield path, parser
 
@@ -647,7 +671,7 @@ class Itself(Commands):
     def test_each_has_help_with_an_example_that_is_right(self):
         found = dict(commands(command.parser()))
         self.assertEqual(set(found), {("sheet", "make"), ("sheet", "csv"), ("sheet", "why"), ("sheet", "tidy"), ("list",), ("why",), ("nearest",), ("shortest",), ("partners",), ("self",),
-                                      ("book",), ("depot",), ("draw",)})
+                                      ("book",), ("book", "follow"), ("book", "show"), ("book", "send"), ("depot",), ("draw",), ("map",)})
         for path in found:
             status, printed, said = self.call(*path, "--help")
             self.assertEqual((status, said), (0, ""))
@@ -656,7 +680,7 @@ class Itself(Commands):
             example = re.search(r"Example:\n    \./ring (.*)\n", printed).group(1)
             words = shlex.split(example)
             self.assertEqual(tuple(words[:len(path)]), path)
-            command.parser().parse_args(words)
+            command.parsed(words)
 
     def test_exit_status(self):
         bad = self.file("bad.sheet", "abcd")
