@@ -647,7 +647,7 @@ class Itself(Commands):
     def test_each_has_help_with_an_example_that_is_right(self):
         found = dict(commands(command.parser()))
         self.assertEqual(set(found), {("sheet", "make"), ("sheet", "csv"), ("sheet", "why"), ("sheet", "tidy"), ("list",), ("why",), ("nearest",), ("shortest",), ("partners",), ("self",),
-                                      ("book",), ("depot",), ("draw",)})
+                                      ("book",), ("depot",), ("draw",), ("cluster", "list")})
         for path in found:
             status, printed, said = self.call(*path, "--help")
             self.assertEqual((status, said), (0, ""))
