@@ -26,7 +26,7 @@ enum { NO_CALL = 1001, NO_SHAPE = 1002, NO_HANDLE = 1003, NO_MEMORY = 1004, NO_F
 
 enum {
     HELLO = 1, SHEET, DROP, PACK, POINT, WALK, PAGE, OWN, PARTNERS, SHORTEST, NEAREST, MARKER, BOOK, NEXT, TAKE, SLOTS, STORED_BOOK, FORMS, DEPOT, GIVE, SHELF,
-    STORED_DEPOT, HELD, POSITION
+    STORED_DEPOT, HELD, POSITION, RUN
 };
 
 /* How many words stand for a pair, a source, a page and a form. */
@@ -427,6 +427,26 @@ static uint32_t held(const Thing *d) {
     return 0;
 }
 
+/* leaf, how many slots: the nodes opened, and as many pairs as there are */
+static uint32_t run(const Thing *p, const Thing *q, const uint32_t *words) {
+    size_t slots = words[1];
+    /* more than an answer has room for nobody asks for */
+    if (slots > (MOST - 2) / PAIR || !may_lend(16 * RING_WORDS(p->n))) return NO_MEMORY;
+    RingPair *out = malloc((slots + 1) * sizeof(RingPair));
+    if (out == NULL) return NO_MEMORY;
+    RingRun found = ring_leaf_run(p->room, p->len, q->room, q->len, words[0], out, slots, lent, 16 * RING_WORDS(p->n));
+    if (found.number == 0) {
+        if (!may_say(2 + PAIR * found.count)) {
+            free(out);
+            return NO_MEMORY;
+        }
+        say_long(found.opened);
+        for (size_t k = 0; k < found.count; k++) say_pair(out[k]);
+    }
+    free(out);
+    return found.number;
+}
+
 /* What each call is given: how many handles and of what kind, then how many words at least, and whether more may follow. */
 typedef struct Shape {
     int handles;
@@ -441,10 +461,11 @@ static const Shape shapes[] = {
     [MARKER] = {0, 0, 4, 0}, [BOOK] = {0, 0, SOURCE + 1, 0}, [NEXT] = {1, A_BOOK, 0, 0}, [TAKE] = {1, A_BOOK, PAGED, 0}, [SLOTS] = {1, A_BOOK, 2, 0},
     [STORED_BOOK] = {0, 0, SOURCE + 3, 1}, [FORMS] = {1, A_BOOK, 0, 0}, [DEPOT] = {0, 0, 1, 0}, [GIVE] = {1, A_DEPOT, FORM, 0}, [SHELF] = {1, A_DEPOT, 2, 0},
     [STORED_DEPOT] = {0, 0, 2, 1}, [HELD] = {1, A_DEPOT, 0, 0}, [POSITION] = {1, A_SHEET, 1, 0},
+    [RUN] = {2, A_SHEET, 2, 0},
 };
 
 static uint32_t answered(uint32_t call, const uint32_t *words, size_t len) {
-    if (call < HELLO || call > POSITION) return NO_CALL;
+    if (call < HELLO || call > RUN) return NO_CALL;
     Shape shape = shapes[call];
     size_t least = (size_t)shape.handles + shape.words;
     if (len < least || (len > least && !shape.more)) return NO_SHAPE;
@@ -480,7 +501,8 @@ static uint32_t answered(uint32_t call, const uint32_t *words, size_t len) {
     case SHELF: return shelf(a, words);
     case STORED_DEPOT: return stored_depot(words, len);
     case HELD: return held(a);
-    default: return position(a, words[0]);
+    case POSITION: return position(a, words[0]);
+    default: return run(a, b, words);
     }
 }
 

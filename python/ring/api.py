@@ -12,6 +12,8 @@ SETS = ("P", "Q")
 SIDES = ("left", "bottom", "right", "top")
 KINDS = ("clear", "point", "side")
 PAIR, SOURCE, FORM, SLOTS = 4, 6, 9, 16
+# the slots that a leaf run is lent at first
+LEAF = 1 << 10
 # how many pairs or forms are fetched at once
 FETCHED = 1 << 16
 
@@ -174,6 +176,22 @@ class Ring:
 
     def own_count(self, s, **terms):
         return self._number(self.own_pairs(s, **terms))
+
+    def run(self, p, q, leaf):
+        """The pairs of the chambers of one leaf of Q, a node by its number: by place, then p id. Over all leaves they are the list, in another order."""
+        slots = LEAF
+        while True:
+            try:
+                said = self._worker.call(Call.RUN, [number(leaf, "the leaf"), slots], of=(p, q))
+            except Refused as fault:
+                # more pairs than slots: a longer slice is lent
+                if fault.number != 16:
+                    raise
+                slots *= 4
+                continue
+            if len(said) < 2 or (len(said) - 2) % PAIR:
+                raise WorkerFault("the worker says %d words of a leaf run" % len(said))
+            return list(pairs_at(said, 2, (len(said) - 2) // PAIR))
 
     # ------------------------------------------------------------ single questions
 

@@ -198,6 +198,18 @@ def list_(ring, args):
     give_list(args, p, q, gathered(ring.pairs(p, q, **terms), q), terms)
 
 
+def cluster_list(ring, args):
+    if args.by == "leaves" and (args.grid or args.threshold or args.contractor is not None):
+        raise door.Wrong("leaf runs are of the whole list: no --grid, --threshold or --contractor with --by leaves")
+    # it alone needs `distributed`; where this Python has none, the command runs again here under another
+    from . import cluster
+    cluster.here(args.words)
+    p, q = both(ring, args)
+    terms = terms_of(args, q)
+    pairs = cluster.listed(ring, p, q, terms, args.by, args.scheduler, args.workers, args.batch, not args.uncounted, say)
+    give_list(args, p, q, pairs, terms)
+
+
 def self_(ring, args):
     sheet = opened(ring, args.sheet)
     give_list(args, sheet, sheet, gathered(ring.own_pairs(sheet, grid=args.grid), sheet), {"own": True, "grid": args.grid})
@@ -551,6 +563,13 @@ def whole_number(text):
     return value
 
 
+def some(text):
+    value = whole_number(text)
+    if not value:
+        raise argparse.ArgumentTypeError("a whole number above 0")
+    return value
+
+
 def with_units(one, what):
     one.add_argument("--scale", type=scale, default=Fraction(1), help="%s are multiplied by this to be whole numbers: 100 for centimetres from metres" % what)
     one.add_argument("--offset", type=offset, default=(Fraction(0), Fraction(0)), metavar="X,Y", help="a far origin: taken off first, so that what is left is small; --offset=-5,8 where it begins with a minus")
@@ -637,6 +656,19 @@ def parser():
     with_sheets(one)
     with_terms(one)
     with_list(one)
+    cluster = commands.add_parser("cluster", allow_abbrev=False, help="a list made by many workers", description="Lists made by many workers.", epilog=STATUS)
+    parts = cluster.add_subparsers(required=True, metavar="list", dest="part")
+    one = added(parts, "list", cluster_list, "the ring pairs of two sheets, made by tasks of Dask's distributed scheduler",
+                "./ring cluster list pumps.sheet chambers.sheet --scheduler tcp://10.0.0.5:8786 --out listing.txt",
+                " Without an address the\ncluster is on this machine, over loopback. It needs Debian's python3-distributed, which it finds under any python3 on the path.")
+    with_sheets(one)
+    one.add_argument("--scheduler", metavar="ADDRESS", help="of a scheduler that runs: its workers are started in a clone of this repository, with PYTHONPATH=python")
+    one.add_argument("--workers", type=some, metavar="N", help="of the cluster on this machine: so many workers (one for each processor)")
+    one.add_argument("--by", choices=("chambers", "leaves"), default="chambers", help="tasks are ranges of chambers, or runs of leaves, which take longer")
+    one.add_argument("--batch", type=some, metavar="N", help="so many chambers or leaves a task")
+    one.add_argument("--uncounted", action="store_true", help="do not hold the number of the pairs to `count`, which takes about as long as the list")
+    with_terms(one)
+    with_list(one)
     one = added(commands, "self", self_, "the ring pairs of one sheet with itself", "./ring self chambers.sheet")
     one.add_argument("sheet", metavar="S.sheet")
     one.add_argument("--grid", action="store_true", help="along a street grid (sheets of form 1)")
@@ -713,6 +745,7 @@ def parsed(words):
 
 def main(words, ring=None):
     args = parsed(words)
+    args.words = words
     mine = Ring() if ring is None else ring
     try:
         return args.call(mine, args) or door.SERVED

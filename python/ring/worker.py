@@ -43,6 +43,7 @@ class Call(enum.IntEnum):
     STORED_DEPOT = 22
     HELD = 23
     POSITION = 24
+    RUN = 25
 
 
 # statuses that are no number of refusal: faults of a frame

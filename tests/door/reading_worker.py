@@ -33,6 +33,7 @@ SHAPES = {
     Call.NEAREST: (2, SHEET, 2, False), Call.MARKER: (0, None, 4, False), Call.BOOK: (0, None, SOURCE + 1, False), Call.NEXT: (1, BOOK, 0, False),
     Call.TAKE: (1, BOOK, PAGED, False), Call.SLOTS: (1, BOOK, 2, False), Call.STORED_BOOK: (0, None, SOURCE + 3, True), Call.FORMS: (1, BOOK, 0, False),
     Call.DEPOT: (0, None, 1, False), Call.GIVE: (1, DEPOT, FORM, False), Call.SHELF: (1, DEPOT, 2, False), Call.STORED_DEPOT: (0, None, 2, True), Call.HELD: (1, DEPOT, 0, False), Call.POSITION: (1, SHEET, 1, False),
+    Call.RUN: (2, SHEET, 2, False),
 }
 
 
@@ -309,6 +310,17 @@ class Reading:
 
     def held(self, d, words):
         return [len(d.forms)]
+
+    def run(self, p, q, words):
+        leaf, slots = words
+        if slots > (MOST - 2) // PAIR:
+            raise No(NO_MEMORY)
+        if leaf >= q.read.m or q.read.nodes[leaf][0] != 0:
+            raise No(19)
+        found = reading.leaf_list(p.read, q.read, leaf)
+        if len(found) > slots:
+            raise No(16)
+        return [0, 0] + [word for pair in found for word in pair_words(pair)]
 
 
 def said_walk(answer):

@@ -671,7 +671,7 @@ class Itself(Commands):
     def test_each_has_help_with_an_example_that_is_right(self):
         found = dict(commands(command.parser()))
         self.assertEqual(set(found), {("sheet", "make"), ("sheet", "csv"), ("sheet", "why"), ("sheet", "tidy"), ("list",), ("why",), ("nearest",), ("shortest",), ("partners",), ("self",),
-                                      ("book",), ("book", "follow"), ("book", "show"), ("book", "send"), ("depot",), ("draw",), ("map",)})
+                                      ("book",), ("book", "follow"), ("book", "show"), ("book", "send"), ("depot",), ("draw",), ("map",), ("cluster", "list")})
         for path in found:
             status, printed, said = self.call(*path, "--help")
             self.assertEqual((status, said), (0, ""))

@@ -14,8 +14,8 @@ from ring import worker
 from ring.worker import HEAD, LETTERS, MOST, Call, Worker, frame
 
 # of these answers the first of so many words are nodes opened, which the reading says as 0
-OPENED = {Call.PAGE: (0, 1), Call.OWN: (0, 1), Call.WALK: (4, 5)}
-ROOMS = {Call.BOOK: 6, Call.STORED_BOOK: 6, Call.DEPOT: 0, Call.STORED_DEPOT: 0}
+OPENED = {Call.PAGE: (0, 1), Call.OWN: (0, 1), Call.WALK: (4, 5), Call.RUN: (0, 1)}
+ROOMS = {Call.BOOK: 6, Call.STORED_BOOK: 6, Call.DEPOT: 0, Call.STORED_DEPOT: 0, Call.RUN: 3}
 WILD = (0, 1, 2, 3, 15, 16, 17, 60_000, 60_001, 2_000_000_000, 2_000_000_001, 2 ** 31 - 1, 2 ** 31, 2 ** 32 - 1)
 
 
@@ -81,6 +81,8 @@ class Requests:
             words = [some("sheet"), rng.choice((0, 20)), rng.choice((0, 50)), rng.choice((1, 16)), rng.randrange(2)]
         elif call in (Call.PARTNERS, Call.NEAREST):
             words = [some("sheet"), some("sheet"), rng.randrange(1, 100), rng.randrange(1, 17)]
+        elif call == Call.RUN:
+            words = [some("sheet"), some("sheet"), rng.randrange(4), rng.choice((0, 3, 16, 400, 400))]
         elif call == Call.SHORTEST:
             words = [some("sheet"), some("sheet"), rng.randrange(1, 17)]
         elif call == Call.MARKER:
@@ -126,7 +128,7 @@ class Requests:
         elif damage == 1:
             words = words[:rng.randrange(len(words) + 1)] if rng.random() < 0.5 else words + [rng.choice(WILD)] * rng.randrange(1, 4)
         elif damage == 2:
-            call = rng.choice((0, 25, 26, 2 ** 31, 2 ** 32 - 1, rng.randrange(1, 25)))
+            call = rng.choice((0, len(Call) + 1, len(Call) + 2, 2 ** 31, 2 ** 32 - 1, rng.randrange(1, len(Call) + 1)))
         # more room than a machine has is answered by what the machine has
         if call in ROOMS and len(words) > ROOMS[call]:
             words[ROOMS[call]] = min(words[ROOMS[call]], 100_000)
@@ -174,7 +176,7 @@ class Frames(unittest.TestCase):
             return
         self.assertTrue(all(0 in seen[call] for call in Call), [call for call in Call if 0 not in seen[call]])
         reached = set().union(*seen.values())
-        self.assertLessEqual({1001, 1002, 1003} | {3, 4, 5, 6, 8, 9, 10, 11, 12, 13, 14, 15, 16, 18, 20, 21, 22, 26, 27, 28, 29, 30, 31}, reached)
+        self.assertLessEqual({1001, 1002, 1003} | {3, 4, 5, 6, 8, 9, 10, 11, 12, 13, 14, 15, 16, 18, 19, 20, 21, 22, 26, 27, 28, 29, 30, 31}, reached)
 
     def test_cut_input(self):
         whole = [frame(1, Call.HELLO, []), frame(2, Call.SHEET, reading.pack([(1, 0, 0)], [0], 7)), frame(3, Call.POINT, [1, 0])]
