@@ -15,14 +15,14 @@
 --     own-many, own-number-of     the calls of a self join answer as those of its terms
 -- Assumes nothing.
 use mathlib.Core.Path.{_≡_, refl, sym, ap, ap₂, subst, _∙_}
-use mathlib.Core.Bool.{Bool, true, false, not, cond}
+use mathlib.Core.Bool.{Bool, true, false, not, true≢false}
 use mathlib.Core.Logic.{_↔_, ⊎-elim}
-use mathlib.Core.List.{List, [], _∷_, _++_, List·Memᴰ, List·Memᴰ·head, List·Memᴰ·tail, List·Memᴰ·not-nil, List·Memᴰ·cases-cons, Memᴰ·append-left}
+use mathlib.Core.List.{List, [], _∷_, _++_, List·Memᴰ, List·Memᴰ·head, List·Memᴰ·tail, List·Memᴰ·not-nil, List·Memᴰ·cases-cons, Memᴰ·append-left, append-assoc}
 use Prim.Native.Nat.{ℕ, suc, min, _+_, _≤_, _<_}
 use native.Mathlib.Omega.{arith}
 use lib.Dec.{ltb}
 use lib.IntN.{ℤ}
-use lib.ListN.{length, take, drop, getD, length-take, take-append-drop}
+use lib.ListN.{length, take, drop, getD, length-take, length-drop, length-append, take-append-drop}
 use lib.Seq.{take-all, take-append-seam, drop-append-seam}
 use borrow.Author.Tests.{le-leb, le-ltb, ltb-true, ltb-false, lt-ltb}
 use Rattle.integers.proofs.Bools.{decide}
@@ -85,15 +85,8 @@ after-iff k (w ∷ l) v =
     (λ (e : follows k (keyOf w) ≡ false).
     rw e
     (λ m. (List·Memᴰ·tail (z .0 m .0), z .0 m .1),
-    λ x. ⊎-elim (λ (y : v ≡ w). absurd (clashes (sym (x .1) ∙ ap (λ (u : Pair). follows k (keyOf u)) y ∙ e))) (λ (y : List·Memᴰ v l). z .1 (y, x .1)) (List·Memᴰ·cases-cons (x .0))))
+    λ x. ⊎-elim (λ (y : v ≡ w). absurd (true≢false (sym (x .1) ∙ ap (λ (u : Pair). follows k (keyOf u)) y ∙ e))) (λ (y : List·Memᴰ v l). z .1 (y, x .1)) (List·Memᴰ·cases-cons (x .0))))
     (decide (follows k (keyOf w)))
-  where
-    clashes : true ≡ false → ⊥
-    clashes e = subst (λ (t : Bool). cond t (Unit {0}) ⊥) e tt
-
--- a list is no longer than n exactly if its first n are all of it
-all-first : (n : ℕ) (l : List Pair) → (take n l ≡ l) ↔ (length l ≤ n)
-all-first n l = (λ e. omega (arith, length-take n l, ap length e), take-all n l)
 
 -- "whether more follow" the first n
 more-is : (n : ℕ) (l : List Pair) → (not (isNone (drop n l)) ≡ true) ↔ (n < length l)
@@ -104,6 +97,36 @@ more-is n l =
     twice : (t : Bool) → not (not t) ≡ t
     twice true = refl
     twice false = refl
+
+-- a first part is known by its length
+front-is : (s t : List Pair) (m : ℕ) → s ≡ take m t → s ≡ take (length s) t
+front-is s t m e = sym (take-append-seam s (drop m t)) ∙ ap (take (length s)) (ap (λ (x : List Pair). x ++ drop m t) e ∙ take-append-drop m t)
+
+-- it is all exactly if no more follow
+front-ends : (more : Bool) (m : ℕ) (t s : List Pair) → s ≡ take m t → ((more ≡ true) ↔ (m < length t)) → (more ≡ false) ↔ (s ≡ t)
+front-ends true m t s e z = (λ x. absurd (true≢false x), λ y. absurd (omega (arith, z .0 refl, length-take m t, ap length (sym e ∙ y))))
+front-ends false m t s e z = (λ x. e ∙ take-all m t (few (ltb m (length t)) refl), λ y. refl)
+  where
+    few : (b : Bool) → ltb m (length t) ≡ b → length t ≤ m
+    few true g = absurd (true≢false (sym (z .1 (ltb-true m (length t) g))))
+    few false g = ltb-false m (length t) g
+
+-- a first part, and a first part of the rest
+module _ (s l t : List Pair) (m : ℕ) (e : s ≡ take m t) where
+  rest-is : s ++ drop m t ≡ t
+  rest-is = ap (λ (x : List Pair). x ++ drop m t) e ∙ take-append-drop m t
+
+  joined : l ≡ take (length l) (drop m t) → s ++ l ≡ take (length (s ++ l)) t
+  joined f =
+      let x = drop (length l) (drop m t) in
+      let whole : (s ++ l) ++ x ≡ t = append-assoc s l x ∙ ap (λ (y : List Pair). s ++ y) (ap (λ (y : List Pair). y ++ x) f ∙ take-append-drop (length l) (drop m t)) ∙ rest-is in
+      sym (take-append-seam (s ++ l) x) ∙ ap (take (length (s ++ l))) whole
+
+  joined-all : (more : Bool) → ((more ≡ false) ↔ (l ≡ drop m t)) → (more ≡ false) ↔ (s ++ l ≡ t)
+  joined-all more z = (
+    λ x. ap (λ (y : List Pair). s ++ y) (z .0 x) ∙ rest-is,
+    λ y. z .1 (sym (drop-append-seam s l) ∙ ap (drop (length s)) (y ∙ sym rest-is) ∙ drop-append-seam s (drop m t)),
+  )
 
 module _ (P Q : List ℤ) (p-opens : WellFormed P) (q-opens : WellFormed Q) (a : Terms) (o : List ℕ) (big : ℕ) where
   p-rises : Rising (idAt (pointsOf P)) (length (pointsOf P))
@@ -241,3 +264,132 @@ module _ (P Q : List ℤ) (p-opens : WellFormed P) (q-opens : WellFormed Q) (a :
           ends : (t : Bool) → r .more ≡ t → length (after key Sized) ≤ length slots → r .more ≡ false
           ends true e g = absurd (omega (arith, pairs-given .2 .0 e))
           ends false e g = e
+
+  -- ---- calls that follow each other
+
+  module _ (of-whom : Whose (a .contractor) o (points Q)) (forms : gridNo (a .grid) P Q ≡ 0) where
+    -- the key of the last pair stored is in range, as the key before it was
+    next-fair : (key : Key) → Fair key (a .threshold) big → (n : ℕ) → Fair (lastOr key (take n (after key Sized))) (a .threshold) big
+    unfolding shown
+    next-fair key h n =
+        last-holds (λ (k : Key). Fair k (a .threshold) big) key (take n (after key Sized)) h
+        (λ v m.
+        let z = to-keys big a o (pointsOf P) (pointsOf Q) p-rises q-rises v (shown-member Sized key n v m) in
+        record { q-in = z .0; p-in = z .1; fair = h .fair; fits = h .fits })
+
+    -- what stands after that key
+    next-after : (key : Key) (n : ℕ) → after (lastOr key (take n (after key Sized))) Sized ≡ drop n (after key Sized)
+    unfolding shown
+    next-after key n = after-shown start key Sized n sized-ascends
+
+    -- what calls that follow each other have stored, and the last one said
+    abbrev Told : Key → List Pair → Bool → Type 0
+    Told key l more = (l ≡ take (length l) (after key Sized)) × ((more ≡ false) ↔ (l ≡ after key Sized))
+
+    -- the same of what is left after the first n
+    abbrev Left : Key → ℕ → List Pair → Bool → Type 0
+    Left key n l more = (l ≡ take (length l) (drop n (after key Sized))) × ((more ≡ false) ↔ (l ≡ drop n (after key Sized)))
+
+    module _ (key : Key) (slots : List Pair) (w : List ℕ) (r : Many) (slots′ : List Pair) (w′ : List ℕ) (x : ManyAnswers a o P Q key big slots w r slots′ w′) (h : Fair key (a .threshold) big) (enough : need P ≤ length w) where
+      later-fair : Fair (lastOr key (take (r .count) slots′)) (a .threshold) big
+      later-fair = subst (λ (y : List Pair). Fair (lastOr key y) (a .threshold) big) (sym (pairs-given key slots w r slots′ w′ x h of-whom forms enough .1)) (next-fair key h (length slots))
+
+      later-told : (l : List Pair) (more : Bool) → Told (lastOr key (take (r .count) slots′)) l more → Left key (length slots) l more
+      later-told l more z =
+          subst (λ (d : List Pair). (l ≡ take (length l) d) × ((more ≡ false) ↔ (l ≡ d)))
+          (ap (λ (y : List Pair). after (lastOr key y) Sized) (pairs-given key slots w r slots′ w′ x h of-whom forms enough .1) ∙ next-after key (length slots)) z
+
+    -- "following it gives the list, as pages do": calls that follow each other, each lent at least one slot, store a first part of the pairs after the first key. No more follow exactly if these are all.
+    pub follow-list : {n : ℕ} {key : Key} {l : List Pair} {more : Bool} → Fair key (a .threshold) big → Follow a o P Q big n key l more
+        → (l ≡ take (length l) (after key Sized)) × ((more ≡ false) ↔ (l ≡ after key Sized))
+    follow-list h (calls key slots w r slots′ w′ some enough x) =
+        let g = pairs-given key slots w r slots′ w′ x h of-whom forms enough in
+        (front-is (take (r .count) slots′) (after key Sized) (length slots) (g .1), front-ends (r .more) (length slots) (after key Sized) (take (r .count) slots′) (g .1) (g .2))
+    follow-list {more = more} h (again {n} {l} key slots w r slots′ w′ some enough x f) =
+        let g = pairs-given key slots w r slots′ w′ x h of-whom forms enough in
+        let y : Left key (length slots) l more = later-told key slots w r slots′ w′ x h enough l more (follow-list (later-fair key slots w r slots′ w′ x h enough) f) in
+        (joined (take (r .count) slots′) l (after key Sized) (length slots) (g .1) (y .0), joined-all (take (r .count) slots′) l (after key Sized) (length slots) (g .1) more (y .1))
+
+    -- Whoever follows them to the end has exactly the pairs that are asked for.
+    pub follow-exact : {n : ℕ} {key : Key} {l : List Pair} → Fair key (a .threshold) big → Follow a o P Q big n key l false → (v : Pair) → List·Memᴰ v l ↔ Asked key v
+    follow-exact {key = key} h f v = subst (λ (x : List Pair). List·Memᴰ v x ↔ Asked key v) (sym (follow-list h f .1 .0 refl)) (pairs-exact key v)
+
+    -- From the start, to the greatest size, it is the list of the terms, each pair once.
+    pub follow-whole : {n : ℕ} {l : List Pair} → a .threshold ≤ lastThreshold → big ≡ lastLargest → Follow a o P Q big n start l false → l ≡ listFor a o (pointsOf P) (pointsOf Q)
+    follow-whole t e f =
+        follow-list (record { q-in = omega arith; p-in = omega arith; fair = t; fits = omega (arith, e) }) f .1 .0 refl ∙ after-all start Sized sized-ascends ∙ pairs-whole e forms
+
+    -- It does not go on for ever: as long as more follow, each call has stored a pair at least.
+    pub follow-ends : {n : ℕ} {key : Key} {l : List Pair} {more : Bool} → Fair key (a .threshold) big → Follow a o P Q big n key l more → more ≡ true → n ≤ length l
+    follow-ends h (calls key slots w r slots′ w′ some enough x) e =
+        let g = pairs-given key slots w r slots′ w′ x h of-whom forms enough in
+        omega (arith, some, ap length (g .1), length-take (length slots) (after key Sized), g .2 .0 e)
+    follow-ends {more = more} h (again {n} {l} key slots w r slots′ w′ some enough x f) e =
+        let g = pairs-given key slots w r slots′ w′ x h of-whom forms enough in
+        let fair = later-fair key slots w r slots′ w′ x h enough in
+        let y : Left key (length slots) l more = later-told key slots w r slots′ w′ x h enough l more (follow-list fair f) in
+        omega (arith, some, ap length (g .1), length-take (length slots) (after key Sized), length-append (take (r .count) slots′) l, full (length slots) (after key Sized) l more (y .0) (y .1) e, follow-ends fair f e)
+      where
+        -- where something is left the slots were full
+        full : (m : ℕ) (t l : List Pair) (more : Bool) → l ≡ take (length l) (drop m t) → ((more ≡ false) ↔ (l ≡ drop m t)) → more ≡ true → m < length t
+        full m t l more f z e =
+            ⊎-elim
+            (λ (g : ltb m (length t) ≡ true). ltb-true m (length t) g)
+            (λ (g : ltb m (length t) ≡ false). absurd (true≢false (sym e ∙ z .1 (f ∙ take-all (length l) (drop m t) (omega (arith, length-drop m t, ltb-false m (length t) g))))))
+            (decide (ltb m (length t)))
+
+  -- ---- how many there are
+
+  module _ (w : List ℕ) (r : Counted) (w′ : List ℕ) (answers : NumberAnswers a o P Q big w r w′) (fair : a .threshold ≤ lastThreshold) (fits : big ≤ lastLargest) (of-whom : Whose (a .contractor) o (points Q)) (forms : gridNo (a .grid) P Q ≡ 0) (enough : need P ≤ length w) where
+    -- "the number of pairs of such a list": of all of them, from the start
+    pub count-tells : (r .number ≡ 0) × (r .count ≡ length Sized) × (r .count ≡ length (after start Sized))
+    unfolding countNo ownCountNo thresholdNo largestNo first given countAnswer ownCountAnswer countGiven
+    count-tells =
+        let z = go (a .own) refl answers in
+        (z .0, z .1, z .1 ∙ ap length (sym (after-all start Sized sized-ascends)))
+      where
+        go : (k : Bool) → a .own ≡ k → CountOfKind k a o P Q big w r w′ → (r .number ≡ 0) × (r .count ≡ length Sized)
+        go false e x =
+            let nr : countNo P Q o (whichOf a big) (length w) ≡ 0 = rw (p-opens, q-opens, contractor-fits (a .contractor) (of-whom .whose), of-whom .bytes, forms, le-leb (a .threshold) lastThreshold fair, le-ltb lastLargest big fits, bits-enough (need P) (length w) enough) in
+            let is = x .promised .0 ∙ answer-given (countGiven big (ofKind false a) o P Q) countRefused (countNo P Q o (whichOf a big) (length w)) nr in
+            (ap (λ (c : Counted). c .number) is, ap (λ (c : Counted). c .count) is ∙ ap (λ (b : Terms). length (listTo big b o (pointsOf P) (pointsOf Q))) (kind-of a false e))
+        go true e x =
+            let nr : ownCountNo P big (a .grid) (length w) ≡ 0 = rw (p-opens, subst (λ (R : List ℤ). gridNo (a .grid) P R ≡ 0) (sym (x .0)) forms, le-ltb lastLargest big fits, bits-enough (need P) (length w) enough) in
+            let is = x .4 .promised .0 ∙ answer-given (countGiven big (aloneBy (a .grid)) [] P P) countRefused (ownCountNo P big (a .grid) (length w)) nr in
+            (ap (λ (c : Counted). c .number) is, ap (λ (c : Counted). c .count) is ∙ ap₂ (λ (R : List ℤ) (b : List ℕ). length (listTo big (aloneBy (a .grid)) b (pointsOf P) (pointsOf R))) (x .0) (sym (x .3)) ∙ ap (λ (b : Terms). length (listTo big b o (pointsOf P) (pointsOf Q))) (λ i. record { threshold = sym (x .1) i; contractor = sym (x .2) i; own = sym e i; grid = a .grid }))
+
+    -- "so that a caller can lend enough": whoever lends so many slots gets all pairs from the start, in all of them, and nothing follows
+    pub count-enough : (slots : List Pair) → length slots ≡ r .count → (v : List ℕ) → need P ≤ length v → (m : Many) (slots′ : List Pair) (v′ : List ℕ) → ManyAnswers a o P Q start big slots v m slots′ v′
+        → (m .count ≡ r .count) × (take (m .count) slots′ ≡ Sized) × (m .more ≡ false)
+    count-enough slots long v lent m slots′ v′ x =
+        let h : Fair start (a .threshold) big = record { q-in = omega arith; p-in = omega arith; fair = fair; fits = fits } in
+        let g = pairs-given start slots v m slots′ v′ x h of-whom forms lent in
+        let all = after-all start Sized sized-ascends in
+        let as-many : length slots ≡ length (after start Sized) = long ∙ count-tells .2 in (
+          omega (arith, g .0, as-many, long),
+          g .1 ∙ ap (take (length slots)) all ∙ take-all (length slots) Sized (omega (arith, long, count-tells .1)),
+          ends (m .more) refl (λ e. omega (arith, g .2 .0 e, as-many)),
+        )
+      where
+        ends : (t : Bool) → m .more ≡ t → (m .more ≡ true → ⊥) → m .more ≡ false
+        ends true e ne = absurd (ne e)
+        ends false e ne = e
+
+-- "It depends on the points alone": whatever the forms, the editions, the orders and the trees of two pairs of sheets; of any terms.
+pub pairs-by-points : (P P′ Q Q′ : List ℤ) → WellFormed P → WellFormed P′ → WellFormed Q → WellFormed Q′ → pointsOf P ≡ pointsOf P′ → pointsOf Q ≡ pointsOf Q′ → (a : Terms) (o : List ℕ) (big : ℕ) (key : Key) (slots : List Pair)
+    (w : List ℕ) (r : Many) (slots′ : List Pair) (w′ : List ℕ) → ManyAnswers a o P Q key big slots w r slots′ w′ → (v : List ℕ) (m : Many) (slots″ : List Pair) (v′ : List ℕ) → ManyAnswers a o P′ Q′ key big slots v m slots″ v′
+    → r .number ≡ 0 → m .number ≡ 0 → (r ≡ m) × (slots′ ≡ slots″)
+pairs-by-points P P′ Q Q′ p p′ q q′ ep eq a o big key slots w r slots′ w′ x v m slots″ v′ y fine fine′ =
+    let s = many-answered P Q p q a o big key slots w r slots′ w′ x fine in
+    let t = many-answered P′ Q′ p′ q′ a o big key slots v m slots″ v′ y fine′ in
+    let same : listTo big a o (pointsOf P) (pointsOf Q) ≡ listTo big a o (pointsOf P′) (pointsOf Q′) = ap₂ (listTo big a o) ep eq in
+    (s .0 ∙ ap (λ (l : List Pair). manyGiven (length slots) (after key l)) same ∙ sym (t .0), s .1 ∙ ap (λ (l : List Pair). stored slots (after key l)) same ∙ sym (t .1))
+
+-- ---- the self join of one sheet: its calls answer as those of its terms, of the sheet in both places, so all that is said above holds of them
+
+pub own-many : (S : List ℤ) (key : Key) (big : ℕ) (g : Bool) (slots : List Pair) (w : List ℕ) (r : Many) (slots′ : List Pair) (w′ : List ℕ) → OwnPairsAnswers S key big g slots w r slots′ w′
+    → ManyAnswers (aloneBy g) [] S S key big slots w r slots′ w′
+own-many S key big g slots w r slots′ w′ x = (refl, refl, refl, refl, x)
+
+pub own-number-of : (S : List ℤ) (big : ℕ) (g : Bool) (w : List ℕ) (r : Counted) (w′ : List ℕ) → OwnCountAnswers S big g w r w′ → NumberAnswers (aloneBy g) [] S S big w r w′
+own-number-of S big g w r w′ x = (refl, refl, refl, refl, x)
