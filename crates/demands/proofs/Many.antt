@@ -18,7 +18,7 @@ use mathlib.Core.Path.{_≡_, refl, sym, ap, ap₂, subst, _∙_}
 use mathlib.Core.Bool.{Bool, true, false, not, true≢false}
 use mathlib.Core.Logic.{_↔_, ⊎-elim}
 use mathlib.Core.List.{List, [], _∷_, _++_, List·Memᴰ, List·Memᴰ·head, List·Memᴰ·tail, List·Memᴰ·not-nil, List·Memᴰ·cases-cons, Memᴰ·append-left, append-assoc}
-use Prim.Native.Nat.{ℕ, suc, min, _+_, _≤_, _<_}
+use Prim.Native.Nat.{ℕ, min, _≤_, _<_}
 use native.Mathlib.Omega.{arith}
 use lib.Dec.{ltb}
 use lib.IntN.{ℤ}
@@ -26,10 +26,10 @@ use lib.ListN.{length, take, drop, getD, length-take, length-drop, length-append
 use lib.Seq.{take-all, take-append-seam, drop-append-seam}
 use borrow.Author.Tests.{le-leb, le-ltb, ltb-true, ltb-false, lt-ltb}
 use Rattle.integers.proofs.Bools.{decide}
-use Rattle.words.specs.First.{given, first, answer}
+use Rattle.words.specs.First.{given, first}
 use Rattle.words.specs.Range.{lastId}
 use Rattle.words.proofs.FirstLaws.{answer-given}
-use Rattle.plane.specs.Point.{Point, idAt}
+use Rattle.plane.specs.Point.{idAt}
 use Rattle.sheet.specs.Layout.{points}
 use Rattle.sheet.specs.Places.{spotOf, pointsOf}
 use Rattle.sheet.proofs.SheetLaws.{sheet-facts}
@@ -58,7 +58,7 @@ use Rattle.many.specs.Many.{lastLargest, largestNo, pairsNo, ownPairsNo, countN
 use Rattle.many.proofs.Meaning.{list-whole}
 use Rattle.demands.specs.Promises.{OwnPairsAnswers, OwnCountAnswers, wantedOf, whichOf, ManyOfKind, ManyAnswers, CountOfKind, NumberAnswers}
 use Rattle.demands.specs.Many.{atMost, anyNumber, Follow, calls, again}
-use Rattle.demands.proofs.Demand1.{pairs-no, own-pairs-no, count-no, own-count-no}
+use Rattle.demands.proofs.Demand1.{pairs-no, own-pairs-no}
 use Rattle.demands.proofs.Demand2.{WellFormed, Whose}
 use Rattle.demands.proofs.SizedLaws.{at-most-iff, to-ascends, to-keys, to-size, sized-iff}
 
@@ -79,13 +79,15 @@ after-iff k (w ∷ l) v =
     let z = after-iff k l v in
     ⊎-elim
     (λ (e : follows k (keyOf w) ≡ true).
-    rw e
-    (λ m. ⊎-elim (λ (x : v ≡ w). (List·Memᴰ·head x, ap (λ (u : Pair). follows k (keyOf u)) x ∙ e)) (λ (x : List·Memᴰ v (after k l)). (List·Memᴰ·tail (z .0 x .0), z .0 x .1)) (List·Memᴰ·cases-cons m),
-    λ x. ⊎-elim (λ (y : v ≡ w). List·Memᴰ·head y) (λ (y : List·Memᴰ v l). List·Memᴰ·tail (z .1 (y, x .1))) (List·Memᴰ·cases-cons (x .0))))
+    rw e (
+      λ m. ⊎-elim (λ (x : v ≡ w). (List·Memᴰ·head x, ap (λ (u : Pair). follows k (keyOf u)) x ∙ e)) (λ (x : List·Memᴰ v (after k l)). (List·Memᴰ·tail (z .0 x .0), z .0 x .1)) (List·Memᴰ·cases-cons m),
+      λ x. ⊎-elim (λ (y : v ≡ w). List·Memᴰ·head y) (λ (y : List·Memᴰ v l). List·Memᴰ·tail (z .1 (y, x .1))) (List·Memᴰ·cases-cons (x .0)),
+    ))
     (λ (e : follows k (keyOf w) ≡ false).
-    rw e
-    (λ m. (List·Memᴰ·tail (z .0 m .0), z .0 m .1),
-    λ x. ⊎-elim (λ (y : v ≡ w). absurd (true≢false (sym (x .1) ∙ ap (λ (u : Pair). follows k (keyOf u)) y ∙ e))) (λ (y : List·Memᴰ v l). z .1 (y, x .1)) (List·Memᴰ·cases-cons (x .0))))
+    rw e (
+      λ m. (List·Memᴰ·tail (z .0 m .0), z .0 m .1),
+      λ x. ⊎-elim (λ (y : v ≡ w). absurd (true≢false (sym (x .1) ∙ ap (λ (u : Pair). follows k (keyOf u)) y ∙ e))) (λ (y : List·Memᴰ v l). z .1 (y, x .1)) (List·Memᴰ·cases-cons (x .0)),
+    ))
     (decide (follows k (keyOf w)))
 
 -- "whether more follow" the first n
@@ -159,9 +161,10 @@ module _ (P Q : List ℤ) (p-opens : WellFormed P) (q-opens : WellFormed Q) (a :
   pairs-exact key v =
       let s = sized-iff big a o (pointsOf P) (pointsOf Q) p-rises q-rises v in
       let t = at-most-iff big Whole v in
-      let u = after-iff key Sized v in
-      (λ m. let x = s .0 (u .0 m .0) in record { listed = t .0 (x .0) .0; small = t .0 (x .0) .1; many = x .1; late = u .0 m .1 },
-      λ x. u .1 (s .1 (t .1 (x .listed, x .small), x .many), x .late))
+      let u = after-iff key Sized v in (
+        λ m. let x = s .0 (u .0 m .0) in record { listed = t .0 (x .0) .0; small = t .0 (x .0) .1; many = x .1; late = u .0 m .1 },
+        λ x. u .1 (s .1 (t .1 (x .listed, x .small), x .many), x .late),
+      )
 
   -- "8*10^18 means all": to the greatest size that is taken it is the list of the terms
   pub pairs-whole : big ≡ lastLargest → gridNo (a .grid) P Q ≡ 0 → Sized ≡ listFor a o (pointsOf P) (pointsOf Q)
@@ -179,16 +182,18 @@ module _ (P Q : List ℤ) (p-opens : WellFormed P) (q-opens : WellFormed Q) (a :
         go false e x =
             let ask = wantedOf a key big in
             let nr : pairsNo P Q o ask (length w) ≡ 0 = sym (pairs-no P Q o ask slots w r slots′ w′ x .0) ∙ fine in
-            let l : pairsList P Q o ask ≡ after key Sized = ap (λ (b : Terms). after key (listTo big b o (pointsOf P) (pointsOf Q))) (kind-of a false e) in
-            (x .0 ∙ answer-given (manyGiven (length slots) (pairsList P Q o ask)) manyRefused (pairsNo P Q o ask (length w)) nr ∙ ap (manyGiven (length slots)) l,
-            x .1 ∙ answer-given (stored slots (pairsList P Q o ask)) (λ k. slots) (pairsNo P Q o ask (length w)) nr ∙ ap (stored slots) l)
+            let l : pairsList P Q o ask ≡ after key Sized = ap (λ (b : Terms). after key (listTo big b o (pointsOf P) (pointsOf Q))) (kind-of a false e) in (
+              x .0 ∙ answer-given (manyGiven (length slots) (pairsList P Q o ask)) manyRefused (pairsNo P Q o ask (length w)) nr ∙ ap (manyGiven (length slots)) l,
+              x .1 ∙ answer-given (stored slots (pairsList P Q o ask)) (λ k. slots) (pairsNo P Q o ask (length w)) nr ∙ ap (stored slots) l,
+            )
         go true e x =
             let nr : ownPairsNo P key big (a .grid) (length w) ≡ 0 = sym (own-pairs-no P key big (a .grid) slots w r slots′ w′ (x .4) .0) ∙ fine in
             let l : ownList P key big (a .grid) ≡ after key Sized =
             ap₂ (λ (R : List ℤ) (b : List ℕ). after key (listTo big (aloneBy (a .grid)) b (pointsOf P) (pointsOf R))) (x .0) (sym (x .3))
-            ∙ ap (λ (b : Terms). after key (listTo big b o (pointsOf P) (pointsOf Q))) (λ i. record { threshold = sym (x .1) i; contractor = sym (x .2) i; own = sym e i; grid = a .grid }) in
-            (x .4 .0 ∙ answer-given (manyGiven (length slots) (ownList P key big (a .grid))) manyRefused (ownPairsNo P key big (a .grid) (length w)) nr ∙ ap (manyGiven (length slots)) l,
-            x .4 .1 ∙ answer-given (stored slots (ownList P key big (a .grid))) (λ k. slots) (ownPairsNo P key big (a .grid) (length w)) nr ∙ ap (stored slots) l)
+            ∙ ap (λ (b : Terms). after key (listTo big b o (pointsOf P) (pointsOf Q))) (λ i. record { threshold = sym (x .1) i; contractor = sym (x .2) i; own = sym e i; grid = a .grid }) in (
+              x .4 .0 ∙ answer-given (manyGiven (length slots) (ownList P key big (a .grid))) manyRefused (ownPairsNo P key big (a .grid) (length w)) nr ∙ ap (manyGiven (length slots)) l,
+              x .4 .1 ∙ answer-given (stored slots (ownList P key big (a .grid))) (λ k. slots) (ownPairsNo P key big (a .grid) (length w)) nr ∙ ap (stored slots) l,
+            )
 
     module _ (h : Fair key (a .threshold) big) (of-whom : Whose (a .contractor) o (points Q)) (forms : gridNo (a .grid) P Q ≡ 0) (enough : need P ≤ length w) where
       -- A key, a t, a contractor and a largest size in range are served, with the owner bytes of a contractor, of sheets of form 1 for the street grid, with words enough, however many slots there are.

@@ -13,7 +13,7 @@ use native.Mathlib.Omega.{arith}
 use lib.Dec.{leb}
 use lib.ListN.{length}
 use borrow.Author.Tests.{le-leb, leb-true}
-use Rattle.integers.proofs.Bools.{decide, and-left, and-right, clash}
+use Rattle.integers.proofs.Bools.{decide, clash}
 use Rattle.words.specs.Range.{lastId}
 use Rattle.plane.specs.Point.{Point, idAt, spotAt}
 use Rattle.list.specs.declared.Pair.{Pair}
@@ -38,13 +38,15 @@ at-most-iff big (w ∷ l) v =
     let z = at-most-iff big l v in
     ⊎-elim
     (λ (e : leb (w .size) big ≡ true).
-    rw e
-    (λ m. ⊎-elim (λ (x : v ≡ w). (List·Memᴰ·head x, subst (λ (u : Pair). u .size ≤ big) (sym x) (leb-true (w .size) big e))) (λ (x : List·Memᴰ v (atMost big l)). (List·Memᴰ·tail (z .0 x .0), z .0 x .1)) (List·Memᴰ·cases-cons m),
-    λ x. ⊎-elim (λ (y : v ≡ w). List·Memᴰ·head y) (λ (y : List·Memᴰ v l). List·Memᴰ·tail (z .1 (y, x .1))) (List·Memᴰ·cases-cons (x .0))))
+    rw e (
+      λ m. ⊎-elim (λ (x : v ≡ w). (List·Memᴰ·head x, subst (λ (u : Pair). u .size ≤ big) (sym x) (leb-true (w .size) big e))) (λ (x : List·Memᴰ v (atMost big l)). (List·Memᴰ·tail (z .0 x .0), z .0 x .1)) (List·Memᴰ·cases-cons m),
+      λ x. ⊎-elim (λ (y : v ≡ w). List·Memᴰ·head y) (λ (y : List·Memᴰ v l). List·Memᴰ·tail (z .1 (y, x .1))) (List·Memᴰ·cases-cons (x .0)),
+    ))
     (λ (e : leb (w .size) big ≡ false).
-    rw e
-    (λ m. (List·Memᴰ·tail (z .0 m .0), z .0 m .1),
-    λ x. ⊎-elim (λ (y : v ≡ w). clash (le-leb (w .size) big (subst (λ (u : Pair). u .size ≤ big) y (x .1))) e) (λ (y : List·Memᴰ v l). z .1 (y, x .1)) (List·Memᴰ·cases-cons (x .0))))
+    rw e (
+      λ m. (List·Memᴰ·tail (z .0 m .0), z .0 m .1),
+      λ x. ⊎-elim (λ (y : v ≡ w). clash (le-leb (w .size) big (subst (λ (u : Pair). u .size ≤ big) y (x .1))) e) (λ (y : List·Memᴰ v l). z .1 (y, x .1)) (List·Memᴰ·cases-cons (x .0)),
+    ))
     (decide (leb (w .size) big))
 
 most-append : (big : ℕ) (l m : List Pair) → atMost big (l ++ m) ≡ atMost big l ++ atMost big m
