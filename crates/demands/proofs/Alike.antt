@@ -1,5 +1,5 @@
--- The calls of `view` promise what the calls of `ring`, `runs`, `shortest` and `nearest` promise of the words that the views cover:
--- "a view handed in included, its counts read anew from its words". So each theorem of Demand1, Demand2, Demand3, Lent, Shortest and Nearest on an answer of
+-- The calls of `view` promise what the calls of `ring`, `runs`, `shortest`, `nearest` and `many` promise of the words that the views cover:
+-- "a view handed in included, its counts read anew from its words". So each theorem of Demand1, Demand2, Demand3, Lent, Shortest, Nearest and Many on an answer of
 -- these holds of theirs. And so for a book, the depot, and a run, whose slots are kept in an array.
 -- Assumes nothing. [S28]
 use mathlib.Core.Bool.{Bool}
@@ -37,7 +37,11 @@ use Rattle.depot.specs.Forms.{formsOut, madeArray}
 use Rattle.depot.specs.Depot.{storedSlots, storedArray}
 use Rattle.runs.specs.declared.RunArray.{RunArray}
 use Rattle.runs.specs.Run as runs
-use Rattle.demands.specs.Promises.{FormsAnswers, StoreAnswers, FormsArrayAnswers, StoreArrayAnswers, Place, HeadAnswers, PointAnswers, FilterAnswers, RingAnswers, PageAnswers, PartnersAnswers, ShortAnswers, NextAnswers, TakeAnswers, NextArrayAnswers, TakeArrayAnswers, RunAnswers, RunArrayAnswers, ViewPoints, ViewFilters, ViewRings, ViewPages, ViewPartners, ViewRuns, ViewShortest, OpenHead, PointOpened, OwnAnswers, ViewOwnPages, NearestAnswers, NearFilterAnswers, ViewNearest, ViewNearFilters}
+use Rattle.many.specs.declared.Which.{Which}
+use Rattle.many.specs.declared.Wanted.{Wanted}
+use Rattle.many.specs.declared.Counted.{Counted}
+use Rattle.many.specs.declared.Many.{Many}
+use Rattle.demands.specs.Promises.{FormsAnswers, StoreAnswers, FormsArrayAnswers, StoreArrayAnswers, Place, HeadAnswers, PointAnswers, FilterAnswers, RingAnswers, PageAnswers, PartnersAnswers, ShortAnswers, NextAnswers, TakeAnswers, NextArrayAnswers, TakeArrayAnswers, RunAnswers, RunArrayAnswers, ViewPoints, ViewFilters, ViewRings, ViewPages, ViewPartners, ViewRuns, ViewShortest, OpenHead, PointOpened, OwnAnswers, ViewOwnPages, NearestAnswers, NearFilterAnswers, ViewNearest, ViewNearFilters, PairsAnswers, OwnPairsAnswers, CountAnswers, OwnCountAnswers, ViewMany, ViewOwnMany, ViewCounts, ViewOwnCounts}
 
 -- ---- through a view
 
@@ -74,6 +78,18 @@ view-nearest l p q id size w r w′ a = record { κs = ([], ([], ([], tt))); p-a
 
 pub view-near-filter : (l b : Place) (p q : Sheet) (id : ℕ) (ws w : List ℕ) (r : Filtered) (ws′ w′ : List ℕ) → ViewNearFilters p q id ws w r ws′ w′ → NearFilterAnswers (now (p .words)) (now (q .words)) id ws w r ws′ w′
 view-near-filter l b p q id ws w r ws′ w′ a = record { κs = ([], ([], ([], ([], tt)))); p-at = place (p .words); q-at = place (q .words); w-at = l; b-at = b; promised = a }
+
+pub view-pairs : (p q : Sheet) (o : List ℕ) (ask : Wanted) (s : List Pair) (w : List ℕ) (r : Many) (s′ : List Pair) (w′ : List ℕ) → ViewMany p q o ask s w r s′ w′ → PairsAnswers (now (p .words)) (now (q .words)) o ask s w r s′ w′
+view-pairs p q o ask s w r s′ w′ a = a
+
+pub view-own-pairs : (d : Sheet) (key : Key) (big : ℕ) (g : Bool) (s : List Pair) (w : List ℕ) (r : Many) (s′ : List Pair) (w′ : List ℕ) → ViewOwnMany d key big g s w r s′ w′ → OwnPairsAnswers (now (d .words)) key big g s w r s′ w′
+view-own-pairs d key big g s w r s′ w′ a = a
+
+pub view-count : (l b : Place) (p q : Sheet) (o : List ℕ) (which : Which) (w : List ℕ) (r : Counted) (w′ : List ℕ) → ViewCounts p q o which w r w′ → CountAnswers (now (p .words)) (now (q .words)) o which w r w′
+view-count l b p q o which w r w′ a = record { κs = ([], ([], ([], ([], tt)))); p-at = place (p .words); q-at = place (q .words); o-at = l; b-at = b; promised = a }
+
+pub view-own-count : (b : Place) (d : Sheet) (big : ℕ) (g : Bool) (w : List ℕ) (r : Counted) (w′ : List ℕ) → ViewOwnCounts d big g w r w′ → OwnCountAnswers (now (d .words)) big g w r w′
+view-own-count b d big g w r w′ a = record { κs = ([], ([], tt)); w-at = place (d .words); b-at = b; promised = a }
 
 -- ---- for callers that hold no view
 

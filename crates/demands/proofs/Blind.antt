@@ -3,24 +3,49 @@
 --
 --     blind-page     the number and the page are the same, and so are the lent words at its exit
 --     blind-book     so a book that is in one state takes the two pages alike
+--     blind-pairs    the same of many pairs at once: the whole answer, the slots and the lent words at its exit.  blind-count: and of their number
 -- Assumes nothing.
-use mathlib.Core.Path.{_≡_, sym, ap, _∙_}
-use mathlib.Core.List.{List}
+use mathlib.Core.Path.{_≡_, sym, ap, ap₂, _∙_}
+use mathlib.Core.Bool.{Bool, false, _&&_, _||_}
+use mathlib.Core.List.{List, [], _∷_}
 use Prim.Native.Nat.{ℕ, _<_}
-use lib.IntN.{ℤ}
+use lib.IntN.{ℤ, pos}
+use lib.ListN.{length}
+use Rattle.words.specs.First.{given, first, answer}
+use Rattle.words.specs.Word.{eqZ}
+use Rattle.plane.specs.Point.{Point}
+use Rattle.sheet.specs.Layout.{points}
 use Rattle.sheet.specs.Places.{pointsOf}
 use Rattle.sheet.specs.Open.{sheetNo}
+use Rattle.sheet.proofs.SheetLaws.{sheet-facts}
+use Rattle.sheet.proofs.PointsLaws.{length-points}
+use Rattle.bits.specs.Set.{wordsFor}
 use Rattle.list.specs.declared.Pair.{Pair}
 use Rattle.list.specs.declared.Request.{Request}
+use Rattle.list.specs.declared.Terms.{Terms}
 use Rattle.list.specs.Contractor.{Renamed}
+use Rattle.list.specs.Pairs.{after}
+use Rattle.list.specs.Pages.{thresholdNo, contractorNo, ownersNo}
+use Rattle.list.proofs.BlindLaws.{same-owners}
+use Rattle.join.proofs.Meaning.{points-rise}
 use Rattle.ring.specs.declared.Paged.{Paged}
 use Rattle.ring.specs.Blind.{SameSeen}
+use Rattle.ring.specs.Lent.{need, bitsNo, wipedBy}
+use Rattle.ring.specs.Numbers.{gridNo}
+use Rattle.ring.specs.Page.{keyNo}
 use Rattle.ring.proofs.HeadLaws.{sheets-both}
 use Rattle.ring.proofs.BlindLaws as of-blind
 use Rattle.book.specs.declared.Book.{Book}
 use Rattle.book.specs.declared.Taken.{Taken}
 use Rattle.book.specs.Rules.{taken, takenSlots}
-use Rattle.demands.specs.Promises.{PageAnswers, TakeAnswers}
+use Rattle.chamber.specs.Sized.{listTo}
+use Rattle.many.specs.declared.Which.{Which}
+use Rattle.many.specs.declared.Wanted.{Wanted}
+use Rattle.many.specs.declared.Counted.{Counted}
+use Rattle.many.specs.declared.Many.{Many}
+use Rattle.many.specs.Many.{largestNo, wantedTerms, whichTerms, pairsNo, countNo, pairsList, manyGiven, manyRefused, stored, pairsAnswer, pairsSlots, pairsBits, countGiven, countRefused, countAnswer, countBits}
+use Rattle.demands.specs.Promises.{PageAnswers, TakeAnswers, PairsAnswers, CountAnswers}
+use Rattle.demands.proofs.SizedLaws.{sized-blind}
 
 -- Two runs: P, Q and the owner bytes o in the first, P′, Q′ and o′ in the second. All four sheets open. P holds the same points in both, Q those of `Renamed c`: each record has its place and its owner
 -- in both, and its id where it is contractor c's; its position may move. Each sheet has one edition and one form in both, and may be packed in any way in either.
@@ -40,3 +65,55 @@ module _ (c : ℕ) (one : c < 2) (P Q : List ℤ) (o : List ℕ) (P′ Q′ : Li
   blind-book ask is w r r′ t t′ a d b s x x′ s₁ s₁′ y z =
       let g = blind-page ask is w r r′ t t′ a d .1 in
       (y .0 ∙ ap (taken b s) g ∙ sym (z .0), y .1 ∙ ap (takenSlots b s) g ∙ sym (z .1))
+
+  -- ---- many pairs at once
+
+  -- the words that P needs are as many
+  need-same : need P ≡ need P′
+  need-same = ap wordsFor (sym (length-points P) ∙ ap length p-points ∙ length-points P′)
+
+  -- the bytes are refused in both runs or in neither, and so is the street grid
+  bytes-same : (d : ℕ) → d ≡ c → ownersNo d o (points Q) ≡ ownersNo d o′ (points Q′)
+  bytes-same d is =
+      ap₂ (λ (x n : ℕ). ownersNo x o n) is (sym (length-points Q)) ∙ same-owners c (pointsOf Q) o (pointsOf Q′) o′ renamed ∙ ap₂ (λ (x n : ℕ). ownersNo x o′ n) (sym is) (length-points Q′)
+
+  grid-same : (g : Bool) → gridNo g P Q ≡ gridNo g P′ Q′
+  unfolding gridNo
+  grid-same g = ap₂ (λ (x y : ℤ). given (g && (eqZ x (pos 2) || eqZ y (pos 2))) 29) (p-seen .forms) (q-seen .forms)
+
+  -- the contractor's list to a size is the same
+  sized-same : (big : ℕ) (a : Terms) → a .contractor ≡ c → listTo big a o (pointsOf P) (pointsOf Q) ≡ listTo big a o′ (pointsOf P′) (pointsOf Q′)
+  sized-same big a is =
+      sized-blind c (pointsOf Q) o (pointsOf Q′) o′ renamed one big a is (pointsOf P) (points-rise (sheet-facts P p-opens)) (points-rise (sheet-facts Q q-opens)) (points-rise (sheet-facts Q′ q-opens′))
+      ∙ ap (λ (x : List Point). listTo big a o′ x (pointsOf Q′)) p-points
+
+  -- The same of many pairs: any such request of contractor c, also one that is refused, and one whose key names a chamber of the other's, with as many slots and words lent, is answered alike, stores the same, and leaves
+  -- the same behind. The answer counts no nodes, so there is nothing in it that is not handed on.
+  pub blind-pairs : (ask : Wanted) → ask .contractor ≡ c → (slots : List Pair) (w : List ℕ) (r r′ : Many) (s s′ : List Pair) (t t′ : List ℕ) → PairsAnswers P Q o ask slots w r s t → PairsAnswers P′ Q′ o′ ask slots w r′ s′ t′
+      → (r ≡ r′) × (s ≡ s′) × (t ≡ t′)
+  unfolding pairsAnswer pairsSlots pairsBits pairsNo pairsList
+  blind-pairs ask is slots w r r′ s s′ t t′ a b =
+      let len = length w in
+      let p = p-opens ∙ sym p-opens′ in
+      let q = q-opens ∙ sym q-opens′ in
+      let nr : pairsNo P Q o ask len ≡ pairsNo P′ Q′ o′ ask len =
+      λ i. first (p i ∷ q i ∷ contractorNo false (ask .contractor) ∷ bytes-same (ask .contractor) is i ∷ grid-same (ask .grid) i ∷ keyNo (ask .key) ∷ thresholdNo (ask .threshold) ∷ largestNo (ask .largest) ∷ bitsNo (need-same i) len ∷ []) in
+      let l : pairsList P Q o ask ≡ pairsList P′ Q′ o′ ask = ap (after (ask .key)) (sized-same (ask .largest) (wantedTerms ask) is) in (
+        a .0 ∙ ap₂ (λ (k : ℕ) (x : List Pair). answer k (manyGiven (length slots) x) manyRefused) nr l ∙ sym (b .0),
+        a .1 ∙ ap₂ (λ (k : ℕ) (x : List Pair). answer k (stored slots x) (λ n. slots)) nr l ∙ sym (b .1),
+        a .2 ∙ ap₂ (λ (k n : ℕ). wipedBy k n w) nr need-same ∙ sym (b .2),
+      )
+
+  -- and so is their number
+  pub blind-count : (which : Which) → which .contractor ≡ c → (w : List ℕ) (r r′ : Counted) (t t′ : List ℕ) → CountAnswers P Q o which w r t → CountAnswers P′ Q′ o′ which w r′ t′ → (r ≡ r′) × (t ≡ t′)
+  unfolding countAnswer countBits countNo countGiven
+  blind-count which is w r r′ t t′ a b =
+      let len = length w in
+      let p = p-opens ∙ sym p-opens′ in
+      let q = q-opens ∙ sym q-opens′ in
+      let nr : countNo P Q o which len ≡ countNo P′ Q′ o′ which len =
+      λ i. first (p i ∷ q i ∷ contractorNo false (which .contractor) ∷ bytes-same (which .contractor) is i ∷ grid-same (which .grid) i ∷ thresholdNo (which .threshold) ∷ largestNo (which .largest) ∷ bitsNo (need-same i) len ∷ []) in
+      let l = sized-same (which .largest) (whichTerms which) is in (
+        a .promised .0 ∙ ap₂ (λ (k : ℕ) (x : List Pair). answer k (record { number = 0; count = length x }) countRefused) nr l ∙ sym (b .promised .0),
+        a .promised .1 ∙ ap₂ (λ (k n : ℕ). wipedBy k n w) nr need-same ∙ sym (b .promised .1),
+      )

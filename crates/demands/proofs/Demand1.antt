@@ -6,9 +6,10 @@
 -- answer with another number is that number and nothing else. None has a premise but that the call answered. The definitions of the numbers stand in the
 -- document's order: `sheetNo` of sheet/specs/Open, `packNo` of pack/specs/Pack, `pointNo`, `filterNo`, `ringNo` of ring/specs/Numbers, `pageNo` of
 -- ring/specs/Page, `ownNo` of ring/specs/Own, `partnersNo` of ring/specs/Partners, `shortNo` of shortest/specs/Answer, `beginNo`, `nextNo`, `takeNo` of
--- book/specs/Rules, `markNo` of marker/specs/Mark, `runNo` of runs/specs/Run, `nearestNo` and `nearFilterNo` of nearest/specs/Nearest.
+-- book/specs/Rules, `markNo` of marker/specs/Mark, `runNo` of runs/specs/Run, `nearestNo` and `nearFilterNo` of nearest/specs/Nearest, `pairsNo`, `ownPairsNo`,
+-- `countNo` and `ownCountNo` of many/specs/Many.
 -- For the calls through views and on arrays see proofs/Alike. What is lent as `&` cannot be written. What is lent as `&mut` is spoken of here: pack's words,
--- the slots of take and leaf_run, the numbers of nearest and near_filter, the words for kept sets of each call that filters. What an answer leaves there: Lent.
+-- the slots of take, leaf_run, pairs and own_pairs, the numbers of nearest and near_filter, the words for kept sets of each call that filters. What an answer leaves there: Lent.
 -- Assumes nothing. [N1, N2, D1]
 use mathlib.Core.Path.{_≡_, refl, sym, ap, subst, _∙_}
 use mathlib.Core.Bool.{Bool, true, false}
@@ -17,8 +18,8 @@ use Prim.Native.Nat.{ℕ, _≤_}
 use lib.IntN.{ℤ, pos}
 use lib.ListN.{length, take, drop, take-append-drop}
 use borrow.Author.Tests.{le-ltb}
-use Rattle.words.specs.First.{given, first}
-use Rattle.words.proofs.FirstLaws.{answer-refused}
+use Rattle.words.specs.First.{given, first, answer}
+use Rattle.words.proofs.FirstLaws.{answer-refused, answer-number}
 use denote.Ref.{RefT, now}
 use Rattle.words.specs.Word.{eqZ}
 use Rattle.words.proofs.Signs.{eqZ-eq}
@@ -31,9 +32,10 @@ use Rattle.list.specs.declared.Pair.{Pair}
 use Rattle.list.specs.declared.Request.{Request}
 use Rattle.list.specs.declared.Source.{Source}
 use Rattle.list.specs.declared.Page.{Page}
+use Rattle.list.specs.Terms.{aloneBy}
 use Rattle.ring.specs.Numbers.{pointNo, filterNo, ringNo}
 use Rattle.ring.specs.Answers.{pointedNo, unfiltered, walkedNo}
-use Rattle.ring.specs.Lent.{need}
+use Rattle.ring.specs.Lent.{need, wipedBy}
 use Rattle.ring.specs.Page.{pageNo, pageRefused, pageBits}
 use Rattle.ring.specs.Own.{ownNo, ownBits}
 use Rattle.ring.specs.Partners.{partnersNo, partnersRefused, partnersBits}
@@ -93,9 +95,14 @@ use Rattle.nearest.proofs.Meaning as of-nearest
 use Rattle.runs.specs.declared.Run.{Run}
 use Rattle.runs.specs.declared.RunArray.{RunArray}
 use Rattle.runs.specs.Run.{runNo, runRefused, runAnswer, runSlots}
+use Rattle.many.specs.declared.Which.{Which}
+use Rattle.many.specs.declared.Wanted.{Wanted}
+use Rattle.many.specs.declared.Counted.{Counted}
+use Rattle.many.specs.declared.Many.{Many}
+use Rattle.many.specs.Many.{pairsNo, ownPairsNo, countNo, ownCountNo, pairsList, ownList, manyGiven, manyRefused, stored, pairsAnswer, pairsSlots, pairsBits, ownPairsAnswer, ownPairsSlots, ownPairsBits, countGiven, countRefused, whichTerms, countAnswer, countBits, ownCountAnswer, ownCountBits}
 use Rattle.runs.proofs.Once as of-runs
 use Rattle.runs.proofs.Meaning as of-run
-use Rattle.demands.specs.Promises.{FormsAnswers, StoreAnswers, OpenAnswers, HeadAnswers, PointAnswers, FilterAnswers, RingAnswers, PageAnswers, ShortAnswers, PackAnswers, MarkAnswers, BeginAnswers, NextAnswers, TakeAnswers, TakeArrayAnswers, RunAnswers, RunArrayAnswers, ViewOpens, PartnersAnswers, NearestAnswers, NearFilterAnswers, OwnAnswers}
+use Rattle.demands.specs.Promises.{FormsAnswers, StoreAnswers, OpenAnswers, HeadAnswers, PointAnswers, FilterAnswers, RingAnswers, PageAnswers, ShortAnswers, PackAnswers, MarkAnswers, BeginAnswers, NextAnswers, TakeAnswers, TakeArrayAnswers, RunAnswers, RunArrayAnswers, ViewOpens, PartnersAnswers, NearestAnswers, NearFilterAnswers, OwnAnswers, PairsAnswers, OwnPairsAnswers, CountAnswers, OwnCountAnswers}
 use Rattle.demands.proofs.Alike.{take-array, take-array-slots, run-array, run-array-slots}
 
 -- the number k is one of refusal
@@ -240,6 +247,47 @@ near-filter-no P Q id ws w r t w′ a = (
   λ ne.
       (a .promised .0 ∙ of-nearest.near-filter-refused P Q id (length w) (length ws) _ refl ne, a .promised .1 ∙ of-nearest.waited-refused _ P ws ne, a .promised .2 ∙ of-nearest.near-filter-words-refused P Q id (length ws) w ne),
 )
+
+-- ---- many pairs, 1 to 8 for P, then for Q, then 27, then 26, then 29, then 9, then 21, then 40, then 24; of a self join 1 to 8, then 29, then 9, then 40, then 24; their number without 9:
+-- refused, the count is 0, nothing follows, and the lent slots and words are as they were
+
+-- what an answer by its number has and leaves: the number is that one; where it is one of refusal, it is all, and what was lent is as it was
+by-number : (nr len : ℕ) (l slots : List Pair) (n : ℕ) (w : List ℕ) (r : Many) (slots′ : List Pair) (w′ : List ℕ)
+    → (r ≡ answer nr (manyGiven len l) manyRefused) × (slots′ ≡ answer nr (stored slots l) (λ k. slots)) × (w′ ≡ wipedBy nr n w)
+    → (r .number ≡ nr) × (Refuses nr → (r ≡ manyRefused nr) × (slots′ ≡ slots) × (w′ ≡ w))
+unfolding manyGiven manyRefused
+by-number nr len l slots n w r slots′ w′ a = (
+  ap (λ (x : Many). x .number) (a .0) ∙ answer-number (manyGiven len l) manyRefused (λ (x : Many). x .number) refl (λ k. refl) nr,
+  λ ne. (a .0 ∙ answer-refused (manyGiven len l) manyRefused nr nr refl ne, a .1 ∙ answer-refused (stored slots l) (λ k. slots) nr nr refl ne, a .2 ∙ sym (wiped-refused w n nr nr refl ne)),
+)
+
+pub pairs-no : (P Q : List ℤ) (o : List ℕ) (ask : Wanted) (slots : List Pair) (w : List ℕ) (r : Many) (slots′ : List Pair) (w′ : List ℕ) → PairsAnswers P Q o ask slots w r slots′ w′
+    → (r .number ≡ pairsNo P Q o ask (length w)) × (Refuses (pairsNo P Q o ask (length w)) → (r ≡ manyRefused (pairsNo P Q o ask (length w))) × (slots′ ≡ slots) × (w′ ≡ w))
+unfolding pairsAnswer pairsSlots pairsBits
+pairs-no P Q o ask slots w r slots′ w′ a = by-number (pairsNo P Q o ask (length w)) (length slots) (pairsList P Q o ask) slots (need P) w r slots′ w′ a
+
+pub own-pairs-no : (S : List ℤ) (key : Key) (big : ℕ) (g : Bool) (slots : List Pair) (w : List ℕ) (r : Many) (slots′ : List Pair) (w′ : List ℕ) → OwnPairsAnswers S key big g slots w r slots′ w′
+    → (r .number ≡ ownPairsNo S key big g (length w)) × (Refuses (ownPairsNo S key big g (length w)) → (r ≡ manyRefused (ownPairsNo S key big g (length w))) × (slots′ ≡ slots) × (w′ ≡ w))
+unfolding ownPairsAnswer ownPairsSlots ownPairsBits
+own-pairs-no S key big g slots w r slots′ w′ a = by-number (ownPairsNo S key big g (length w)) (length slots) (ownList S key big g) slots (need S) w r slots′ w′ a
+
+count-by : (nr n : ℕ) (good : Counted) → good .number ≡ 0 → (w : List ℕ) (r : Counted) (w′ : List ℕ) → (r ≡ answer nr good countRefused) × (w′ ≡ wipedBy nr n w)
+    → (r .number ≡ nr) × (Refuses nr → (r ≡ countRefused nr) × (w′ ≡ w))
+unfolding countRefused
+count-by nr n good z w r w′ a = (
+  ap (λ (x : Counted). x .number) (a .0) ∙ answer-number good countRefused (λ (x : Counted). x .number) z (λ k. refl) nr,
+  λ ne. (a .0 ∙ answer-refused good countRefused nr nr refl ne, a .1 ∙ sym (wiped-refused w n nr nr refl ne)),
+)
+
+pub count-no : (P Q : List ℤ) (o : List ℕ) (which : Which) (w : List ℕ) (r : Counted) (w′ : List ℕ) → CountAnswers P Q o which w r w′
+    → (r .number ≡ countNo P Q o which (length w)) × (Refuses (countNo P Q o which (length w)) → (r ≡ countRefused (countNo P Q o which (length w))) × (w′ ≡ w))
+unfolding countAnswer countBits countGiven
+count-no P Q o which w r w′ a = count-by (countNo P Q o which (length w)) (need P) (countGiven (which .largest) (whichTerms which) o P Q) refl w r w′ (a .promised)
+
+pub own-count-no : (S : List ℤ) (big : ℕ) (g : Bool) (w : List ℕ) (r : Counted) (w′ : List ℕ) → OwnCountAnswers S big g w r w′
+    → (r .number ≡ ownCountNo S big g (length w)) × (Refuses (ownCountNo S big g (length w)) → (r ≡ countRefused (ownCountNo S big g (length w))) × (w′ ≡ w))
+unfolding ownCountAnswer ownCountBits countGiven
+own-count-no S big g w r w′ a = count-by (ownCountNo S big g (length w)) (need S) (countGiven big (aloneBy g) [] S S) refl w r w′ (a .promised)
 
 -- ---- begin, 3, then 21
 

@@ -37,10 +37,11 @@ use Rattle.shortest.specs.Answer.{shortBits}
 use Rattle.nearest.specs.Nearest.{standsAt, nearFilterNo, nearKeptFor}
 use Rattle.nearest.proofs.Meaning.{near-filter-words-given}
 use Rattle.runs.specs.Run.{runNeed, runBits}
+use Rattle.many.specs.Many.{pairsBits, ownPairsBits, countBits, ownCountBits}
 use Rattle.demands.specs.Promises.{FilterAnswers, NearFilterAnswers}
-use Rattle.demands.specs.Lent.{Filters, filters-walk, filters-near, Works, works-page, works-own, works-partners, works-short, works-run, works-array, Lends, lends-filter, lends-work}
+use Rattle.demands.specs.Lent.{Filters, filters-walk, filters-near, Works, works-page, works-own, works-partners, works-short, works-run, works-array, works-pairs, works-own-pairs, works-count, works-own-count, Lends, lends-filter, lends-work}
 use Rattle.demands.proofs.Alike.{run-array}
-use Rattle.demands.proofs.Demand1.{filter-no, near-filter-no, page-no, own-no, partners-no, short-no, run-no, run-array-no}
+use Rattle.demands.proofs.Demand1.{filter-no, near-filter-no, page-no, own-no, partners-no, short-no, run-no, run-array-no, pairs-no, own-pairs-no, count-no, own-count-no}
 
 -- ---- words that start with a set of n, and go on as others did
 
@@ -107,7 +108,7 @@ filter-refuses (filters-near P Q id ws w r ws′ w′ a) ne = let z = near-filte
 
 -- the words by its number
 works-by : {n k : ℕ} {w w′ : List ℕ} → Works n k w w′ → w′ ≡ wipedBy k n w
-unfolding pageBits ownBits partnersBits shortBits runBits
+unfolding pageBits ownBits partnersBits shortBits runBits pairsBits ownPairsBits countBits ownCountBits
 works-by (works-page P Q o ask w r w′ a) = a .promised .1 ∙ ap (λ (m : ℕ). wipedBy m (need P) w) (sym (page-no P Q o ask w r w′ a .0))
 works-by (works-own S key size g w r w′ a) = a .promised .1 ∙ ap (λ (m : ℕ). wipedBy m (need S) w) (sym (own-no S key size g w r w′ a .0))
 works-by (works-partners P Q id t w r w′ a) = a .promised .1 ∙ ap (λ (m : ℕ). wipedBy m (need P) w) (sym (partners-no P Q id t w r w′ a .0))
@@ -115,6 +116,10 @@ works-by (works-short P Q k w r w′ a) = a .promised .1 ∙ ap (λ (m : ℕ). w
 works-by (works-run P Q v slots w r slots′ w′ a) = a .2 ∙ ap (λ (m : ℕ). wipedBy m (runNeed P) w) (sym (run-no P Q v slots w r slots′ w′ a .0))
 works-by (works-array P Q v slots len w r w′ a) =
     run-array P Q v slots len w r w′ a .2 ∙ ap (λ (m : ℕ). wipedBy m (runNeed P) w) (sym (run-array-no P Q v slots len w r w′ a .0))
+works-by (works-pairs P Q o ask slots w r slots′ w′ a) = a .2 ∙ ap (λ (m : ℕ). wipedBy m (need P) w) (sym (pairs-no P Q o ask slots w r slots′ w′ a .0))
+works-by (works-own-pairs S key big g slots w r slots′ w′ a) = a .2 ∙ ap (λ (m : ℕ). wipedBy m (need S) w) (sym (own-pairs-no S key big g slots w r slots′ w′ a .0))
+works-by (works-count P Q o which w r w′ a) = a .promised .1 ∙ ap (λ (m : ℕ). wipedBy m (need P) w) (sym (count-no P Q o which w r w′ a .0))
+works-by (works-own-count S big g w r w′ a) = a .promised .1 ∙ ap (λ (m : ℕ). wipedBy m (need S) w) (sym (own-count-no S big g w r w′ a .0))
 
 zeros-left : {n k : ℕ} {w w′ : List ℕ} → Works n k w w′ → k ≡ 0 → w′ ≡ replicate n 0 ++ drop n w
 unfolding wiped

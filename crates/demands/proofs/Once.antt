@@ -41,6 +41,10 @@ use Rattle.shortest.specs.declared.Shortlist.{Shortlist}
 use Rattle.nearest.specs.declared.Found.{Found}
 use Rattle.runs.specs.declared.Run.{Run}
 use Rattle.runs.specs.declared.RunArray.{RunArray}
+use Rattle.many.specs.declared.Which.{Which}
+use Rattle.many.specs.declared.Wanted.{Wanted}
+use Rattle.many.specs.declared.Counted.{Counted}
+use Rattle.many.specs.declared.Many.{Many}
 use Rattle.ring.proofs.Once as of-ring
 use Rattle.ring.proofs.PageLaws as of-page
 use Rattle.ring.proofs.OwnLaws as of-own
@@ -54,7 +58,7 @@ use Rattle.depot.proofs.TakeLaws as of-depot
 use Rattle.pack.proofs.Once as of-pack
 use Rattle.marker.proofs.Once as of-marker
 use Rattle.runs.proofs.Once as of-runs
-use Rattle.demands.specs.Promises.{LengthAnswers, PlaceAnswers, FormsAnswers, DepotBegins, StoreAnswers, FormsArrayAnswers, StoreArrayAnswers, OpenAnswers, HeadAnswers, PointAnswers, FilterAnswers, RingAnswers, PageAnswers, ShortAnswers, PackAnswers, MarkAnswers, BeginAnswers, NextAnswers, TakeAnswers, NextArrayAnswers, TakeArrayAnswers, RunAnswers, RunArrayAnswers, ViewOpens, ViewPoints, ViewFilters, ViewRings, ViewPages, OpenHead, PointOpened, PartnersAnswers, ViewPartners, NearestAnswers, NearFilterAnswers, OwnAnswers, ViewOwnPages, ViewRuns, ViewShortest, ViewNearest, ViewNearFilters}
+use Rattle.demands.specs.Promises.{LengthAnswers, PlaceAnswers, FormsAnswers, DepotBegins, StoreAnswers, FormsArrayAnswers, StoreArrayAnswers, OpenAnswers, HeadAnswers, PointAnswers, FilterAnswers, RingAnswers, PageAnswers, ShortAnswers, PackAnswers, MarkAnswers, BeginAnswers, NextAnswers, TakeAnswers, NextArrayAnswers, TakeArrayAnswers, RunAnswers, RunArrayAnswers, ViewOpens, ViewPoints, ViewFilters, ViewRings, ViewPages, OpenHead, PointOpened, PartnersAnswers, ViewPartners, NearestAnswers, NearFilterAnswers, OwnAnswers, ViewOwnPages, ViewRuns, ViewShortest, ViewNearest, ViewNearFilters, PairsAnswers, OwnPairsAnswers, CountAnswers, OwnCountAnswers, ViewMany, ViewOwnMany, ViewCounts, ViewOwnCounts}
 
 -- ---- ring
 
@@ -157,6 +161,22 @@ run-once P Q v slots w r r′ t t′ u u′ x y = of-runs.run-call-once P Q v sl
 pub run-array-once : (P Q : List ℤ) (v : ℕ) (slots : List Pair) (len : ℕ) (w : List ℕ) (r r′ : RunArray) (u u′ : List ℕ) → RunArrayAnswers P Q v slots len w r u → RunArrayAnswers P Q v slots len w r′ u′ → (r ≡ r′) × (u ≡ u′)
 run-array-once P Q v slots len w r r′ u u′ x y = of-runs.run-array-call-once P Q v slots w len r r′ u u′ (x .promised) (y .promised)
 
+-- ---- many pairs: one answer, and one final state of the slots and of the lent words
+
+pub pairs-once : (P Q : List ℤ) (o : List ℕ) (ask : Wanted) (slots : List Pair) (w : List ℕ) (r r′ : Many) (t t′ : List Pair) (u u′ : List ℕ) → PairsAnswers P Q o ask slots w r t u → PairsAnswers P Q o ask slots w r′ t′ u′
+    → (r ≡ r′) × (t ≡ t′) × (u ≡ u′)
+pairs-once P Q o ask slots w r r′ t t′ u u′ x y = (x .0 ∙ sym (y .0), x .1 ∙ sym (y .1), x .2 ∙ sym (y .2))
+
+pub own-pairs-once : (S : List ℤ) (key : Key) (big : ℕ) (g : Bool) (slots : List Pair) (w : List ℕ) (r r′ : Many) (t t′ : List Pair) (u u′ : List ℕ) → OwnPairsAnswers S key big g slots w r t u → OwnPairsAnswers S key big g slots w r′ t′ u′
+    → (r ≡ r′) × (t ≡ t′) × (u ≡ u′)
+own-pairs-once S key big g slots w r r′ t t′ u u′ x y = (x .0 ∙ sym (y .0), x .1 ∙ sym (y .1), x .2 ∙ sym (y .2))
+
+pub count-once : (P Q : List ℤ) (o : List ℕ) (which : Which) (w : List ℕ) (r r′ : Counted) (t t′ : List ℕ) → CountAnswers P Q o which w r t → CountAnswers P Q o which w r′ t′ → (r ≡ r′) × (t ≡ t′)
+count-once P Q o which w r r′ t t′ a b = (a .promised .0 ∙ sym (b .promised .0), a .promised .1 ∙ sym (b .promised .1))
+
+pub own-count-once : (S : List ℤ) (big : ℕ) (g : Bool) (w : List ℕ) (r r′ : Counted) (t t′ : List ℕ) → OwnCountAnswers S big g w r t → OwnCountAnswers S big g w r′ t′ → (r ≡ r′) × (t ≡ t′)
+own-count-once S big g w r r′ t t′ a b = (a .promised .0 ∙ sym (b .promised .0), a .promised .1 ∙ sym (b .promised .1))
+
 -- ---- view
 
 pub view-open-once : (w : RefT (List ℤ)) (r r′ : Opened) → ViewOpens w r → ViewOpens w r′ → shown r ≡ shown r′
@@ -191,6 +211,20 @@ view-nearest-once p q id size w r r′ t t′ x y = of-view.nearest-through-once
 
 pub view-near-filter-once : (p q : Sheet) (id : ℕ) (ws w : List ℕ) (r r′ : Filtered) (t t′ u u′ : List ℕ) → ViewNearFilters p q id ws w r t u → ViewNearFilters p q id ws w r′ t′ u′ → (r ≡ r′) × (t ≡ t′) × (u ≡ u′)
 view-near-filter-once p q id ws w r r′ t t′ u u′ x y = of-view.near-filter-through-once p p q q id ws w r r′ t t′ u u′ refl refl x y
+
+pub view-pairs-once : (p q : Sheet) (o : List ℕ) (ask : Wanted) (slots : List Pair) (w : List ℕ) (r r′ : Many) (t t′ : List Pair) (u u′ : List ℕ) → ViewMany p q o ask slots w r t u → ViewMany p q o ask slots w r′ t′ u′
+    → (r ≡ r′) × (t ≡ t′) × (u ≡ u′)
+view-pairs-once p q o ask slots w r r′ t t′ u u′ x y = (x .0 ∙ sym (y .0), x .1 ∙ sym (y .1), x .2 ∙ sym (y .2))
+
+pub view-own-pairs-once : (d : Sheet) (key : Key) (big : ℕ) (g : Bool) (slots : List Pair) (w : List ℕ) (r r′ : Many) (t t′ : List Pair) (u u′ : List ℕ) → ViewOwnMany d key big g slots w r t u → ViewOwnMany d key big g slots w r′ t′ u′
+    → (r ≡ r′) × (t ≡ t′) × (u ≡ u′)
+view-own-pairs-once d key big g slots w r r′ t t′ u u′ x y = (x .0 ∙ sym (y .0), x .1 ∙ sym (y .1), x .2 ∙ sym (y .2))
+
+pub view-count-once : (p q : Sheet) (o : List ℕ) (which : Which) (w : List ℕ) (r r′ : Counted) (t t′ : List ℕ) → ViewCounts p q o which w r t → ViewCounts p q o which w r′ t′ → (r ≡ r′) × (t ≡ t′)
+view-count-once p q o which w r r′ t t′ x y = (x .0 ∙ sym (y .0), x .1 ∙ sym (y .1))
+
+pub view-own-count-once : (d : Sheet) (big : ℕ) (g : Bool) (w : List ℕ) (r r′ : Counted) (t t′ : List ℕ) → ViewOwnCounts d big g w r t → ViewOwnCounts d big g w r′ t′ → (r ≡ r′) × (t ≡ t′)
+view-own-count-once d big g w r r′ t t′ x y = (x .0 ∙ sym (y .0), x .1 ∙ sym (y .1))
 
 pub open-head-once : (w : List ℤ) (r r′ : Head) → OpenHead w r → OpenHead w r′ → r ≡ r′
 open-head-once w r r′ a b = of-ring.ring-head-once w r r′ (a .promised) (b .promised)

@@ -59,6 +59,10 @@ use Rattle.depot.proofs.TakeLaws as of-depot
 use Rattle.shortest.specs.declared.Shortlist.{Shortlist}
 use Rattle.nearest.specs.declared.Found.{Found}
 use Rattle.runs.specs.declared.Run.{Run}
+use Rattle.many.specs.declared.Which.{Which}
+use Rattle.many.specs.declared.Wanted.{Wanted}
+use Rattle.many.specs.declared.Counted.{Counted}
+use Rattle.many.specs.declared.Many.{Many}
 use Rattle.marker.specs.Mark.{markNo, numberOf}
 use Rattle.marker.specs.declared.Marked.{Marked}
 use Rattle.marker.specs.declared.Marked.the-variants as marking
@@ -84,6 +88,8 @@ use Rattle.ffi.proofs.ring_shortest.Reads as shortest-c
 use Rattle.ffi.proofs.ring_partners.Reads as partners-c
 use Rattle.ffi.proofs.ring_nearest.Reads as nearest-c
 use Rattle.ffi.proofs.ring_near_filter.Reads as near-filter-c
+use Rattle.ffi.proofs.ring_count.Reads as count-c
+use Rattle.ffi.proofs.ring_own_count.Reads as own-count-c
 use Rattle.ffi.proofs.ring_book_begin.Reads as begin-c
 use Rattle.ffi.proofs.ring_depot_begin.Reads as depot-begin-c
 use Rattle.ffi.proofs.ring_marker.Reads as mark-c
@@ -92,8 +98,10 @@ use Rattle.ffi.proofs.ring_book_take as take-c
 use Rattle.ffi.proofs.ring_forms as forms-c
 use Rattle.ffi.proofs.ring_depot_take as store-c
 use Rattle.ffi.proofs.ring_leaf_run as run-c
-use Rattle.demands.specs.Promises.{LengthAnswers, PlaceAnswers, FormsAnswers, DepotBegins, StoreAnswers, Place, slice, HeadAnswers, PointAnswers, FilterAnswers, RingAnswers, PageAnswers, ShortAnswers, PackAnswers, MarkAnswers, BeginAnswers, NextAnswers, TakeAnswers, RunAnswers, PartnersAnswers, NearestAnswers, NearFilterAnswers, OwnAnswers}
-use Rattle.demands.specs.OverC.{LengthC, PlaceC, DepotBeginC, StoreC, OpenC, PackC, PointC, FilterC, WalkC, PageC, ShortC, BeginC, MarkC, NextC, PartnersC, NearestC, NearFilterC, OwnC}
+use Rattle.ffi.proofs.ring_pairs as pairs-c
+use Rattle.ffi.proofs.ring_own_pairs as own-pairs-c
+use Rattle.demands.specs.Promises.{LengthAnswers, PlaceAnswers, FormsAnswers, DepotBegins, StoreAnswers, Place, slice, HeadAnswers, PointAnswers, FilterAnswers, RingAnswers, PageAnswers, ShortAnswers, PackAnswers, MarkAnswers, BeginAnswers, NextAnswers, TakeAnswers, RunAnswers, PartnersAnswers, NearestAnswers, NearFilterAnswers, OwnAnswers, PairsAnswers, OwnPairsAnswers, CountAnswers, OwnCountAnswers}
+use Rattle.demands.specs.OverC.{LengthC, PlaceC, DepotBeginC, StoreC, OpenC, PackC, PointC, FilterC, WalkC, PageC, ShortC, BeginC, MarkC, NextC, PartnersC, NearestC, NearFilterC, OwnC, CountC, OwnCountC}
 use Rattle.demands.proofs.Once as once
 
 -- ---- every input is taken
@@ -137,6 +145,12 @@ nearest-c-takes κs a = tt
 pub near-filter-c-takes : (κs : Lfts 4) (a : _) → near-filter-c.Asked κs a
 near-filter-c-takes κs a = tt
 
+pub count-c-takes : (κs : Lfts 4) (a : _) → count-c.Asked κs a
+count-c-takes κs a = tt
+
+pub own-count-c-takes : (κs : Lfts 2) (a : _) → own-count-c.Asked κs a
+own-count-c-takes κs a = tt
+
 pub begin-c-takes : (κs : Lfts 0) (a : _) → begin-c.Asked κs a
 begin-c-takes κs a = tt
 
@@ -163,6 +177,12 @@ module _ {M : Type 1} (𝓤 : URA M) (H : Heap 𝓤) (A : Atoms 𝓤) (mem : Mem
   pub run-c-takes : (κs : Lfts 4) (a : _) → run-c.clauses 𝓤 H A mem run κs a .requires tt ≡ emp 𝓤
   run-c-takes κs a = refl
 
+  pub pairs-c-takes : (κs : Lfts 5) (a : _) → pairs-c.clauses 𝓤 H A mem run κs a .requires tt ≡ emp 𝓤
+  pairs-c-takes κs a = refl
+
+  pub own-pairs-c-takes : (κs : Lfts 3) (a : _) → own-pairs-c.clauses 𝓤 H A mem run κs a .requires tt ≡ emp 𝓤
+  own-pairs-c-takes κs a = refl
+
   pub next-c-says : (κs : Lfts 1) (l : Place) (b : Book) (s : List Pair) (r : KeyAnswer)
       → next-c.ensures-1 𝓤 H κs A mem run b (slice l s) (record { entry = b; exit = b }) (record { entry = slice l s; exit = slice l s }) r ≡ fact 𝓤 (NextC b s r)
   next-c-says κs l b s r = refl
@@ -187,6 +207,16 @@ module _ {M : Type 1} (𝓤 : URA M) (H : Heap 𝓤) (A : Atoms 𝓤) (mem : Mem
       (record { entry = slice p-at P; exit = slice p-at P }) (record { entry = slice q-at Q; exit = slice q-at Q }) (record { entry = v; exit = v }) (record { entry = slice l s; exit = slice l s′ }) (record { entry = slice b-at w; exit = slice b-at w′ }) r
       ≡ fact 𝓤 (RunAnswers P Q v s w r s′ w′)
   run-c-says κs p-at q-at l b-at P Q v s w r s′ w′ = refl
+
+  pub pairs-c-says : (κs : Lfts 5) (p-at q-at o-at l b-at : Place) (P Q : List ℤ) (o : List ℕ) (ask : Wanted) (s : List Pair) (w : List ℕ) (r : Many) (s′ : List Pair) (w′ : List ℕ)
+      → pairs-c.ensures-1 𝓤 H κs A mem run (slice p-at P) (slice q-at Q) (slice o-at o) ask (slice l s) (slice b-at w) (record { entry = slice p-at P; exit = slice p-at P }) (record { entry = slice q-at Q; exit = slice q-at Q }) (record { entry = slice o-at o; exit = slice o-at o }) (record { entry = ask; exit = ask }) (record { entry = slice l s; exit = slice l s′ }) (record { entry = slice b-at w; exit = slice b-at w′ }) r
+      ≡ fact 𝓤 (PairsAnswers P Q o ask s w r s′ w′)
+  pairs-c-says κs p-at q-at o-at l b-at P Q o ask s w r s′ w′ = refl
+
+  pub own-pairs-c-says : (κs : Lfts 3) (w-at l b-at : Place) (S : List ℤ) (key : Key) (big : ℕ) (g : Bool) (s : List Pair) (w : List ℕ) (r : Many) (s′ : List Pair) (w′ : List ℕ)
+      → own-pairs-c.ensures-1 𝓤 H κs A mem run (slice w-at S) key big g (slice l s) (slice b-at w) (record { entry = slice w-at S; exit = slice w-at S }) (record { entry = key; exit = key }) (record { entry = big; exit = big }) (record { entry = g; exit = g }) (record { entry = slice l s; exit = slice l s′ }) (record { entry = slice b-at w; exit = slice b-at w′ }) r
+      ≡ fact 𝓤 (OwnPairsAnswers S key big g s w r s′ w′)
+  own-pairs-c-says κs w-at l b-at S key big g s w r s′ w′ = refl
 
 -- ---- what crosses is the answer of the call
 
@@ -235,6 +265,12 @@ nearest-over P Q id size ws r t a = record { κs = a .κs; p-at = a .p-at; q-at 
 
 pub near-filter-over : (P Q : List ℤ) (id : ℕ) (ws w : List ℕ) (r : Filtered) (t w′ : List ℕ) → NearFilterC P Q id ws w r t w′ → NearFilterAnswers P Q id ws w r t w′
 near-filter-over P Q id ws w r t w′ a = record { κs = a .κs; p-at = a .p-at; q-at = a .q-at; w-at = a .w-at; b-at = a .b-at; promised = a .promised }
+
+pub count-over : (P Q : List ℤ) (o : List ℕ) (which : Which) (w : List ℕ) (r : Counted) (w′ : List ℕ) → CountC P Q o which w r w′ → CountAnswers P Q o which w r w′
+count-over P Q o which w r w′ a = record { κs = a .κs; p-at = a .p-at; q-at = a .q-at; o-at = a .o-at; b-at = a .b-at; promised = a .promised }
+
+pub own-count-over : (S : List ℤ) (big : ℕ) (g : Bool) (w : List ℕ) (r : Counted) (w′ : List ℕ) → OwnCountC S big g w r w′ → OwnCountAnswers S big g w r w′
+own-count-over S big g w r w′ a = record { κs = a .κs; w-at = a .w-at; b-at = a .b-at; promised = a .promised }
 
 pub point-over : (w : List ℤ) (i : ℕ) (c : PointAnswer) (r : Pointed) → PointC w i c → PointAnswers w i r → c ≡ pointOver r
 point-over w i c r a b = a .promised ∙ ap pointOver (sym (b .promised))
@@ -328,7 +364,7 @@ store-c-no d slots f c slots′ a = ap (λ (x : StoreAnswer). x .number) (a .0) 
 pub mark-c-no : (ax ay bx by : ℤ) (c : MarkAnswer) → MarkC ax ay bx by c → c .number ≡ markNo ax ay bx by
 mark-c-no ax ay bx by c a = ap (λ (x : MarkAnswer). x .number) (a .promised) ∙ mark-number (markedAt ax ay bx by) ∙ marked-marks ax ay bx by .number
 
--- ---- one input, one answer, one final state. (`ring_book_take`, `ring_forms`, `ring_leaf_run`: `take-once`, `forms-once`, `run-once` of Once)
+-- ---- one input, one answer, one final state. (`ring_book_take`, `ring_forms`, `ring_leaf_run`, `ring_pairs`, `ring_own_pairs`: `take-once`, `forms-once`, `run-once`, `pairs-once`, `own-pairs-once` of Once)
 
 pub open-c-once : (w : List ℤ) (r r′ : HeadAnswer) → OpenC w r → OpenC w r′ → r ≡ r′
 open-c-once w r r′ a b = a .promised ∙ sym (b .promised)
@@ -370,6 +406,12 @@ nearest-c-once P Q id size ws r r′ t t′ a b = once.nearest-once P Q id size 
 pub near-filter-c-once : (P Q : List ℤ) (id : ℕ) (ws w : List ℕ) (r r′ : Filtered) (t t′ u u′ : List ℕ) → NearFilterC P Q id ws w r t u → NearFilterC P Q id ws w r′ t′ u′ → (r ≡ r′) × (t ≡ t′) × (u ≡ u′)
 near-filter-c-once P Q id ws w r r′ t t′ u u′ a b =
     once.near-filter-once P Q id ws w r r′ t t′ u u′ (near-filter-over P Q id ws w r t u a) (near-filter-over P Q id ws w r′ t′ u′ b)
+
+pub count-c-once : (P Q : List ℤ) (o : List ℕ) (which : Which) (w : List ℕ) (r r′ : Counted) (t t′ : List ℕ) → CountC P Q o which w r t → CountC P Q o which w r′ t′ → (r ≡ r′) × (t ≡ t′)
+count-c-once P Q o which w r r′ t t′ a b = once.count-once P Q o which w r r′ t t′ (count-over P Q o which w r t a) (count-over P Q o which w r′ t′ b)
+
+pub own-count-c-once : (S : List ℤ) (big : ℕ) (g : Bool) (w : List ℕ) (r r′ : Counted) (t t′ : List ℕ) → OwnCountC S big g w r t → OwnCountC S big g w r′ t′ → (r ≡ r′) × (t ≡ t′)
+own-count-c-once S big g w r r′ t t′ a b = once.own-count-once S big g w r r′ t t′ (own-count-over S big g w r t a) (own-count-over S big g w r′ t′ b)
 
 pub begin-c-once : (s : Source) (r r′ : BookAnswer) → BeginC s r → BeginC s r′ → r ≡ r′
 begin-c-once s r r′ a b = a .promised ∙ sym (b .promised)

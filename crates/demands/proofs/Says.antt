@@ -41,6 +41,12 @@ use Rattle.shortest.specs.declared.Shortlist.{Shortlist}
 use Rattle.nearest.specs.declared.Found.{Found}
 use Rattle.runs.specs.declared.Run.{Run}
 use Rattle.runs.proofs.leaf_run as leaf-run
+use Rattle.many.specs.declared.Which.{Which}
+use Rattle.many.specs.declared.Wanted.{Wanted}
+use Rattle.many.specs.declared.Counted.{Counted}
+use Rattle.many.specs.declared.Many.{Many}
+use Rattle.many.proofs.pairs.pairs as many-pairs
+use Rattle.many.proofs.pairs.own_pairs as many-own-pairs
 use Rattle.view.proofs.open as view-open
 use Rattle.view.proofs.point_at as view-point
 use Rattle.view.proofs.filter_walk_at as view-filter
@@ -52,7 +58,11 @@ use Rattle.view.proofs.leaf_run_at as view-run
 use Rattle.view.proofs.shortest_at as view-shortest
 use Rattle.view.proofs.nearest_at as view-nearest
 use Rattle.view.proofs.near_filter_at as view-near-filter
-use Rattle.demands.specs.Promises.{Place, slice, NextAnswers, TakeAnswers, FormsAnswers, StoreAnswers, RunAnswers, ViewOpens, ViewPoints, ViewFilters, ViewRings, ViewPages, ViewPartners, ViewOwnPages, ViewRuns, ViewShortest, ViewNearest, ViewNearFilters}
+use Rattle.view.proofs.pairs_at as view-pairs
+use Rattle.view.proofs.own_pairs_at as view-own-pairs
+use Rattle.view.proofs.count_at as view-count
+use Rattle.view.proofs.own_count_at as view-own-count
+use Rattle.demands.specs.Promises.{Place, slice, NextAnswers, TakeAnswers, FormsAnswers, StoreAnswers, RunAnswers, ViewOpens, ViewPoints, ViewFilters, ViewRings, ViewPages, ViewPartners, ViewOwnPages, ViewRuns, ViewShortest, ViewNearest, ViewNearFilters, PairsAnswers, OwnPairsAnswers, ViewMany, ViewOwnMany, ViewCounts, ViewOwnCounts}
 
 module _ {M : Type 1} (𝓤 : URA M) (H : Heap 𝓤) (A : Atoms 𝓤) (mem : Memory → SProp 𝓤) (run : Routine → Fun 𝓤) where
   pub next-key-says : (κs : Lfts 1) (l : Place) (b : Book) (s : List Pair) (r : Asked)
@@ -78,6 +88,16 @@ module _ {M : Type 1} (𝓤 : URA M) (H : Heap 𝓤) (A : Atoms 𝓤) (mem : Mem
       → leaf-run.ensures-1 𝓤 H κs A mem run (slice p-at P) (slice q-at Q) v (slice l s) (slice b-at w) (record { entry = slice p-at P; exit = slice p-at P }) (record { entry = slice q-at Q; exit = slice q-at Q }) (record { entry = v; exit = v }) (record { entry = slice l s; exit = slice l s′ }) (record { entry = slice b-at w; exit = slice b-at w′ }) r
       ≡ fact 𝓤 (RunAnswers P Q v s w r s′ w′)
   run-says κs p-at q-at l b-at P Q v s w r s′ w′ = refl
+
+  pub pairs-says : (κs : Lfts 5) (p-at q-at o-at l b-at : Place) (P Q : List ℤ) (o : List ℕ) (ask : Wanted) (s : List Pair) (w : List ℕ) (r : Many) (s′ : List Pair) (w′ : List ℕ)
+      → many-pairs.ensures-1 𝓤 H κs A mem run (slice p-at P) (slice q-at Q) (slice o-at o) ask (slice l s) (slice b-at w) (record { entry = slice p-at P; exit = slice p-at P }) (record { entry = slice q-at Q; exit = slice q-at Q }) (record { entry = slice o-at o; exit = slice o-at o }) (record { entry = ask; exit = ask }) (record { entry = slice l s; exit = slice l s′ }) (record { entry = slice b-at w; exit = slice b-at w′ }) r
+      ≡ fact 𝓤 (PairsAnswers P Q o ask s w r s′ w′)
+  pairs-says κs p-at q-at o-at l b-at P Q o ask s w r s′ w′ = refl
+
+  pub own-pairs-says : (κs : Lfts 3) (w-at l b-at : Place) (S : List ℤ) (key : Key) (big : ℕ) (g : Bool) (s : List Pair) (w : List ℕ) (r : Many) (s′ : List Pair) (w′ : List ℕ)
+      → many-own-pairs.ensures-1 𝓤 H κs A mem run (slice w-at S) key big g (slice l s) (slice b-at w) (record { entry = slice w-at S; exit = slice w-at S }) (record { entry = key; exit = key }) (record { entry = big; exit = big }) (record { entry = g; exit = g }) (record { entry = slice l s; exit = slice l s′ }) (record { entry = slice b-at w; exit = slice b-at w′ }) r
+      ≡ fact 𝓤 (OwnPairsAnswers S key big g s w r s′ w′)
+  own-pairs-says κs w-at l b-at S key big g s w r s′ w′ = refl
 
   pub view-open-says : (κs : Lfts 1) (w : RefT (List ℤ)) (r : Opened)
       → view-open.ensures-1 𝓤 H κs A mem run w (record { entry = w; exit = w }) r ≡ fact 𝓤 (ViewOpens w r)
@@ -131,3 +151,23 @@ module _ {M : Type 1} (𝓤 : URA M) (H : Heap 𝓤) (A : Atoms 𝓤) (mem : Mem
       → view-near-filter.ensures-1 𝓤 H κs A mem run p q id (slice l ws) (slice b w) (record { entry = p; exit = p }) (record { entry = q; exit = q }) (record { entry = id; exit = id }) (record { entry = slice l ws; exit = slice l ws′ }) (record { entry = slice b w; exit = slice b w′ }) r
       ≡ fact 𝓤 (ViewNearFilters p q id ws w r ws′ w′)
   view-near-filter-says κs l b p q id ws w r ws′ w′ = refl
+
+  pub view-pairs-says : (κs : Lfts 5) (o-at l b-at : Place) (p q : Sheet) (o : List ℕ) (ask : Wanted) (s : List Pair) (w : List ℕ) (r : Many) (s′ : List Pair) (w′ : List ℕ)
+      → view-pairs.ensures-1 𝓤 H κs A mem run p q (slice o-at o) ask (slice l s) (slice b-at w) (record { entry = p; exit = p }) (record { entry = q; exit = q }) (record { entry = slice o-at o; exit = slice o-at o }) (record { entry = ask; exit = ask }) (record { entry = slice l s; exit = slice l s′ }) (record { entry = slice b-at w; exit = slice b-at w′ }) r
+      ≡ fact 𝓤 (ViewMany p q o ask s w r s′ w′)
+  view-pairs-says κs o-at l b-at p q o ask s w r s′ w′ = refl
+
+  pub view-own-pairs-says : (κs : Lfts 3) (l b-at : Place) (d : Sheet) (key : Key) (big : ℕ) (g : Bool) (s : List Pair) (w : List ℕ) (r : Many) (s′ : List Pair) (w′ : List ℕ)
+      → view-own-pairs.ensures-1 𝓤 H κs A mem run d key big g (slice l s) (slice b-at w) (record { entry = d; exit = d }) (record { entry = key; exit = key }) (record { entry = big; exit = big }) (record { entry = g; exit = g }) (record { entry = slice l s; exit = slice l s′ }) (record { entry = slice b-at w; exit = slice b-at w′ }) r
+      ≡ fact 𝓤 (ViewOwnMany d key big g s w r s′ w′)
+  view-own-pairs-says κs l b-at d key big g s w r s′ w′ = refl
+
+  pub view-count-says : (κs : Lfts 4) (o-at b-at : Place) (p q : Sheet) (o : List ℕ) (which : Which) (w : List ℕ) (r : Counted) (w′ : List ℕ)
+      → view-count.ensures-1 𝓤 H κs A mem run p q (slice o-at o) which (slice b-at w) (record { entry = p; exit = p }) (record { entry = q; exit = q }) (record { entry = slice o-at o; exit = slice o-at o }) (record { entry = which; exit = which }) (record { entry = slice b-at w; exit = slice b-at w′ }) r
+      ≡ fact 𝓤 (ViewCounts p q o which w r w′)
+  view-count-says κs o-at b-at p q o which w r w′ = refl
+
+  pub view-own-count-says : (κs : Lfts 2) (b-at : Place) (d : Sheet) (big : ℕ) (g : Bool) (w : List ℕ) (r : Counted) (w′ : List ℕ)
+      → view-own-count.ensures-1 𝓤 H κs A mem run d big g (slice b-at w) (record { entry = d; exit = d }) (record { entry = big; exit = big }) (record { entry = g; exit = g }) (record { entry = slice b-at w; exit = slice b-at w′ }) r
+      ≡ fact 𝓤 (ViewOwnCounts d big g w r w′)
+  view-own-count-says κs b-at d big g w r w′ = refl

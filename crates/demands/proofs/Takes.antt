@@ -32,6 +32,8 @@ use Rattle.depot.proofs.Depot.begin.Reads as depot-begin
 use Rattle.depot.proofs.forms_array.Reads as forms-array
 use Rattle.depot.proofs.take_array.Reads as store-array
 use Rattle.runs.proofs.run_array.Reads as run-array
+use Rattle.many.proofs.count.count.Reads as count
+use Rattle.many.proofs.count.own_count.Reads as own-count
 use Rattle.view.proofs.open_head.Reads as open-head
 use Rattle.view.proofs.point_opened.Reads as point-opened
 use Rattle.book.proofs.Book.next_key as next-key
@@ -39,6 +41,8 @@ use Rattle.book.proofs.Book.take as take
 use Rattle.depot.proofs.forms as forms
 use Rattle.depot.proofs.Depot.take as store
 use Rattle.runs.proofs.leaf_run as leaf-run
+use Rattle.many.proofs.pairs.pairs as pairs
+use Rattle.many.proofs.pairs.own_pairs as own-pairs
 use Rattle.view.proofs.open as view-open
 use Rattle.view.proofs.point_at as view-point
 use Rattle.view.proofs.filter_walk_at as view-filter
@@ -50,6 +54,10 @@ use Rattle.view.proofs.leaf_run_at as view-run
 use Rattle.view.proofs.shortest_at as view-shortest
 use Rattle.view.proofs.nearest_at as view-nearest
 use Rattle.view.proofs.near_filter_at as view-near-filter
+use Rattle.view.proofs.pairs_at as view-pairs
+use Rattle.view.proofs.own_pairs_at as view-own-pairs
+use Rattle.view.proofs.count_at as view-count
+use Rattle.view.proofs.own_count_at as view-own-count
 
 pub open-no-takes : (κs : Lfts 1) (a : _) → open-no.Asked κs a
 open-no-takes κs a = tt
@@ -117,6 +125,12 @@ store-array-takes κs a = tt
 pub run-array-takes : (κs : Lfts 3) (a : _) → run-array.Asked κs a
 run-array-takes κs a = tt
 
+pub count-takes : (κs : Lfts 4) (a : _) → count.Asked κs a
+count-takes κs a = tt
+
+pub own-count-takes : (κs : Lfts 2) (a : _) → own-count.Asked κs a
+own-count-takes κs a = tt
+
 pub open-head-takes : (κs : Lfts 1) (a : _) → open-head.Asked κs a
 open-head-takes κs a = tt
 
@@ -138,6 +152,12 @@ module _ {M : Type 1} (𝓤 : URA M) (H : Heap 𝓤) (A : Atoms 𝓤) (mem : Mem
 
   pub leaf-run-takes : (κs : Lfts 4) (a : _) → leaf-run.clauses 𝓤 H A mem run κs a .requires tt ≡ emp 𝓤
   leaf-run-takes κs a = refl
+
+  pub pairs-takes : (κs : Lfts 5) (a : _) → pairs.clauses 𝓤 H A mem run κs a .requires tt ≡ emp 𝓤
+  pairs-takes κs a = refl
+
+  pub own-pairs-takes : (κs : Lfts 3) (a : _) → own-pairs.clauses 𝓤 H A mem run κs a .requires tt ≡ emp 𝓤
+  own-pairs-takes κs a = refl
 
   pub view-open-takes : (κs : Lfts 1) (a : _) → view-open.clauses 𝓤 H A mem run κs a .requires tt ≡ emp 𝓤
   view-open-takes κs a = refl
@@ -171,3 +191,15 @@ module _ {M : Type 1} (𝓤 : URA M) (H : Heap 𝓤) (A : Atoms 𝓤) (mem : Mem
 
   pub view-near-filter-takes : (κs : Lfts 4) (a : _) → view-near-filter.clauses 𝓤 H A mem run κs a .requires tt ≡ emp 𝓤
   view-near-filter-takes κs a = refl
+
+  pub view-pairs-takes : (κs : Lfts 5) (a : _) → view-pairs.clauses 𝓤 H A mem run κs a .requires tt ≡ emp 𝓤
+  view-pairs-takes κs a = refl
+
+  pub view-own-pairs-takes : (κs : Lfts 3) (a : _) → view-own-pairs.clauses 𝓤 H A mem run κs a .requires tt ≡ emp 𝓤
+  view-own-pairs-takes κs a = refl
+
+  pub view-count-takes : (κs : Lfts 4) (a : _) → view-count.clauses 𝓤 H A mem run κs a .requires tt ≡ emp 𝓤
+  view-count-takes κs a = refl
+
+  pub view-own-count-takes : (κs : Lfts 2) (a : _) → view-own-count.clauses 𝓤 H A mem run κs a .requires tt ≡ emp 𝓤
+  view-own-count-takes κs a = refl

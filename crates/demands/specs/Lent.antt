@@ -17,7 +17,11 @@ use Rattle.nearest.specs.Nearest.{nearKeptFor}
 use Rattle.runs.specs.declared.Run.{Run}
 use Rattle.runs.specs.declared.RunArray.{RunArray}
 use Rattle.runs.specs.Run.{runNeed}
-use Rattle.demands.specs.Promises.{FilterAnswers, PageAnswers, OwnAnswers, PartnersAnswers, ShortAnswers, NearFilterAnswers, RunAnswers, RunArrayAnswers}
+use Rattle.many.specs.declared.Which.{Which}
+use Rattle.many.specs.declared.Wanted.{Wanted}
+use Rattle.many.specs.declared.Counted.{Counted}
+use Rattle.many.specs.declared.Many.{Many}
+use Rattle.demands.specs.Promises.{FilterAnswers, PageAnswers, OwnAnswers, PartnersAnswers, ShortAnswers, NearFilterAnswers, RunAnswers, RunArrayAnswers, PairsAnswers, OwnPairsAnswers, CountAnswers, OwnCountAnswers}
 
 -- An answer of a filter walk over P: the set that it keeps, by its definition, the number of the answer, the words lent and those at its exit.
 pub data Filters : List ℤ → List ℕ → ℕ → List ℕ → List ℕ → Type 0 where
@@ -32,6 +36,10 @@ pub data Works : ℕ → ℕ → List ℕ → List ℕ → Type 0 where
   works-short : (P Q : List ℤ) (k : ℕ) (w : List ℕ) (r : Shortlist) (w′ : List ℕ) → ShortAnswers P Q k w r w′ → Works (need P) (r .number) w w′
   works-run : (P Q : List ℤ) (v : ℕ) (slots : List Pair) (w : List ℕ) (r : Run) (slots′ : List Pair) (w′ : List ℕ) → RunAnswers P Q v slots w r slots′ w′ → Works (runNeed P) (r .number) w w′
   works-array : (P Q : List ℤ) (v : ℕ) (slots : List Pair) (len : ℕ) (w : List ℕ) (r : RunArray) (w′ : List ℕ) → RunArrayAnswers P Q v slots len w r w′ → Works (runNeed P) (r .run .number) w w′
+  works-pairs : (P Q : List ℤ) (o : List ℕ) (ask : Wanted) (slots : List Pair) (w : List ℕ) (r : Many) (slots′ : List Pair) (w′ : List ℕ) → PairsAnswers P Q o ask slots w r slots′ w′ → Works (need P) (r .number) w w′
+  works-own-pairs : (S : List ℤ) (key : Key) (big : ℕ) (g : Bool) (slots : List Pair) (w : List ℕ) (r : Many) (slots′ : List Pair) (w′ : List ℕ) → OwnPairsAnswers S key big g slots w r slots′ w′ → Works (need S) (r .number) w w′
+  works-count : (P Q : List ℤ) (o : List ℕ) (which : Which) (w : List ℕ) (r : Counted) (w′ : List ℕ) → CountAnswers P Q o which w r w′ → Works (need P) (r .number) w w′
+  works-own-count : (S : List ℤ) (big : ℕ) (g : Bool) (w : List ℕ) (r : Counted) (w′ : List ℕ) → OwnCountAnswers S big g w r w′ → Works (need S) (r .number) w w′
 
 -- Any of these: how many words it needs, the number of the answer, the words lent and those at its exit.
 pub data Lends : ℕ → ℕ → List ℕ → List ℕ → Type 0 where

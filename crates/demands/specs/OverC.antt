@@ -16,6 +16,8 @@ use Rattle.shortest.specs.declared.Shortlist.{Shortlist}
 use Rattle.ring.specs.declared.Partnered.{Partnered}
 use Rattle.ring.specs.declared.Placed.{Placed}
 use Rattle.nearest.specs.declared.Found.{Found}
+use Rattle.many.specs.declared.Which.{Which}
+use Rattle.many.specs.declared.Counted.{Counted}
 use Rattle.book.specs.declared.Book.{Book}
 use Rattle.book.specs.Rules.{asked}
 use Rattle.depot.specs.declared.Form.{Form}
@@ -42,6 +44,8 @@ use Rattle.ffi.proofs.ring_shortest.Reads as shortest-c
 use Rattle.ffi.proofs.ring_partners.Reads as partners-c
 use Rattle.ffi.proofs.ring_nearest.Reads as nearest-c
 use Rattle.ffi.proofs.ring_near_filter.Reads as near-filter-c
+use Rattle.ffi.proofs.ring_count.Reads as count-c
+use Rattle.ffi.proofs.ring_own_count.Reads as own-count-c
 use Rattle.ffi.proofs.ring_book_begin.Reads as begin-c
 use Rattle.ffi.proofs.ring_depot_begin.Reads as depot-begin-c
 use Rattle.ffi.proofs.ring_marker.Reads as mark-c
@@ -156,6 +160,25 @@ pub record NearFilterC (P Q : List ℤ) (id : ℕ) (waiting bits : List ℕ) (r 
       r
       (slice p-at P, (slice q-at Q, (id, (slice w-at waiting′, (slice b-at bits′, tt)))))
 
+-- `ring_count(P, Q, o, which, bits)` answers r, and the lent words are `bits′` at its exit [C1, D8]
+pub record CountC (P Q : List ℤ) (o : List ℕ) (which : Which) (bits : List ℕ) (r : Counted) (bits′ : List ℕ) : Type 0 where
+  pub κs : Lfts 4
+  pub p-at : Place
+  pub q-at : Place
+  pub o-at : Place
+  pub b-at : Place
+  pub promised : count-c.Post κs
+      (slice p-at P, (slice q-at Q, (slice o-at o, (which, (slice b-at bits, tt)))))
+      r
+      (slice p-at P, (slice q-at Q, (slice o-at o, (which, (slice b-at bits′, tt)))))
+
+-- `ring_own_count(S, big, grid, bits)` answers r, and the lent words are `bits′` at its exit [C1, D8]
+pub record OwnCountC (S : List ℤ) (big : ℕ) (g : Bool) (bits : List ℕ) (r : Counted) (bits′ : List ℕ) : Type 0 where
+  pub κs : Lfts 2
+  pub w-at : Place
+  pub b-at : Place
+  pub promised : own-count-c.Post κs (slice w-at S, (big, (g, (slice b-at bits, tt)))) r (slice w-at S, (big, (g, (slice b-at bits′, tt))))
+
 -- `ring_book_begin(source)` answers r [C1, D8]
 pub record BeginC (source : Source) (r : BookAnswer) : Type 0 where
   pub promised : begin-c.Post tt (source, tt) r (source, tt)
@@ -172,7 +195,7 @@ pub record DepotBeginC (d : Depot) : Type 0 where
 abbrev pub StoreC : Depot → List Form → Form → StoreAnswer → List Form → Type 0
 StoreC d slots form r slots′ = (r ≡ storeOver (stored d slots form)) × (slots′ ≡ storedSlots d slots form)
 
--- `ring_book_next_key(b, slots)` answers r. `ring_book_take` promises what `Book::take` does, `ring_leaf_run` what `runs::leaf_run` does: `TakeAnswers` and `RunAnswers` of specs/Promises
--- [C1, D8]
+-- `ring_book_next_key(b, slots)` answers r. `ring_book_take` promises what `Book::take` does, `ring_leaf_run` what `runs::leaf_run` does, `ring_pairs` and `ring_own_pairs` what `many::pairs` and
+-- `many::own_pairs` do: `TakeAnswers`, `RunAnswers`, `PairsAnswers` and `OwnPairsAnswers` of specs/Promises [C1, D8]
 abbrev pub NextC : Book → List Pair → KeyAnswer → Type 0
 NextC b slots r = r ≡ keyOver (asked b slots)

@@ -3,7 +3,7 @@
 --
 -- `Post` of a call is its `ensures`, read as a plain claim: of the lifetimes κs of what is lent, the arguments, the answer, and the arguments at exit.
 -- Words and slots that are lent are lists that stand at some place of memory, and no promise depends on the place.
--- The calls over slices of records (`Book::next_key`, `Book::take`, `depot::forms`, `Depot::take`, `runs::leaf_run`) and over views (`view::open` and its readers) have no such reading.
+-- The calls over slices of records (`Book::next_key`, `Book::take`, `depot::forms`, `Depot::take`, `runs::leaf_run`, `many::pairs`, `many::own_pairs`) and over views (`view::open` and its readers) have no such reading.
 -- Theirs is stated here, and proofs/Says shows that it is their `ensures`, word for word.
 use mathlib.Core.Path.{_≡_}
 use mathlib.Core.Bool.{Bool, true, false}
@@ -57,6 +57,11 @@ use Rattle.nearest.specs.Nearest.{nearestNo, nearestAnswer, nearFilterNo, nearF
 use Rattle.runs.specs.declared.Run.{Run}
 use Rattle.runs.specs.declared.RunArray.{RunArray}
 use Rattle.runs.specs.Run.{runAnswer, runSlots, runBits}
+use Rattle.many.specs.declared.Which.{Which}
+use Rattle.many.specs.declared.Wanted.{Wanted}
+use Rattle.many.specs.declared.Counted.{Counted}
+use Rattle.many.specs.declared.Many.{Many}
+use Rattle.many.specs.Many.{pairsAnswer, pairsSlots, pairsBits, ownPairsAnswer, ownPairsSlots, ownPairsBits, countAnswer, countBits, ownCountAnswer, ownCountBits}
 use Rattle.ring.proofs.open.open_no.Reads as open-no
 use Rattle.ring.proofs.open.head_of.Reads as head-of
 use Rattle.ring.proofs.point.point.Reads as point
@@ -79,6 +84,8 @@ use Rattle.depot.proofs.Depot.begin.Reads as depot-begin
 use Rattle.depot.proofs.forms_array.Reads as forms-array
 use Rattle.depot.proofs.take_array.Reads as store-array
 use Rattle.runs.proofs.run_array.Reads as run-array
+use Rattle.many.proofs.count.count.Reads as count
+use Rattle.many.proofs.count.own_count.Reads as own-count
 use Rattle.view.proofs.open_head.Reads as open-head
 use Rattle.view.proofs.point_opened.Reads as point-opened
 
@@ -292,6 +299,61 @@ pub record RunArrayAnswers (P Q : List ℤ) (leaf : ℕ) (slots : List Pair) (le
       r
       (slice p-at P, (slice q-at Q, (leaf, (slots, (len, (slice b-at bits′, tt))))))
 
+-- ---- many pairs at once
+
+-- `many::pairs::pairs(P, Q, o, ask, slots, bits)` answers r, and at its exit the slots are `slots′`, the lent words `bits′` [D8]
+abbrev pub PairsAnswers : List ℤ → List ℤ → List ℕ → Wanted → List Pair → List ℕ → Many → List Pair → List ℕ → Type 0
+PairsAnswers P Q o ask slots bits r slots′ bits′ =
+    (r ≡ pairsAnswer P Q o ask (length slots) (length bits)) × (slots′ ≡ pairsSlots P Q o ask slots (length bits)) × (bits′ ≡ pairsBits P Q o ask bits)
+
+-- `many::pairs::own_pairs(S, key, big, grid, slots, bits)` answers r, and at its exit the slots are `slots′`, the lent words `bits′` [D8]
+abbrev pub OwnPairsAnswers : List ℤ → Key → ℕ → Bool → List Pair → List ℕ → Many → List Pair → List ℕ → Type 0
+OwnPairsAnswers S key big g slots bits r slots′ bits′ =
+    (r ≡ ownPairsAnswer S key big g (length slots) (length bits)) × (slots′ ≡ ownPairsSlots S key big g slots (length bits)) × (bits′ ≡ ownPairsBits S key big g bits)
+
+-- `many::count::count(P, Q, o, which, bits)` answers r, and the lent words are `bits′` at its exit [D8]
+pub record CountAnswers (P Q : List ℤ) (o : List ℕ) (which : Which) (bits : List ℕ) (r : Counted) (bits′ : List ℕ) : Type 0 where
+  pub κs : Lfts 4
+  pub p-at : Place
+  pub q-at : Place
+  pub o-at : Place
+  pub b-at : Place
+  pub promised : count.Post κs
+      (slice p-at P, (slice q-at Q, (slice o-at o, (which, (slice b-at bits, tt)))))
+      r
+      (slice p-at P, (slice q-at Q, (slice o-at o, (which, (slice b-at bits′, tt)))))
+
+-- `many::count::own_count(S, big, grid, bits)` answers r, and the lent words are `bits′` at its exit [D8]
+pub record OwnCountAnswers (S : List ℤ) (big : ℕ) (g : Bool) (bits : List ℕ) (r : Counted) (bits′ : List ℕ) : Type 0 where
+  pub κs : Lfts 2
+  pub w-at : Place
+  pub b-at : Place
+  pub promised : own-count.Post κs (slice w-at S, (big, (g, (slice b-at bits, tt)))) r (slice w-at S, (big, (g, (slice b-at bits′, tt))))
+
+-- what is asked of the list of these terms, of two sheets: the pairs after a key, to a size; and how many there are
+abbrev pub wantedOf : Terms → Key → ℕ → Wanted
+wantedOf a key big = record { key = key; largest = big; threshold = a .threshold; contractor = a .contractor; grid = a .grid }
+
+abbrev pub whichOf : Terms → ℕ → Which
+whichOf a big = record { largest = big; threshold = a .threshold; contractor = a .contractor; grid = a .grid }
+
+-- An answer of the call for many pairs of these terms, as `TermsAnswers` of the page request: of two sheets, or of a self join, which is of the one sheet in both places, has no t, and is undivided,
+-- with no bytes.
+abbrev pub ManyOfKind : Bool → Terms → List ℕ → List ℤ → List ℤ → Key → ℕ → List Pair → List ℕ → Many → List Pair → List ℕ → Type 0
+ManyOfKind false a o P Q key big slots bits r slots′ bits′ = PairsAnswers P Q o (wantedOf a key big) slots bits r slots′ bits′
+ManyOfKind true a o P Q key big slots bits r slots′ bits′ = (P ≡ Q) × (a .threshold ≡ 0) × (a .contractor ≡ 2) × (o ≡ []) × OwnPairsAnswers P key big (a .grid) slots bits r slots′ bits′
+
+abbrev pub ManyAnswers : Terms → List ℕ → List ℤ → List ℤ → Key → ℕ → List Pair → List ℕ → Many → List Pair → List ℕ → Type 0
+ManyAnswers a o P Q key big slots bits r slots′ bits′ = ManyOfKind (a .own) a o P Q key big slots bits r slots′ bits′
+
+-- and one of the call for their number
+abbrev pub CountOfKind : Bool → Terms → List ℕ → List ℤ → List ℤ → ℕ → List ℕ → Counted → List ℕ → Type 0
+CountOfKind false a o P Q big bits r bits′ = CountAnswers P Q o (whichOf a big) bits r bits′
+CountOfKind true a o P Q big bits r bits′ = (P ≡ Q) × (a .threshold ≡ 0) × (a .contractor ≡ 2) × (o ≡ []) × OwnCountAnswers P big (a .grid) bits r bits′
+
+abbrev pub NumberAnswers : Terms → List ℕ → List ℤ → List ℤ → ℕ → List ℕ → Counted → List ℕ → Type 0
+NumberAnswers a o P Q big bits r bits′ = CountOfKind (a .own) a o P Q big bits r bits′
+
 -- ---- views
 
 -- `view::open(w)` answers r [S26, D8]
@@ -343,6 +405,22 @@ ViewNearFilters p q id waiting bits r waiting′ bits′ =
     (r ≡ nearFiltered (now (p .words)) (now (q .words)) id (length bits) (length waiting))
     × (waiting′ ≡ waitedBy (nearFilterNo (now (p .words)) (now (q .words)) id (length bits) (length waiting)) (now (p .words)) waiting)
     × (bits′ ≡ nearFilteredBits (now (p .words)) (now (q .words)) id (length waiting) bits)
+
+-- `view::pairs_at(p, q, o, ask, slots, bits)` answers r, and at its exit the slots are `slots′`, the lent words `bits′`
+abbrev pub ViewMany : Sheet → Sheet → List ℕ → Wanted → List Pair → List ℕ → Many → List Pair → List ℕ → Type 0
+ViewMany p q o ask slots bits r slots′ bits′ = PairsAnswers (now (p .words)) (now (q .words)) o ask slots bits r slots′ bits′
+
+-- `view::own_pairs_at(d, key, big, grid, slots, bits)` answers r, and at its exit the slots are `slots′`, the lent words `bits′`
+abbrev pub ViewOwnMany : Sheet → Key → ℕ → Bool → List Pair → List ℕ → Many → List Pair → List ℕ → Type 0
+ViewOwnMany d key big g slots bits r slots′ bits′ = OwnPairsAnswers (now (d .words)) key big g slots bits r slots′ bits′
+
+-- `view::count_at(p, q, o, which, bits)` answers r, and the lent words are `bits′` at its exit
+abbrev pub ViewCounts : Sheet → Sheet → List ℕ → Which → List ℕ → Counted → List ℕ → Type 0
+ViewCounts p q o which bits r bits′ = (r ≡ countAnswer (now (p .words)) (now (q .words)) o which (length bits)) × (bits′ ≡ countBits (now (p .words)) (now (q .words)) o which bits)
+
+-- `view::own_count_at(d, big, grid, bits)` answers r, and the lent words are `bits′` at its exit
+abbrev pub ViewOwnCounts : Sheet → ℕ → Bool → List ℕ → Counted → List ℕ → Type 0
+ViewOwnCounts d big g bits r bits′ = (r ≡ ownCountAnswer (now (d .words)) big g (length bits)) × (bits′ ≡ ownCountBits (now (d .words)) big g bits)
 
 -- `view::open_head(w)` answers h
 pub record OpenHead (w : List ℤ) (h : Head) : Type 0 where
