@@ -5,7 +5,8 @@
     tests/door/browser.py PAGE.html --zoom
 
 The first takes a picture of a planner's page, a chamber searched for by its id and the first row clicked that begins with a text. The second turns the wheel from the
-whole town to its middle, step by step and back, and says how long a step takes: from the wheel's event until the picture is drawn and read back.
+whole town to its middle, step by step and back, and says how long a step takes: from the wheel's event until the picture is drawn and read back, by the clock and of
+the processor.
 """
 import base64
 import contextlib
@@ -45,6 +46,7 @@ class Browser:
         self.session = self.call("Target.attachToTarget", targetId=target["targetId"], flatten=True)["sessionId"]
         for name in ("Page", "Runtime", "Log", "Network"):
             self.call(name + ".enable")
+        self.call("Performance.enable", timeDomain="threadTicks")
 
     def __enter__(self):
         return self
@@ -137,10 +139,17 @@ class Browser:
             self.mouse("mouseWheel", x, y, deltaX=0, deltaY=-100 if turns > 0 else 100)
         self.settled()
 
+    def spent(self):
+        """The milliseconds of a processor that the page's own thread has had."""
+        return next(1000 * one["value"] for one in self.call("Performance.getMetrics")["metrics"] if one["name"] == "TaskDuration")
+
     def step(self, x, y, turn):
-        """The milliseconds of a step of the wheel: from its event to the end of the frame that draws it, read back, so that it is done."""
-        return self.run("new Promise(done => { const at = performance.now(); canvas.dispatchEvent(new WheelEvent('wheel', {deltaY: %d, clientX: %d, clientY: %d, cancelable: true})); "
+        """The milliseconds of a step of the wheel, from its event to the end of the frame that draws it, read back, so that it is done; and those of the processor,
+        which other work on the machine does not count to."""
+        before = self.spent()
+        took = self.run("new Promise(done => { const at = performance.now(); canvas.dispatchEvent(new WheelEvent('wheel', {deltaY: %d, clientX: %d, clientY: %d, cancelable: true})); "
                         "requestAnimationFrame(() => { pen.getImageData(0, 0, 1, 1); done(performance.now() - at); }); })" % (-100 if turn > 0 else 100, x, y))
+        return took, self.spent() - before
 
     def pinch(self, a, b, to_a, to_b):
         """Two fingers put down, moved and lifted."""
@@ -176,9 +185,10 @@ def zoomed(page, steps=26, turns=3):
         begun = time.monotonic()
         one.load(os.path.abspath(page))
         loaded = 1000 * (time.monotonic() - begun)
-        took = sorted(one.step(535, 378, turn) for _ in range(turns) for turn in [1] * steps + [-1] * steps)
-        print("%s: %s; loaded in %.0f ms, first drawn in %.0f ms; %d zoom steps: the middle one %.0f ms, one in twenty over %.0f ms, the slowest %.0f ms" % (
-            os.path.basename(page), one.text("about").split(".")[0], loaded, one.run("stats.first"), len(took), took[len(took) // 2], took[len(took) * 19 // 20], took[-1]))
+        steps = [one.step(535, 378, turn) for _ in range(turns) for turn in [1] * steps + [-1] * steps]
+        print("%s: %s; opened in %.0f ms, first drawn in %.0f ms; %d zoom steps" % (os.path.basename(page), one.text("about").split(".")[0], loaded, one.run("stats.first"), len(steps)))
+        for what, took in zip(("by the clock", "of the processor"), map(sorted, zip(*steps))):
+            print("%s: the middle one %.0f ms, one in twenty over %.0f ms, the slowest %.0f ms" % (what, took[len(took) // 2], took[len(took) * 19 // 20], took[-1]))
 
 
 def main(words):

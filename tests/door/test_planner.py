@@ -351,7 +351,7 @@ class Town(Used, Commands):
 
 class Province(Used):
     def test_a_zoom_step_of_two_sheets_of_60000(self):
-        """A lattice of 60,000 and 60,000 records that are shaken a little, and 125,000 lines between neighbours: what is measured is the drawing alone."""
+        """A lattice of 60,000 and 60,000 records that are shaken a little, and 125,000 lines between neighbours: a step of the wheel until it is drawn."""
         lots, side = chance.Chance(5), 245
         sets = [[records.Point(k + 1, 8_000_000 * (k % side) + lots.randint(-3_000_000, 3_000_000), 8_000_000 * (k // side) + lots.randint(-3_000_000, 3_000_000)) for k in range(60_000)]
                 for _ in range(2)]
@@ -362,11 +362,10 @@ class Province(Used):
         self.assertGreater(self.inks("#b3401e"), 5000)
         ways = set()
         for _ in range(26):
-            self.page.wheel(500, 380, 1)
-            # drawn, and read back, so that it is done; the best of three, as other work may be under way here
-            took = self.page.run("Math.min(...[1, 2, 3].map(() => { const t = performance.now(); draw(); pen.getImageData(0, 0, 1, 1); return performance.now() - t; }))")
+            # of the processor, and the better of two: other work may be under way here
+            first, _, second = (self.page.step(500, 380, turn)[1] for turn in (1, -1, 1))
             ways.add(self.page.run("stats.way"))
-            self.assertLess(took, 100)
+            self.assertLess(min(first, second), 100)
         self.assertEqual(ways, {"dots", "lines"})
         self.page.run("byId('search').focus()")
         self.page.type("30000")
