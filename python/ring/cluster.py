@@ -3,6 +3,7 @@
 A task's pairs are those of the list, done twice they are the same: so the scheduler may repeat a task whose worker is gone, and hand it to another. Here the
 answers are put in list order, each once, and their number is held to `count`. Nothing else of the package needs `distributed`.
 """
+import bisect
 import contextlib
 import hashlib
 import importlib.util
@@ -36,6 +37,8 @@ RETRIES = 3
 PATIENCE = 10
 # tasks for each worker, where nobody says how long a task is: enough that the last of them ends soon after the others
 TASKS = 4
+# pairs that a chamber has on average where records stand at random, half of them pump houses; and the fewest that are asked for
+EACH, FEW = 2, 16
 ONE = struct.Struct("<IIQ")
 # set where the command runs again under another Python
 AGAIN = "RING_CLUSTER_AGAIN"
@@ -148,14 +151,35 @@ def opened(name):
     return (CALLS[thread], *OPENED[name, thread])
 
 
+def following(ring, p, q, key, slots, terms):
+    """The pairs after a key, some so many, and whether more follow. The one place that asks for many pairs: by pages, until a call gives them at once."""
+    pairs = []
+    for page in ring.pages(p, q, key=key, **terms):
+        pairs += page.pairs
+        if page.end or len(pairs) >= slots:
+            return pairs, not page.end
+
+
 def ranged(ring, p, q, a, b, terms):
-    """The pairs of the chambers at the positions from a on, up to b, in list order. The one place that asks for a range."""
-    key = START if a == 0 else Key(q.points[a].id - 1, sheets.ID)
-    last = q.points[b - 1].id if b else 0
-    for pair in ring.pairs(p, q, key=key, **terms):
-        if pair.q > last:
+    """The pairs of the chambers at the positions from a on, up to b, in list order."""
+    ids = [point.id for point in q.points]
+    key, last = START if a == 0 else Key(ids[a] - 1, sheets.ID), ids[b - 1] if b else 0
+    if terms.get("threshold"):
+        # few chambers may have so many pairs: those after the range are not looked at
+        terms = kept_by(q, terms, lambda at: a <= at < b)
+    contractor = terms.get("contractor", UNDIVIDED)
+    while True:
+        # as many as such chambers have on average, so that little is asked for that is not of the range
+        left = b - a if contractor == UNDIVIDED else bytes(terms.get("owners", b"")[a:b]).count(contractor)
+        pairs, more = following(ring, p, q, key, EACH * left + FEW, terms)
+        for pair in pairs:
+            if pair.q > last:
+                return
+            yield pair
+        if not more:
             return
-        yield pair
+        key = Key(*pairs[-1][:2])
+        a = bisect.bisect_left(ids, key.q)
 
 
 def run_over(ring, p, q, a, b):

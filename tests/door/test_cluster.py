@@ -244,6 +244,16 @@ class Together(WithRing):
                 made.take(of, said)
             self.assertEqual(made.list(self.chambers.n), want, batch)
 
+    def test_leaf_runs_are_the_list(self):
+        runs = [self.ring.run(self.pumps, self.chambers, leaf) for leaf in cluster.leaves(self.chambers)]
+        self.assertEqual(sorted(pair for one in runs for pair in one), list(self.ring.pairs(self.pumps, self.chambers)))
+        with self.assertRaises(Refused) as raised:
+            self.ring.run(self.pumps, self.chambers, self.chambers.m)
+        self.assertEqual(raised.exception.number, 19)
+        # many on one spot: more pairs than the slots that are lent at first
+        p, q = (self.ring.pack([(k + 1, at, 0) for k in range(n)], 5) for n, at in ((120, 0), (16, 8)))
+        self.assertEqual(len(self.ring.run(p, q, 0)), 120 * 16)
+
     def test_what_comes_twice_is_taken_once(self):
         made, answers = self.gathered()
         for of, said in answers + answers[1:] + answers[:1]:
