@@ -3,6 +3,7 @@
 A task's pairs are those of the list, done twice they are the same: so the scheduler may repeat a task whose worker is gone, and hand it to another. Here the
 answers are put in list order, each once, and their number is held to `count`. Nothing else of the package needs `distributed`.
 """
+import bisect
 import contextlib
 import hashlib
 import importlib.util
@@ -36,6 +37,8 @@ RETRIES = 3
 PATIENCE = 10
 # tasks for each worker, where nobody says how long a task is: enough that the last of them ends soon after the others
 TASKS = 4
+# pairs that a chamber has on average where records stand at random, half of them pump houses; and the fewest that are asked for
+EACH, FEW = 2, 16
 ONE = struct.Struct("<IIQ")
 # set where the command runs again under another Python
 AGAIN = "RING_CLUSTER_AGAIN"
@@ -115,8 +118,8 @@ def kept_by(q, terms, keep):
 
 # ---------------------------------------------------------------- on a worker
 
-# of each work that was sent here what it is, and for each thread the calls with both sheets opened
-SENT, OPENED = {}, {}
+# of each work that was sent here what it is; of each thread its worker program, and of each work and thread both sheets as that has them opened
+SENT, CALLS, OPENED = {}, {}, {}
 
 
 class Sheets(Plugin):
@@ -130,32 +133,53 @@ class Sheets(Plugin):
 
     def teardown(self, worker):
         SENT.pop(self.name, None)
+        # a sheet that nobody has any more its program forgets with its next call
         for key in [key for key in OPENED if key[0] == self.name]:
-            OPENED.pop(key)[0].close()
+            del OPENED[key]
 
 
 def opened(name):
     """The calls and both sheets: opened once by each thread of a worker."""
-    key = name, threading.get_ident()
-    if key not in OPENED:
+    thread = threading.get_ident()
+    if (name, thread) not in OPENED:
         if name not in SENT:
             raise RuntimeError("the sheets did not come to this worker")
-        ring = Ring()
-        if tuple(ring.version()) != SENT[name].version:
-            ring.close()
-            raise RuntimeError("this worker's calls are of version %d.%d.%d, where the list is asked of %d.%d.%d" % (*ring.version(), *SENT[name].version))
-        OPENED[key] = ring, ring.sheet(SENT[name].p), ring.sheet(SENT[name].q)
-    return OPENED[key]
+        ring, work = CALLS.setdefault(thread, Ring()), SENT[name]
+        if tuple(ring.version()) != work.version:
+            raise RuntimeError("this worker's calls are of version %d.%d.%d, where the list is asked of %d.%d.%d" % (*ring.version(), *work.version))
+        OPENED[name, thread] = ring.sheet(work.p), ring.sheet(work.q)
+    return (CALLS[thread], *OPENED[name, thread])
+
+
+def following(ring, p, q, key, slots, terms):
+    """The pairs after a key, some so many, and whether more follow. The one place that asks for many pairs: by pages, until a call gives them at once."""
+    pairs = []
+    for page in ring.pages(p, q, key=key, **terms):
+        pairs += page.pairs
+        if page.end or len(pairs) >= slots:
+            return pairs, not page.end
 
 
 def ranged(ring, p, q, a, b, terms):
-    """The pairs of the chambers at the positions from a on, up to b, in list order. The one place that asks for a range."""
-    key = START if a == 0 else Key(q.points[a].id - 1, sheets.ID)
-    last = q.points[b - 1].id if b else 0
-    for pair in ring.pairs(p, q, key=key, **terms):
-        if pair.q > last:
+    """The pairs of the chambers at the positions from a on, up to b, in list order."""
+    ids = [point.id for point in q.points]
+    key, last = START if a == 0 else Key(ids[a] - 1, sheets.ID), ids[b - 1] if b else 0
+    if terms.get("threshold"):
+        # few chambers may have so many pairs: those after the range are not looked at
+        terms = kept_by(q, terms, lambda at: a <= at < b)
+    contractor = terms.get("contractor", UNDIVIDED)
+    while True:
+        # as many as such chambers have on average, so that little is asked for that is not of the range
+        left = b - a if contractor == UNDIVIDED else bytes(terms.get("owners", b"")[a:b]).count(contractor)
+        pairs, more = following(ring, p, q, key, EACH * left + FEW, terms)
+        for pair in pairs:
+            if pair.q > last:
+                return
+            yield pair
+        if not more:
             return
-        yield pair
+        key = Key(*pairs[-1][:2])
+        a = bisect.bisect_left(ids, key.q)
 
 
 def run_over(ring, p, q, a, b):
@@ -181,9 +205,7 @@ def answered(name, ask):
     except Refused as no:
         said = Said(refused=no.number)
     except WorkerFault as fault:
-        ring = OPENED.pop((name, threading.get_ident()), (None,))[0]
-        if ring is not None:
-            ring.close()
+        OPENED.pop((name, threading.get_ident()), None)
         raise RuntimeError(str(fault))
     return said._replace(who=distributed.get_worker().address, took=time.perf_counter() - begun)
 
@@ -288,11 +310,17 @@ class Heard:
             held = sorted(key for key in told.get("processing-tasks", ()) if str(key).startswith(self.name))
             self.workers.discard(who)
             self.gone.append((who, held))
-            self.say("the worker %s is gone; %d tasks that it held are handed out again" % (who, len(held)))
+            self.say("the worker %s is gone; tasks that it held, handed out again: %d" % (who, len(held)))
         elif told.get("action") == "add-worker" and who not in self.workers:
             self.workers.add(who)
             self.come.append(who)
             self.say("the worker %s came, and has the sheets: %s bytes" % (who, format(self.bytes, ",")))
+
+
+def forgotten(client, name):
+    """The scheduler and its workers forget a work. Where they are gone there is nothing to forget, and where a worker cannot, it never had it."""
+    with contextlib.suppress(Exception):
+        client.unregister_worker_plugin(name)
 
 
 def sent(client, plugin):
@@ -302,6 +330,7 @@ def sent(client, plugin):
     try:
         register(plugin, plugin.name)
     except Exception as fault:
+        forgotten(client, plugin.name)
         raise door.Failed("a worker cannot take the sheets: %s. It has to be started in a clone of this repository, with PYTHONPATH=python" % fault)
     return len(pickle.dumps(plugin))
 
@@ -322,7 +351,7 @@ def spread(client, work, q, asked, counts=0, call=part, say=lambda text: None):
     heard, begun, busy, futures = Heard(client, work.name, size, say), time.perf_counter(), 0.0, {}
     client.subscribe_topic("all", heard)
     try:
-        say("%d workers, the sheets sent once to each: %s bytes; %d tasks%s" % (len(heard.workers), format(size, ","), len(asked), ", and %d that count" % counts if counts else ""))
+        say("workers: %d, and the sheets sent once to each: %s bytes; tasks: %d%s" % (len(heard.workers), format(size, ","), len(asked), ", and to count: %d" % counts if counts else ""))
         for k in range(counts):
             futures[client.submit(number, work.name, k, counts, key="%s-count-%d" % (work.name, k), retries=RETRIES)] = ("count", k, counts)
         for k, (a, b) in enumerate(asked):
@@ -330,7 +359,7 @@ def spread(client, work, q, asked, counts=0, call=part, say=lambda text: None):
         done = 0
 
         def told():
-            return "%d of %d tasks, %d pairs, %d workers" % (done, len(asked) + counts, gathered.pairs_seen, len(heard.workers))
+            return "%d of %d tasks, %d pairs, workers: %d" % (done, len(asked) + counts, gathered.pairs_seen, len(heard.workers))
         with Progress(told):
             try:
                 for future, said in distributed.as_completed(list(futures), with_results=True):
@@ -345,10 +374,11 @@ def spread(client, work, q, asked, counts=0, call=part, say=lambda text: None):
         return Spread(gathered, heard, time.perf_counter() - begun, busy, len(asked), size)
     finally:
         heard.on = False
-        for last in (lambda: client.unsubscribe_topic("all"), lambda: client.cancel(list(futures)), lambda: client.unregister_worker_plugin(work.name)):
-            # a scheduler that is gone has nothing to forget
-            with contextlib.suppress(Exception):
-                last()
+        with contextlib.suppress(Exception):
+            client.unsubscribe_topic("all")
+        with contextlib.suppress(Exception):
+            client.cancel(list(futures))
+        forgotten(client, work.name)
 
 
 def batch_of(much, workers):

@@ -180,14 +180,14 @@ class Clusters(WithRing):
         status, printed, said = ran([COMMAND, "cluster", "list", *SHEETS] + ([] if built() else ["--workers", "1"]))
         self.assertEqual((status, printed), (0, ran([COMMAND, "list", *SHEETS])[1]), said)
         self.assertRegex(said, r"(?m)^ring: dashboard http://127\.0\.0\.1:\d+/status")
-        self.assertRegex(said, r"(?m)^ring: \d+ workers, the sheets sent once to each: [\d,]+ bytes; \d+ tasks, and \d+ that count$")
+        self.assertRegex(said, r"(?m)^ring: workers: \d+, and the sheets sent once to each: [\d,]+ bytes; tasks: \d+, and to count: \d+$")
         if built():
             self.assertEqual(ran([os.path.join(TOP, "list"), *SHEETS])[1], printed)
 
     def test_by_the_address_of_a_scheduler(self):
         status, printed, said = self.seen["address"]
         self.assertEqual((status, printed.encode()), (0, self.listing), said)
-        self.assertIn("2 workers, the sheets sent once to each", said)
+        self.assertIn("workers: 2, and the sheets sent once to each", said)
         self.assertIn("no scheduler answers", self.seen["none"])
 
     def test_a_worker_killed_while_it_holds_a_task(self):
@@ -199,7 +199,7 @@ class Clusters(WithRing):
         moves = [tuple(move) for move in seen["story"]]
         lost = moves.index(("processing", "released"))
         self.assertIn("processing", [after for _, after in moves[lost + 1:]], moves)
-        self.assertTrue(any("is gone; " in line and "handed out again" in line for line in seen["said"]), seen["said"])
+        self.assertTrue(any("is gone; tasks that it held, handed out again: " in line for line in seen["said"]), seen["said"])
 
     def test_a_worker_added_while_it_runs(self):
         seen = self.seen["added"]
@@ -243,6 +243,16 @@ class Together(WithRing):
             for of, said in reversed(answers):
                 made.take(of, said)
             self.assertEqual(made.list(self.chambers.n), want, batch)
+
+    def test_leaf_runs_are_the_list(self):
+        runs = [self.ring.run(self.pumps, self.chambers, leaf) for leaf in cluster.leaves(self.chambers)]
+        self.assertEqual(sorted(pair for one in runs for pair in one), list(self.ring.pairs(self.pumps, self.chambers)))
+        with self.assertRaises(Refused) as raised:
+            self.ring.run(self.pumps, self.chambers, self.chambers.m)
+        self.assertEqual(raised.exception.number, 19)
+        # many on one spot: more pairs than the slots that are lent at first
+        p, q = (self.ring.pack([(k + 1, at, 0) for k in range(n)], 5) for n, at in ((120, 0), (16, 8)))
+        self.assertEqual(len(self.ring.run(p, q, 0)), 120 * 16)
 
     def test_what_comes_twice_is_taken_once(self):
         made, answers = self.gathered()
