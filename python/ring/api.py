@@ -86,7 +86,7 @@ class Ring:
         """A sheet of points (id, x, y), in any order. Form 1 where the points allow it, and form 2 else."""
         rows = sorted(tuple(point) for point in points)
         form = sheets.form_of(rows) if form is None else form
-        order = sheets.tiled(rows) if order is None else list(order)
+        order = sheets.along_curve(rows) if order is None else list(order)
         flat = [value for row in rows for value in row]
         for value in flat:
             if not -1 << 31 <= value < 1 << 31:

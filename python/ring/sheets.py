@@ -13,16 +13,45 @@ FORMS = {1: (1000, 1_000_000), 2: (60_000, 1_000_000_000)}
 BYTES = 4 * (5 * POINTS + 7 * 24_000 + 6)
 
 
-def tiled(rows):
-    """The positions in sort-tile-recursive order: by x in slices, each slice by y."""
-    leaves = math.ceil(len(rows) / NODE)
-    slices = math.ceil(math.sqrt(leaves))
-    deep = NODE * math.ceil(leaves / slices) if slices else 1
-    by_x = sorted(range(len(rows)), key=lambda i: (rows[i][1], rows[i][2], i))
-    order = []
-    for start in range(0, len(by_x), deep):
-        order += sorted(by_x[start:start + deep], key=lambda i: (rows[i][2], rows[i][1], i))
-    return order
+# how many bits of each coordinate the order goes by, and how many of them at a step
+DEEP, STEP = 16, 4
+
+
+def _steps():
+    """A Hilbert curve by its steps: for a state and so many bits of x and y, the bits of the place on the curve, and the state after them. A state says whether
+    both coordinates are turned over, and whether they are exchanged."""
+    table = {}
+    for state in range(4):
+        for x in range(1 << STEP):
+            for y in range(1 << STEP):
+                turned, exchanged, at = state & 1, state >> 1, 0
+                for bit in reversed(range(STEP)):
+                    over, up = (x >> bit & 1) ^ turned, (y >> bit & 1) ^ turned
+                    if exchanged:
+                        over, up = up, over
+                    at = at << 2 | (3 * over) ^ up
+                    if not up:
+                        turned, exchanged = turned ^ over, exchanged ^ 1
+                table[state << 2 * STEP | x << STEP | y] = at, (exchanged << 1 | turned) << 2 * STEP
+    return [table[k] for k in range(len(table))]
+
+
+def along_curve(rows):
+    """The positions along a Hilbert curve over the rows' square: near points come to stand beside each other, whatever the spread."""
+    if not rows:
+        return []
+    steps, mask = _steps(), (1 << STEP) - 1
+    left, low = min(row[1] for row in rows), min(row[2] for row in rows)
+    span = max(max(row[1] for row in rows) - left, max(row[2] for row in rows) - low)
+    cut = max(0, span.bit_length() - DEEP)
+    places = []
+    for row in rows:
+        x, y, state, place = row[1] - left >> cut, row[2] - low >> cut, 0, 0
+        for bit in range(DEEP - STEP, -1, -STEP):
+            at, state = steps[state | (x >> bit & mask) << STEP | y >> bit & mask]
+            place = place << 2 * STEP | at
+        places.append(place)
+    return sorted(range(len(rows)), key=places.__getitem__)
 
 
 def form_of(rows):

@@ -125,15 +125,16 @@ class FromCsv(Commands):
         self.assertIn("form 2 (over 1,000 points)", self.make(text, name="b")[1])
         self.assertIn("form 2 (a coordinate past 1,000,000)", self.make("1,1000001,0\n", name="c")[1])
 
-    def test_order_has_each_position_once_in_tiles(self):
+    def test_order_has_each_position_once_along_the_curve(self):
         rows = ring.read_points(stored("chambers.csv"))
-        order = ring.sheets.tiled(rows)
-        self.assertEqual(sorted(order), list(range(len(rows))))
-        deep = 16 * 3
-        for start in range(0, len(order), deep):
-            tile = order[start:start + deep]
-            self.assertEqual(tile, sorted(tile, key=lambda i: (rows[i][2], rows[i][1], i)))
-            self.assertTrue(all(rows[i][1] <= rows[k][1] for i in tile for k in order[start + deep:]))
+        self.assertEqual(sorted(ring.sheets.along_curve(rows)), list(range(len(rows))))
+        self.assertEqual(ring.sheets.along_curve([]), [])
+        # on a full square each stands beside the one before it, wherever the square is and however far apart its points are
+        for side, step, left, low in ((1, 1, 5, 5), (16, 1, 0, 0), (64, 1, -7, 1_000_000), (16, 1 << 26, -1_000_000_000, 3)):
+            square = [(k + 1, left + step * (k // side), low + step * (k % side)) for k in range(side * side)]
+            order = ring.sheets.along_curve(square)
+            self.assertEqual(sorted(order), list(range(side * side)))
+            self.assertTrue(all(abs(square[a][1] - square[b][1]) + abs(square[a][2] - square[b][2]) == step for a, b in zip(order, order[1:])), (side, step))
 
     def test_town_made_anew(self):
         for name, edition in MADE.items():
