@@ -95,6 +95,17 @@ class Ring:
         words = self._worker.call(Call.PACK, head + flat + order, what=name)
         return self._opened([signed(word) for word in words], name)
 
+    def tidy(self, sheet):
+        """The same points, edition and form, packed in a good order: the lists are the same, and sooner made."""
+        made = self.pack(sheet.points, sheet.edition, sheet.form, name=sheet.name)
+        if made.points != sheet.points or (made.edition, made.form) != (sheet.edition, sheet.form):
+            raise WorkerFault("the sheet that was packed is another one")
+        return made
+
+    def tidied(self, sheet):
+        """The sheet as it is, or tidied where that is sooner done than a whole list in its own order."""
+        return self.tidy(sheet) if sheet.n >= sheets.LEAST and sheets.scattered(sheet) >= sheets.SCATTERED else sheet
+
     def sheet(self, data, name="the sheet"):
         """A sheet of a file's bytes; refused by 1 to 8 where they are none."""
         return self._opened(sheets.words_of(data, name), name)

@@ -127,11 +127,26 @@ def gathered(listed, q):
 
 # ---------------------------------------------------------------- sheets
 
-def sheet_make(ring, args):
+def points_of(args, name):
+    """The points of a CSV."""
     try:
-        points = read_points(read(args.file), args.id, args.x, args.y, units(args), decimal_comma=args.decimal_comma, **csv_terms(args))
+        return read_points(read(name), args.id, args.x, args.y, units(args), decimal_comma=args.decimal_comma, **csv_terms(args))
     except BadTable as fault:
-        raise BadTable("%s: %s" % (args.file, fault))
+        raise BadTable("%s: %s" % (name, fault))
+
+
+def for_list(ring, args, name):
+    """A sheet to list: of a file, packed anew where its order is bad; or of the points of a CSV, packed for this list alone, so that its edition tells nothing."""
+    if name.lower().endswith(".csv"):
+        points = points_of(args, name)
+        if not points:
+            raise No("%s: no rows: of no assets there is no list" % name)
+        return ring.pack(points, 1, name=name)
+    return ring.tidied(opened(ring, name))
+
+
+def sheet_make(ring, args):
+    points = points_of(args, args.file)
     if not 1 <= args.edition <= sheets.EDITION:
         raise No("the edition %d is not from 1 to %d" % (args.edition, sheets.EDITION))
     if not points and not args.empty:
@@ -180,9 +195,7 @@ def sheet_why(ring, args):
 def sheet_tidy(ring, args):
     """Packs a sheet anew in a good order. The list depends on its points alone, so that its edition stays."""
     sheet = opened(ring, args.file)
-    made = ring.pack(sheet.points, sheet.edition, sheet.form, name=args.file)
-    if made.points != sheet.points or (made.edition, made.form) != (sheet.edition, sheet.form):
-        raise WorkerFault("the sheet that was packed is another one")
+    made = ring.tidy(sheet)
     path = args.out or args.file
     door.put(path, made.data)
     args.out = None
@@ -193,7 +206,7 @@ def sheet_tidy(ring, args):
 # ---------------------------------------------------------------- lists and questions
 
 def list_(ring, args):
-    p, q = both(ring, args)
+    p, q = for_list(ring, args, args.p), for_list(ring, args, args.q)
     terms = terms_of(args, q)
     give_list(args, p, q, gathered(ring.pairs(p, q, **terms), q), terms)
 
@@ -590,6 +603,13 @@ def with_terms(one):
     with_csv(one)
 
 
+def with_columns(one):
+    one.add_argument("--x", metavar="NAME", help="the column of x (x)")
+    one.add_argument("--y", metavar="NAME", help="the column of y (y)")
+    one.add_argument("--decimal-comma", action="store_true", help="decimals are written with a comma")
+    one.add_argument("--round", action="store_true", help="to the nearest whole number, half up, where it is none")
+
+
 def with_sheets(one):
     one.add_argument("p", metavar="P.sheet", help="the pump houses")
     one.add_argument("q", metavar="Q.sheet", help="the chambers")
@@ -633,12 +653,9 @@ def parser():
     one.add_argument("file", metavar="FILE.csv", help="rows of id, x, y, or with a header that names them; - for standard input")
     one.add_argument("--edition", type=int, required=True, metavar="N", help="1 to 1,000,000,000: a new one whenever the points change")
     one.add_argument("--out", required=True, metavar="FILE.sheet")
-    one.add_argument("--x", metavar="NAME", help="the column of x (x)")
-    one.add_argument("--y", metavar="NAME", help="the column of y (y)")
+    with_columns(one)
     with_csv(one)
-    one.add_argument("--decimal-comma", action="store_true", help="decimals are written with a comma")
     with_units(one, "coordinates")
-    one.add_argument("--round", action="store_true", help="to the nearest whole number, half up, where it is none")
     one.add_argument("--empty", action="store_true", help="a CSV of no rows is meant so")
     one.add_argument("--replace", action="store_true", help="write over a sheet of the same edition with other points, or over another file")
     one = added(parts, "csv", sheet_csv, "a sheet's points as CSV, by id", "./ring sheet csv pumps.sheet --scale 100 --offset 430000,5400000")
@@ -652,8 +669,10 @@ def parser():
     one.add_argument("file", metavar="FILE.sheet")
     one.add_argument("--out", metavar="FILE.sheet", help="to this file, and not to the same")
 
-    one = added(commands, "list", list_, "the ring pairs of two sheets", "./ring list pumps.sheet chambers.sheet --geojson --scale 100 --offset 430000,5400000 --out visits.geojson")
+    one = added(commands, "list", list_, "the ring pairs of two sheets", "./ring list pumps.sheet chambers.sheet --geojson --scale 100 --offset 430000,5400000 --out visits.geojson",
+                " Either may be a CSV of points (FILE.csv), which\nis packed for this list alone; a sheet in a bad order is packed anew for it too.")
     with_sheets(one)
+    with_columns(one)
     with_terms(one)
     with_list(one)
     cluster = commands.add_parser("cluster", allow_abbrev=False, help="a list made by many workers", description="Lists made by many workers.", epilog=STATUS)

@@ -13,6 +13,8 @@ FORMS = {1: (1000, 1_000_000), 2: (60_000, 1_000_000_000)}
 BYTES = 4 * (5 * POINTS + 7 * 24_000 + 6)
 
 
+# a sheet of so many points and more whose records are scattered so far is packed anew before a whole list is made of it: bench/tidy measures what either costs
+LEAST, SCATTERED = 2000, 2.0
 # how many bits of each coordinate the order goes by, and how many of them at a step
 DEEP, STEP = 16, 4
 
@@ -52,6 +54,17 @@ def along_curve(rows):
             place = place << 2 * STEP | at
         places.append(place)
     return sorted(range(len(rows)), key=places.__getitem__)
+
+
+def scattered(sheet):
+    """How far apart the records of a leaf stand: the half perimeters of all leaves, as a part of what they are where points stand anywhere and the order is good.
+    Near 1 or below in a good order; in an order by chance it grows as the root of the number of leaves."""
+    boxes = [sheet.box(node) for node in range(sheet.m) if sheet.words[5 * sheet.n + 7 * node] == 0]
+    if not boxes:
+        return 0
+    wide, high = (max(box[k + 2] for box in boxes) - min(box[k] for box in boxes) for k in (0, 1))
+    good = 2 * math.sqrt(wide * high * len(boxes)) + wide + high
+    return sum(box[2] - box[0] + box[3] - box[1] for box in boxes) / good if good else 0
 
 
 def form_of(rows):

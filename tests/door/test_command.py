@@ -11,6 +11,7 @@ import subprocess
 import sys
 import time
 import unittest
+from unittest import mock
 
 from base import TOP, TOWN, WithRing, ran, read, surroundings
 
@@ -357,6 +358,36 @@ class Lists(Commands):
         p = self.made("1,0,0\n2,1000000000,0\n", name="p")
         q = self.made("5,400,0\n", name="q")
         self.assertEqual(self.served("list", p, q), "5 1 400 0 160000\n5 2 1000000400 0 999999200000160000\nend 2\n")
+
+    def test_points_with_no_sheet(self):
+        tables = [os.path.join(TOWN, name + ".csv") for name in MADE]
+        want = stored("listing.txt").decode()
+        for p, q in (tables, (tables[0], TOWN_SHEETS[1]), (TOWN_SHEETS[0], tables[1])):
+            self.assertEqual(self.served("list", p, q), want)
+        loud = [self.file(name.upper() + ".CSV", stored(name + ".csv")) for name in MADE]
+        self.assertEqual(self.served("list", *loud, "--grid"), self.text(self.pairs[True]))
+        owners = self.file("owners.csv", self.csv.replace("ASSET", "id"))
+        said = self.served("list", *tables, "--contractor", 1, "--owners", owners, "--owner", "WHO")
+        self.assertEqual(said, self.served("list", *TOWN_SHEETS, "--contractor", 1, "--owners", owners, "--owner", "WHO"))
+        p, q = (self.file(name + ".csv", "ASSET;E;N\n" + rows) for name, rows in (("p", "1;0,5;1\n2;9;9,25\n"), ("q", "5;2;1\n")))
+        words = ("--id", "ASSET", "--x", "E", "--y", "N", "--decimal-comma", "--scale", "100")
+        self.assertEqual(self.served("list", p, q, *words), "5 1 250 200 22500\n5 2 1100 1025 1170625\nend 2\n")
+        drawn = json.loads(self.served("list", p, q, *words, "--geojson"))["features"]
+        self.assertEqual(drawn[0]["geometry"]["coordinates"], [[2, 1], [0.5, 1]])
+        self.refused("p.csv: line 2: the x '0,5' is no number", "list", p, q, "--id", "ASSET", "--x", "E", "--y", "N")
+        self.refused("no rows: of no assets there is no list", "list", self.file("none.csv", "id,x,y\n"), q, "--id", "id")
+
+    def test_a_sheet_in_a_bad_order_is_packed_anew_for_a_list(self):
+        made, pack = [], self.ring.pack
+        chance = sorted(range(120), key=lambda k: k * k * 7919 % 121)
+        bad = self.file("bad.sheet", pack(self.chambers.points, 9, order=chance).data)
+        self.assertTrue(ring.sheets.scattered(self.ring.read(bad)) > 1.5 > 1 > ring.sheets.scattered(self.chambers))
+        with mock.patch.object(self.ring, "pack", lambda *words, **more: made.append(more["name"]) or pack(*words, **more)):
+            for least, limit, want in ((121, 1.5, []), (120, 1.5, [bad]), (120, 3, []), (0, 1.5, [bad])):
+                with mock.patch.multiple(ring.sheets, LEAST=least, SCATTERED=limit):
+                    self.assertEqual(self.served("list", TOWN_SHEETS[0], bad), stored("listing.txt").decode())
+                self.assertEqual(made, want)
+                made.clear()
 
     def test_the_street_grid(self):
         self.assertNotEqual(self.pairs[True], self.pairs[False])
