@@ -11,6 +11,7 @@
 --     Runs           one run per leaf
 --     Nearest        nearest first: the order, the filter, the lent numbers
 --     Shortest       the shortest circles
+--     Many           many pairs at once, to a size, and how many there are
 --     Streets        the street grid: what blocks, boxes, sizes, numbers
 --     Contractors    two contractors: whose a chamber is, what each is handed, numbers
 --     Border         a province's box: which circles lie in it, its margin, its records
@@ -26,6 +27,7 @@ pub mod Depot
 pub mod Runs
 pub mod Nearest
 pub mod Shortest
+pub mod Many
 pub mod Streets
 pub mod Contractors
 pub mod Border
