@@ -194,6 +194,24 @@ class Books(Stores):
                 self.assertEqual(one.orders(), self.forms[:book.state().formed])
             self.assertGreater(failed, 2)
 
+    def test_a_worker_that_is_killed(self):
+        """The step that it was asked for fails, the file is as it was, and the next step begins a new one from the file."""
+        with ring.Ring(worker()) as own, Store(self.at, own) as one:
+            book = one.book(SOURCE)
+            for _ in range(2):
+                page = self.page(book.next_key())
+                for step in (lambda: book.take(page), book.issue):
+                    before = self.rows()
+                    own._worker.process.kill()
+                    own._worker.process.wait()
+                    with self.assertRaises(ring.WorkerFault):
+                        step()
+                    self.assertEqual(self.rows(), before)
+                    step()
+            self.taken(book, 5)
+            self.assertEqual(book.issue(), self.forms[32:])
+            self.assertEqual((book.pairs(), one.orders(), book.state()), (self.listed, self.forms, store.State(104, True, 104)))
+
     def test_longer_slices_are_lent(self):
         before, store.ROOM = store.ROOM, 5
         try:
