@@ -25,9 +25,9 @@ LONGEST = 160
 RULES, SOURCE, PAPER = "docs/RULES.md", "docs/promises.txt", "docs/PROMISES.md"
 FIELDS = ["definition", "proved", "tested", "refused", "form", "note"]
 SHOWN = [("form", "Form"), ("definition", "Definition"), ("proved", "Proved by"), ("tested", "Tested by"), ("refused", "Refused")]
-NUMBER = re.compile(r"[A-Z]\d+")
-RULE = re.compile(r"^- \*\*([A-Z]\d+)\.\*\* (.*?)(?=^- |^#|^$|\Z)", re.M | re.S)
-CITED = re.compile(r"\[([A-Z]\d+(?:, [A-Z]\d+)*)\]")
+NUMBER = re.compile(r"[A-Z]{1,2}\d+")
+RULE = re.compile(r"^- \*\*([A-Z]{1,2}\d+)\.\*\* (.*?)(?=^- |^#|^$|\Z)", re.M | re.S)
+CITED = re.compile(r"\[([A-Z]{1,2}\d+(?:, [A-Z]{1,2}\d+)*)\]")
 DECLARED = re.compile(r"^[ \t]*((?:(?:pub|unfoldable|abbrev|record|data)[ \t]+)*)([^\s:(){}=]+)(?=[ \t]+[:({]|[ \t]*$|[ \t]+where)", re.M)
 IN_CODE = re.compile(r"^[ \t]*(?:pub(?:\(crate\))?[ \t]+)?(?:extern[ \t]+\"C\"[ \t]+)?(?:struct|enum|fn)[ \t]+(\w+)", re.M)
 
@@ -258,7 +258,7 @@ def mark_of(name):
 
 def uncited(line, mark):
     """A comment without the citation at its end; none where it was nothing else."""
-    found = re.match(r"^([ \t]*%s.*?)[ \t]*\[[A-Z]\d+(?:, [A-Z]\d+)*\]$" % re.escape(mark), line)
+    found = re.match(r"^([ \t]*%s.*?)[ \t]*\[[A-Z]{1,2}\d+(?:, [A-Z]{1,2}\d+)*\]$" % re.escape(mark), line)
     if not found:
         return line
     return None if found.group(1).strip() == mark else found.group(1)
@@ -360,7 +360,7 @@ def broken(root, files):
         wrong.append("%s: two rules have the number %s" % (RULES, number))
     for part in parts_of(rules):
         for number, sentence in part.rules:
-            wrong += ["%s: %s speaks of %s, which is no rule" % (RULES, number, other) for other in re.findall(r"\b[A-Z]\d+\b", sentence) if other not in numbers]
+            wrong += ["%s: %s speaks of %s, which is no rule" % (RULES, number, other) for other in re.findall(r"\b[A-Z]{1,2}\d+\b", sentence) if other not in numbers]
     for of, lines in blocks_of(source):
         if of.startswith("call "):
             refuted = [name for _, what in lines for name in re.findall(r"`(refuted [^`]+)`", what)]
