@@ -88,7 +88,7 @@ module _ (c : ℕ) (one : c < 2) (P Q : List ℤ) (o : List ℕ) (P′ Q′ : Li
       ∙ ap (λ (x : List Point). listTo big a o′ x (pointsOf Q′)) p-points
 
   -- The same of many pairs: any such request of contractor c, also one that is refused, and one whose key names a chamber of the other's, with as many slots and words lent, is answered alike, stores the same, and leaves
-  -- the same behind. The answer counts no nodes, so there is nothing in it that is not handed on.
+  -- the same behind. The answer counts no nodes, so there is nothing in it that is not handed on. [MP11]
   pub blind-pairs : (ask : Wanted) → ask .contractor ≡ c → (slots : List Pair) (w : List ℕ) (r r′ : Many) (s s′ : List Pair) (t t′ : List ℕ) → PairsAnswers P Q o ask slots w r s t → PairsAnswers P′ Q′ o′ ask slots w r′ s′ t′
       → (r ≡ r′) × (s ≡ s′) × (t ≡ t′)
   unfolding pairsAnswer pairsSlots pairsBits pairsNo pairsList
@@ -104,7 +104,7 @@ module _ (c : ℕ) (one : c < 2) (P Q : List ℤ) (o : List ℕ) (P′ Q′ : Li
         a .2 ∙ ap₂ (λ (k n : ℕ). wipedBy k n w) nr need-same ∙ sym (b .2),
       )
 
-  -- and so is their number
+  -- and so is their number [MP11]
   pub blind-count : (which : Which) → which .contractor ≡ c → (w : List ℕ) (r r′ : Counted) (t t′ : List ℕ) → CountAnswers P Q o which w r t → CountAnswers P′ Q′ o′ which w r′ t′ → (r ≡ r′) × (t ≡ t′)
   unfolding countAnswer countBits countNo countGiven
   blind-count which is w r r′ t t′ a b =

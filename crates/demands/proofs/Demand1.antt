@@ -261,11 +261,13 @@ by-number nr len l slots n w r slots′ w′ a = (
   λ ne. (a .0 ∙ answer-refused (manyGiven len l) manyRefused nr nr refl ne, a .1 ∙ answer-refused (stored slots l) (λ k. slots) nr nr refl ne, a .2 ∙ sym (wiped-refused w n nr nr refl ne)),
 )
 
+-- [MP13, MP14, MP15]
 pub pairs-no : (P Q : List ℤ) (o : List ℕ) (ask : Wanted) (slots : List Pair) (w : List ℕ) (r : Many) (slots′ : List Pair) (w′ : List ℕ) → PairsAnswers P Q o ask slots w r slots′ w′
     → (r .number ≡ pairsNo P Q o ask (length w)) × (Refuses (pairsNo P Q o ask (length w)) → (r ≡ manyRefused (pairsNo P Q o ask (length w))) × (slots′ ≡ slots) × (w′ ≡ w))
 unfolding pairsAnswer pairsSlots pairsBits
 pairs-no P Q o ask slots w r slots′ w′ a = by-number (pairsNo P Q o ask (length w)) (length slots) (pairsList P Q o ask) slots (need P) w r slots′ w′ a
 
+-- [MP13, MP15]
 pub own-pairs-no : (S : List ℤ) (key : Key) (big : ℕ) (g : Bool) (slots : List Pair) (w : List ℕ) (r : Many) (slots′ : List Pair) (w′ : List ℕ) → OwnPairsAnswers S key big g slots w r slots′ w′
     → (r .number ≡ ownPairsNo S key big g (length w)) × (Refuses (ownPairsNo S key big g (length w)) → (r ≡ manyRefused (ownPairsNo S key big g (length w))) × (slots′ ≡ slots) × (w′ ≡ w))
 unfolding ownPairsAnswer ownPairsSlots ownPairsBits
@@ -279,11 +281,13 @@ count-by nr n good z w r w′ a = (
   λ ne. (a .0 ∙ answer-refused good countRefused nr nr refl ne, a .1 ∙ sym (wiped-refused w n nr nr refl ne)),
 )
 
+-- [MP13, MP15]
 pub count-no : (P Q : List ℤ) (o : List ℕ) (which : Which) (w : List ℕ) (r : Counted) (w′ : List ℕ) → CountAnswers P Q o which w r w′
     → (r .number ≡ countNo P Q o which (length w)) × (Refuses (countNo P Q o which (length w)) → (r ≡ countRefused (countNo P Q o which (length w))) × (w′ ≡ w))
 unfolding countAnswer countBits countGiven
 count-no P Q o which w r w′ a = count-by (countNo P Q o which (length w)) (need P) (countGiven (which .largest) (whichTerms which) o P Q) refl w r w′ (a .promised)
 
+-- [MP13, MP15]
 pub own-count-no : (S : List ℤ) (big : ℕ) (g : Bool) (w : List ℕ) (r : Counted) (w′ : List ℕ) → OwnCountAnswers S big g w r w′
     → (r .number ≡ ownCountNo S big g (length w)) × (Refuses (ownCountNo S big g (length w)) → (r ≡ countRefused (ownCountNo S big g (length w))) × (w′ ≡ w))
 unfolding ownCountAnswer ownCountBits countGiven

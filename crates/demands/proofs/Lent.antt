@@ -125,13 +125,13 @@ zeros-left : {n k : ℕ} {w w′ : List ℕ} → Works n k w w′ → k ≡ 0 �
 unfolding wiped
 zeros-left {n} {k} {w} x z = works-by x ∙ sym (wiped-given w n k z)
 
--- "any other call zeros" [Y10]
+-- "any other call zeros" [Y10, MP12]
 pub words-zero : {n k : ℕ} {w w′ : List ℕ} → Works n k w w′ → k ≡ 0 → take n w′ ≡ replicate n 0
 words-zero {n} {k} {w} {w′} x z = front-set (replicate n 0) w w′ n (length-replicate n 0) (zeros-left x z)
 
 -- ---- all of them
 
--- a refusal "leaves lent memory [..] as they stood" [Y11]
+-- a refusal "leaves lent memory [..] as they stood" [Y11, MP12, MP15]
 pub words-refused : {n k : ℕ} {w w′ : List ℕ} → Lends n k w w′ → (k ≡ 0 → ⊥) → w′ ≡ w
 words-refused (lends-filter x) ne = filter-refuses x ne
 words-refused {n} {k} {w} (lends-work x) ne = works-by x ∙ sym (wiped-refused w n k k refl ne)
@@ -140,7 +140,7 @@ past-given : {n k : ℕ} {w w′ : List ℕ} → Lends n k w w′ → k ≡ 0 �
 past-given (lends-filter {P} {set} {k} {w} {w′} x) z = let l = set-left x z in front-rest set w w′ (need P) (l .0) (l .1)
 past-given {n} {k} {w} {w′} (lends-work x) z = front-rest (replicate n 0) w w′ n (length-replicate n 0) (zeros-left x z)
 
--- "and none touches words past them" [Y11]
+-- "and none touches words past them" [Y11, MP12]
 pub words-past : {n k : ℕ} {w w′ : List ℕ} → Lends n k w w′ → drop n w′ ≡ drop n w
 words-past {n} {k} {w} {w′} x = go k refl
   where

@@ -156,7 +156,7 @@ module _ (P Q : List ℤ) (p-opens : WellFormed P) (q-opens : WellFormed Q) (a :
     pub many : a .threshold ≤ length (chamberPairs (v .q) (atMost big Whole))
     pub late : follows key (keyOf v) ≡ true
 
-  -- Those pairs of the list to a size that stand after a key are exactly these.
+  -- Those pairs of the list to a size that stand after a key are exactly these. [MP1, MP2]
   pub pairs-exact : (key : Key) (v : Pair) → List·Memᴰ v (after key Sized) ↔ Asked key v
   pairs-exact key v =
       let s = sized-iff big a o (pointsOf P) (pointsOf Q) p-rises q-rises v in
@@ -166,7 +166,7 @@ module _ (P Q : List ℤ) (p-opens : WellFormed P) (q-opens : WellFormed Q) (a :
         λ x. u .1 (s .1 (t .1 (x .listed, x .small), x .many), x .late),
       )
 
-  -- "8*10^18 means all": to the greatest size that is taken it is the list of the terms
+  -- "8*10^18 means all": to the greatest size that is taken it is the list of the terms [MP3]
   pub pairs-whole : big ≡ lastLargest → gridNo (a .grid) P Q ≡ 0 → Sized ≡ listFor a o (pointsOf P) (pointsOf Q)
   pairs-whole e forms =
       let z = forms-reach (a .grid) P Q p-opens q-opens forms in
@@ -197,6 +197,7 @@ module _ (P Q : List ℤ) (p-opens : WellFormed P) (q-opens : WellFormed Q) (a :
 
     module _ (h : Fair key (a .threshold) big) (of-whom : Whose (a .contractor) o (points Q)) (forms : gridNo (a .grid) P Q ≡ 0) (enough : need P ≤ length w) where
       -- A key, a t, a contractor and a largest size in range are served, with the owner bytes of a contractor, of sheets of form 1 for the street grid, with words enough, however many slots there are.
+      -- [MP13]
       pub many-served : r .number ≡ 0
       unfolding pairsNo ownPairsNo keyNo thresholdNo largestNo first given
       many-served = go (a .own) answers
@@ -221,7 +222,7 @@ module _ (P Q : List ℤ) (p-opens : WellFormed P) (q-opens : WellFormed Q) (a :
       pub pairs-are : take (r .count) slots′ ≡ take (length slots) (after key Sized)
       pairs-are = ap₂ take count-is slots-are ∙ take-append-seam (take (length slots) (after key Sized)) _
 
-      -- "the first so many as the lent slice has slots, their number, whether more follow (with no slots: 0, and whether any follow)"
+      -- "the first so many as the lent slice has slots, their number, whether more follow (with no slots: 0, and whether any follow)" [MP1, MP6]
       pub pairs-given : (r .count ≡ min (length slots) (length (after key Sized))) × (take (r .count) slots′ ≡ take (length slots) (after key Sized)) × ((r .more ≡ true) ↔ (length slots < length (after key Sized)))
       unfolding manyGiven
       pairs-given =
@@ -229,27 +230,27 @@ module _ (P Q : List ℤ) (p-opens : WellFormed P) (q-opens : WellFormed Q) (a :
           let z = more-is (length slots) (after key Sized) in
           (count-is ∙ length-take (length slots) (after key Sized), pairs-are, (λ e. z .0 (sym m ∙ e), λ g. m ∙ z .1 g))
 
-      -- "the rest of the slots untouched"
+      -- "the rest of the slots untouched" [MP5]
       pub pairs-untouched : drop (r .count) slots′ ≡ drop (r .count) slots
       pairs-untouched = ap₂ drop count-is slots-are ∙ drop-append-seam (take (length slots) (after key Sized)) _ ∙ ap (λ (n : ℕ). drop n slots) (sym count-is)
 
-      -- Each pair that is stored is one that is asked for,
+      -- Each pair that is stored is one that is asked for, [MP1]
       pub pairs-only : (v : Pair) → List·Memᴰ v (take (r .count) slots′) → Asked key v
       pairs-only v m =
           pairs-exact key v .0
           (subst (List·Memᴰ v) (take-append-drop (length slots) (after key Sized)) (Memᴰ·append-left (drop (length slots) (after key Sized)) (subst (List·Memᴰ v) pairs-are m)))
 
-      -- each stands after the one before it, the first after the key,
+      -- each stands after the one before it, the first after the key, [MP4]
       pub pairs-order : ascends key (take (r .count) slots′) ≡ true
       pairs-order =
           let t = after key Sized in
           ap (ascends key) pairs-are ∙ asc-left key (take (length slots) t) (drop (length slots) t) (ap (ascends key) (take-append-drop (length slots) t) ∙ after-asc key start Sized sized-ascends)
 
-      -- so no two have the same ids,
+      -- so no two have the same ids, [MP4]
       pub pairs-each : (k n : ℕ) → k < n → n < length (take (r .count) slots′) → keyOf (getD (take (r .count) slots′) k none) ≡ keyOf (getD (take (r .count) slots′) n none) → ⊥
       pairs-each k n = once-key key (take (r .count) slots′) pairs-order k n
 
-      -- and each has the size of the places of the two records with its ids, which is at most the largest.
+      -- and each has the size of the places of the two records with its ids, which is at most the largest. [MP4]
       pub pairs-size : (v : Pair) → List·Memᴰ v (take (r .count) slots′)
           → (v .size ≤ big) × ((j i : ℕ) → j < points Q → i < points P → idAt (pointsOf Q) j ≡ v .q → idAt (pointsOf P) i ≡ v .p → v .size ≡ profileFor a .size (spotOf Q j) (spotOf P i))
       unfolding shown
@@ -260,7 +261,7 @@ module _ (P Q : List ℤ) (p-opens : WellFormed P) (q-opens : WellFormed Q) (a :
             ∙ ap₂ (profileFor a .size) (spot-of Q j j-in) (spot-of P i i-in),
       )
 
-      -- "8*10^18 means all": from the start, with a slot for each pair, the whole list of the terms is stored, and nothing follows.
+      -- "8*10^18 means all": from the start, with a slot for each pair, the whole list of the terms is stored, and nothing follows. [MP3]
       pub pairs-list : key ≡ start → big ≡ lastLargest → length (listFor a o (pointsOf P) (pointsOf Q)) ≤ length slots → (take (r .count) slots′ ≡ listFor a o (pointsOf P) (pointsOf Q)) × (r .more ≡ false)
       pairs-list from all room =
           let l : after key Sized ≡ listFor a o (pointsOf P) (pointsOf Q) = ap (λ (k : Key). after k Sized) from ∙ after-all start Sized sized-ascends ∙ pairs-whole all forms in
@@ -305,6 +306,7 @@ module _ (P Q : List ℤ) (p-opens : WellFormed P) (q-opens : WellFormed Q) (a :
           (ap (λ (y : List Pair). after (lastOr key y) Sized) (pairs-given key slots w r slots′ w′ x h of-whom forms enough .1) ∙ next-after key (length slots)) z
 
     -- "following it gives the list, as pages do": calls that follow each other, each lent at least one slot, store a first part of the pairs after the first key. No more follow exactly if these are all.
+    -- [MP7]
     pub follow-list : {n : ℕ} {key : Key} {l : List Pair} {more : Bool} → Fair key (a .threshold) big → Follow a o P Q big n key l more
         → (l ≡ take (length l) (after key Sized)) × ((more ≡ false) ↔ (l ≡ after key Sized))
     follow-list h (calls key slots w r slots′ w′ some enough x) =
@@ -315,16 +317,16 @@ module _ (P Q : List ℤ) (p-opens : WellFormed P) (q-opens : WellFormed Q) (a :
         let y : Left key (length slots) l more = later-told key slots w r slots′ w′ x h enough l more (follow-list (later-fair key slots w r slots′ w′ x h enough) f) in
         (joined (take (r .count) slots′) l (after key Sized) (length slots) (g .1) (y .0), joined-all (take (r .count) slots′) l (after key Sized) (length slots) (g .1) more (y .1))
 
-    -- Whoever follows them to the end has exactly the pairs that are asked for.
+    -- Whoever follows them to the end has exactly the pairs that are asked for. [MP7]
     pub follow-exact : {n : ℕ} {key : Key} {l : List Pair} → Fair key (a .threshold) big → Follow a o P Q big n key l false → (v : Pair) → List·Memᴰ v l ↔ Asked key v
     follow-exact {key = key} h f v = subst (λ (x : List Pair). List·Memᴰ v x ↔ Asked key v) (sym (follow-list h f .1 .0 refl)) (pairs-exact key v)
 
-    -- From the start, to the greatest size, it is the list of the terms, each pair once.
+    -- From the start, to the greatest size, it is the list of the terms, each pair once. [MP3, MP7]
     pub follow-whole : {n : ℕ} {l : List Pair} → a .threshold ≤ lastThreshold → big ≡ lastLargest → Follow a o P Q big n start l false → l ≡ listFor a o (pointsOf P) (pointsOf Q)
     follow-whole t e f =
         follow-list (record { q-in = omega arith; p-in = omega arith; fair = t; fits = omega (arith, e) }) f .1 .0 refl ∙ after-all start Sized sized-ascends ∙ pairs-whole e forms
 
-    -- It does not go on for ever: as long as more follow, each call has stored a pair at least.
+    -- It does not go on for ever: as long as more follow, each call has stored a pair at least. [MP7]
     pub follow-ends : {n : ℕ} {key : Key} {l : List Pair} {more : Bool} → Fair key (a .threshold) big → Follow a o P Q big n key l more → more ≡ true → n ≤ length l
     follow-ends h (calls key slots w r slots′ w′ some enough x) e =
         let g = pairs-given key slots w r slots′ w′ x h of-whom forms enough in
@@ -346,7 +348,7 @@ module _ (P Q : List ℤ) (p-opens : WellFormed P) (q-opens : WellFormed Q) (a :
   -- ---- how many there are
 
   module _ (w : List ℕ) (r : Counted) (w′ : List ℕ) (answers : NumberAnswers a o P Q big w r w′) (fair : a .threshold ≤ lastThreshold) (fits : big ≤ lastLargest) (of-whom : Whose (a .contractor) o (points Q)) (forms : gridNo (a .grid) P Q ≡ 0) (enough : need P ≤ length w) where
-    -- "the number of pairs of such a list": of all of them, from the start
+    -- "the number of pairs of such a list": of all of them, from the start [MP8, MP10]
     pub count-tells : (r .number ≡ 0) × (r .count ≡ length Sized) × (r .count ≡ length (after start Sized))
     unfolding countNo ownCountNo thresholdNo largestNo first given countAnswer ownCountAnswer countGiven
     count-tells =
@@ -363,7 +365,7 @@ module _ (P Q : List ℤ) (p-opens : WellFormed P) (q-opens : WellFormed Q) (a :
             let is = x .4 .promised .0 ∙ answer-given (countGiven big (aloneBy (a .grid)) [] P P) countRefused (ownCountNo P big (a .grid) (length w)) nr in
             (ap (λ (c : Counted). c .number) is, ap (λ (c : Counted). c .count) is ∙ ap₂ (λ (R : List ℤ) (b : List ℕ). length (listTo big (aloneBy (a .grid)) b (pointsOf P) (pointsOf R))) (x .0) (sym (x .3)) ∙ ap (λ (b : Terms). length (listTo big b o (pointsOf P) (pointsOf Q))) (λ i. record { threshold = sym (x .1) i; contractor = sym (x .2) i; own = sym e i; grid = a .grid }))
 
-    -- "so that a caller can lend enough": whoever lends so many slots gets all pairs from the start, in all of them, and nothing follows
+    -- "so that a caller can lend enough": whoever lends so many slots gets all pairs from the start, in all of them, and nothing follows [MP8]
     pub count-enough : (slots : List Pair) → length slots ≡ r .count → (v : List ℕ) → need P ≤ length v → (m : Many) (slots′ : List Pair) (v′ : List ℕ) → ManyAnswers a o P Q start big slots v m slots′ v′
         → (m .count ≡ r .count) × (take (m .count) slots′ ≡ Sized) × (m .more ≡ false)
     count-enough slots long v lent m slots′ v′ x =
@@ -380,7 +382,7 @@ module _ (P Q : List ℤ) (p-opens : WellFormed P) (q-opens : WellFormed Q) (a :
         ends true e ne = absurd (ne e)
         ends false e ne = e
 
--- "It depends on the points alone": whatever the forms, the editions, the orders and the trees of two pairs of sheets; of any terms.
+-- "It depends on the points alone": whatever the forms, the editions, the orders and the trees of two pairs of sheets; of any terms. [MP10]
 pub pairs-by-points : (P P′ Q Q′ : List ℤ) → WellFormed P → WellFormed P′ → WellFormed Q → WellFormed Q′ → pointsOf P ≡ pointsOf P′ → pointsOf Q ≡ pointsOf Q′ → (a : Terms) (o : List ℕ) (big : ℕ) (key : Key) (slots : List Pair)
     (w : List ℕ) (r : Many) (slots′ : List Pair) (w′ : List ℕ) → ManyAnswers a o P Q key big slots w r slots′ w′ → (v : List ℕ) (m : Many) (slots″ : List Pair) (v′ : List ℕ) → ManyAnswers a o P′ Q′ key big slots v m slots″ v′
     → r .number ≡ 0 → m .number ≡ 0 → (r ≡ m) × (slots′ ≡ slots″)
@@ -392,9 +394,11 @@ pairs-by-points P P′ Q Q′ p p′ q q′ ep eq a o big key slots w r slots′
 
 -- ---- the self join of one sheet: its calls answer as those of its terms, of the sheet in both places, so all that is said above holds of them
 
+-- [MP9]
 pub own-many : (S : List ℤ) (key : Key) (big : ℕ) (g : Bool) (slots : List Pair) (w : List ℕ) (r : Many) (slots′ : List Pair) (w′ : List ℕ) → OwnPairsAnswers S key big g slots w r slots′ w′
     → ManyAnswers (aloneBy g) [] S S key big slots w r slots′ w′
 own-many S key big g slots w r slots′ w′ x = (refl, refl, refl, refl, x)
 
+-- [MP9]
 pub own-number-of : (S : List ℤ) (big : ℕ) (g : Bool) (w : List ℕ) (r : Counted) (w′ : List ℕ) → OwnCountAnswers S big g w r w′ → NumberAnswers (aloneBy g) [] S S big w r w′
 own-number-of S big g w r w′ x = (refl, refl, refl, refl, x)

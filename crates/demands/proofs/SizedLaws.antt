@@ -133,6 +133,7 @@ module _ (big : ℕ) (a : Terms) (o : List ℕ) (P Q : List Point) (rp : Rising 
       same true false s t e = refl
       same false p s t e = refl
 
+  -- [MP2]
   pub sized-iff : (v : Pair) → List·Memᴰ v (listTo big a o P Q)
       ↔ (List·Memᴰ v (atMost big (listFor (anyNumber a) o P Q)) × (a .threshold ≤ length (chamberPairs (v .q) (atMost big (listFor (anyNumber a) o P Q)))))
   unfolding listTo
@@ -142,7 +143,7 @@ module _ (big : ℕ) (a : Terms) (o : List ℕ) (P Q : List Point) (rp : Rising 
       subst (λ (l : List Pair). List·Memᴰ v (listTo big a o P Q) ↔ (List·Memᴰ v l × (a .threshold ≤ length (chamberPairs (v .q) l)))) own-list
       (λ m. z .0 (subst (List·Memᴰ v) e m), λ x. subst (List·Memᴰ v) (sym e) (z .1 x))
 
--- "What one contractor is handed may not depend on the ids of the other's chambers"
+-- "What one contractor is handed may not depend on the ids of the other's chambers" [MP11]
 pub sized-blind : (c : ℕ) (Q : List Point) (o : List ℕ) (Q′ : List Point) (o′ : List ℕ) → Renamed c Q o Q′ o′ → c < 2 → (big : ℕ) (a : Terms) → a .contractor ≡ c → (P : List Point)
     → Rising (idAt P) (length P) → Rising (idAt Q) (length Q) → Rising (idAt Q′) (length Q′) → listTo big a o P Q ≡ listTo big a o′ P Q′
 sized-blind c Q o Q′ o′ r one big a is P rp rq rq′ =

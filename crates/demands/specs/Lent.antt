@@ -28,7 +28,7 @@ pub data Filters : List ℤ → List ℕ → ℕ → List ℕ → List ℕ → T
   filters-walk : (P Q : List ℤ) (j : ℕ) (w : List ℕ) (r : Filtered) (w′ : List ℕ) → FilterAnswers P Q j w r w′ → Filters P (keptFor P Q j .bits) (r .number) w w′
   filters-near : (P Q : List ℤ) (id : ℕ) (ws w : List ℕ) (r : Filtered) (ws′ w′ : List ℕ) → NearFilterAnswers P Q id ws w r ws′ w′ → Filters P (nearKeptFor P Q id .bits) (r .number) w w′
 
--- An answer of any other call that is lent words: how many it needs, the number of the answer, the words lent and those at its exit.
+-- An answer of any other call that is lent words: how many it needs, the number of the answer, the words lent and those at its exit. [MP12]
 pub data Works : ℕ → ℕ → List ℕ → List ℕ → Type 0 where
   works-page : (P Q : List ℤ) (o : List ℕ) (ask : Request) (w : List ℕ) (r : Paged) (w′ : List ℕ) → PageAnswers P Q o ask w r w′ → Works (need P) (r .number) w w′
   works-own : (S : List ℤ) (key : Key) (size : ℕ) (g : Bool) (w : List ℕ) (r : Paged) (w′ : List ℕ) → OwnAnswers S key size g w r w′ → Works (need S) (r .number) w w′

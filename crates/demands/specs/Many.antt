@@ -13,17 +13,17 @@ use Rattle.ring.specs.Lent.{need}
 use Rattle.many.specs.declared.Many.{Many}
 use Rattle.demands.specs.Promises.{ManyAnswers}
 
--- the pairs of a list "whose size is at most `largest`"
+-- the pairs of a list "whose size is at most `largest`" [MP1]
 unfoldable pub atMost : ℕ → List Pair → List Pair
 atMost big [] = []
 atMost big (v ∷ l) = cond (leb (v .size) big) (v ∷ atMost big l) (atMost big l)
 
--- the same terms, of all chambers, however many pairs they have
+-- the same terms, of all chambers, however many pairs they have [MP1]
 abbrev pub anyNumber : Terms → Terms
 anyNumber a = record { threshold = 0; contractor = a .contractor; own = a .own; grid = a .grid }
 
 -- So many calls for the pairs of a list that follow each other, from a key on: each is lent at least one slot and as many words as are needed, and the key of each next one is that of the last pair that was
--- stored, or is not moved where none was. With them the pairs that they stored, put together, and whether the last of them said that more follow.
+-- stored, or is not moved where none was. With them the pairs that they stored, put together, and whether the last of them said that more follow. [MP7]
 pub data Follow (a : Terms) (o : List ℕ) (P Q : List ℤ) (big : ℕ) : ℕ → Key → List Pair → Bool → Type 0 where
   calls : (key : Key) (slots : List Pair) (w : List ℕ) (r : Many) (slots′ : List Pair) (w′ : List ℕ) → 1 ≤ length slots → need P ≤ length w → ManyAnswers a o P Q key big slots w r slots′ w′
       → Follow a o P Q big 1 key (take (r .count) slots′) (r .more)

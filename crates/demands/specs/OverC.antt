@@ -160,7 +160,7 @@ pub record NearFilterC (P Q : List ℤ) (id : ℕ) (waiting bits : List ℕ) (r 
       r
       (slice p-at P, (slice q-at Q, (id, (slice w-at waiting′, (slice b-at bits′, tt)))))
 
--- `ring_count(P, Q, o, which, bits)` answers r, and the lent words are `bits′` at its exit [C1, D8]
+-- `ring_count(P, Q, o, which, bits)` answers r, and the lent words are `bits′` at its exit
 pub record CountC (P Q : List ℤ) (o : List ℕ) (which : Which) (bits : List ℕ) (r : Counted) (bits′ : List ℕ) : Type 0 where
   pub κs : Lfts 4
   pub p-at : Place
@@ -172,7 +172,7 @@ pub record CountC (P Q : List ℤ) (o : List ℕ) (which : Which) (bits : List �
       r
       (slice p-at P, (slice q-at Q, (slice o-at o, (which, (slice b-at bits′, tt)))))
 
--- `ring_own_count(S, big, grid, bits)` answers r, and the lent words are `bits′` at its exit [C1, D8]
+-- `ring_own_count(S, big, grid, bits)` answers r, and the lent words are `bits′` at its exit
 pub record OwnCountC (S : List ℤ) (big : ℕ) (g : Bool) (bits : List ℕ) (r : Counted) (bits′ : List ℕ) : Type 0 where
   pub κs : Lfts 2
   pub w-at : Place

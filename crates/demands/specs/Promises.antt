@@ -301,17 +301,17 @@ pub record RunArrayAnswers (P Q : List ℤ) (leaf : ℕ) (slots : List Pair) (le
 
 -- ---- many pairs at once
 
--- `many::pairs::pairs(P, Q, o, ask, slots, bits)` answers r, and at its exit the slots are `slots′`, the lent words `bits′` [D8]
+-- `many::pairs::pairs(P, Q, o, ask, slots, bits)` answers r, and at its exit the slots are `slots′`, the lent words `bits′` [MP11]
 abbrev pub PairsAnswers : List ℤ → List ℤ → List ℕ → Wanted → List Pair → List ℕ → Many → List Pair → List ℕ → Type 0
 PairsAnswers P Q o ask slots bits r slots′ bits′ =
     (r ≡ pairsAnswer P Q o ask (length slots) (length bits)) × (slots′ ≡ pairsSlots P Q o ask slots (length bits)) × (bits′ ≡ pairsBits P Q o ask bits)
 
--- `many::pairs::own_pairs(S, key, big, grid, slots, bits)` answers r, and at its exit the slots are `slots′`, the lent words `bits′` [D8]
+-- `many::pairs::own_pairs(S, key, big, grid, slots, bits)` answers r, and at its exit the slots are `slots′`, the lent words `bits′`
 abbrev pub OwnPairsAnswers : List ℤ → Key → ℕ → Bool → List Pair → List ℕ → Many → List Pair → List ℕ → Type 0
 OwnPairsAnswers S key big g slots bits r slots′ bits′ =
     (r ≡ ownPairsAnswer S key big g (length slots) (length bits)) × (slots′ ≡ ownPairsSlots S key big g slots (length bits)) × (bits′ ≡ ownPairsBits S key big g bits)
 
--- `many::count::count(P, Q, o, which, bits)` answers r, and the lent words are `bits′` at its exit [D8]
+-- `many::count::count(P, Q, o, which, bits)` answers r, and the lent words are `bits′` at its exit [MP11]
 pub record CountAnswers (P Q : List ℤ) (o : List ℕ) (which : Which) (bits : List ℕ) (r : Counted) (bits′ : List ℕ) : Type 0 where
   pub κs : Lfts 4
   pub p-at : Place
@@ -323,7 +323,7 @@ pub record CountAnswers (P Q : List ℤ) (o : List ℕ) (which : Which) (bits : 
       r
       (slice p-at P, (slice q-at Q, (slice o-at o, (which, (slice b-at bits′, tt)))))
 
--- `many::count::own_count(S, big, grid, bits)` answers r, and the lent words are `bits′` at its exit [D8]
+-- `many::count::own_count(S, big, grid, bits)` answers r, and the lent words are `bits′` at its exit
 pub record OwnCountAnswers (S : List ℤ) (big : ℕ) (g : Bool) (bits : List ℕ) (r : Counted) (bits′ : List ℕ) : Type 0 where
   pub κs : Lfts 2
   pub w-at : Place
@@ -338,7 +338,7 @@ abbrev pub whichOf : Terms → ℕ → Which
 whichOf a big = record { largest = big; threshold = a .threshold; contractor = a .contractor; grid = a .grid }
 
 -- An answer of the call for many pairs of these terms, as `TermsAnswers` of the page request: of two sheets, or of a self join, which is of the one sheet in both places, has no t, and is undivided,
--- with no bytes.
+-- with no bytes. [MP9]
 abbrev pub ManyOfKind : Bool → Terms → List ℕ → List ℤ → List ℤ → Key → ℕ → List Pair → List ℕ → Many → List Pair → List ℕ → Type 0
 ManyOfKind false a o P Q key big slots bits r slots′ bits′ = PairsAnswers P Q o (wantedOf a key big) slots bits r slots′ bits′
 ManyOfKind true a o P Q key big slots bits r slots′ bits′ = (P ≡ Q) × (a .threshold ≡ 0) × (a .contractor ≡ 2) × (o ≡ []) × OwnPairsAnswers P key big (a .grid) slots bits r slots′ bits′
@@ -346,7 +346,7 @@ ManyOfKind true a o P Q key big slots bits r slots′ bits′ = (P ≡ Q) × (a 
 abbrev pub ManyAnswers : Terms → List ℕ → List ℤ → List ℤ → Key → ℕ → List Pair → List ℕ → Many → List Pair → List ℕ → Type 0
 ManyAnswers a o P Q key big slots bits r slots′ bits′ = ManyOfKind (a .own) a o P Q key big slots bits r slots′ bits′
 
--- and one of the call for their number
+-- and one of the call for their number [MP9]
 abbrev pub CountOfKind : Bool → Terms → List ℕ → List ℤ → List ℤ → ℕ → List ℕ → Counted → List ℕ → Type 0
 CountOfKind false a o P Q big bits r bits′ = CountAnswers P Q o (whichOf a big) bits r bits′
 CountOfKind true a o P Q big bits r bits′ = (P ≡ Q) × (a .threshold ≡ 0) × (a .contractor ≡ 2) × (o ≡ []) × OwnCountAnswers P big (a .grid) bits r bits′

@@ -52,7 +52,7 @@ sized big t = listTo big (withT t) [] pumps chambers
 
 -- ---- which pairs
 
--- From the key on. "those pairs strictly after the key".
+-- From the key on. "those pairs strictly after the key". [MP1, MP7]
 abbrev fromKey : Key → List Pair → List Pair
 fromKey k l = those (λ v. not (follows (keyOf v) k)) l
 
@@ -61,7 +61,7 @@ pub pairs-from-key-wrong :
 unfolding pairsList after follows listTo listedTo smallFor atLeast listBy rows row pairFor ringPairBy unblocked allB sameSpot blocks pointsOf tab spotOf num
 pairs-from-key-wrong = (refl, refl)
 
--- Below the largest size. "whose size is at most `largest`".
+-- Below the largest size. "whose size is at most `largest`". [MP1]
 abbrev below : ℕ → List Pair
 below big = those (λ v. ltb (v .size) big) (listFor full [] pumps chambers)
 
@@ -69,7 +69,7 @@ pub below-largest-wrong : (below 36 ≡ to 5 1 16 ∷ []) × (sized 36 0 ≡ to 
 unfolding listTo listedTo smallFor atLeast listBy rows row listFor listedFor pairFor ringPairBy unblocked allB sameSpot blocks
 below-largest-wrong = (refl, refl)
 
--- The threshold counts pairs of all sizes. "with t above 0 the chambers that have at least t such pairs": chamber 5 has two pairs, and one of size 16 at most.
+-- The threshold counts pairs of all sizes. "with t above 0 the chambers that have at least t such pairs": chamber 5 has two pairs, and one of size 16 at most. [MP2]
 abbrev ofAllSizes : ℕ → ℕ → List Pair
 ofAllSizes big t = those (λ v. leb (v .size) big) (listFor (withT t) [] pumps chambers)
 
@@ -77,7 +77,7 @@ pub all-sizes-wrong : (ofAllSizes 16 2 ≡ to 5 1 16 ∷ []) × (sized 16 2 ≡ 
 unfolding listTo listedTo smallFor atLeast listBy rows row listFor listedFor pairFor ringPairBy unblocked allB sameSpot blocks
 all-sizes-wrong = (refl, refl)
 
--- The threshold counts the pairs after the key alone. "at least t such pairs, whatever the key": chamber 5 has two, and one after (5, 1).
+-- The threshold counts the pairs after the key alone. "at least t such pairs, whatever the key": chamber 5 has two, and one after (5, 1). [MP2]
 abbrev countedLate : Key → ℕ → ℕ → List Pair
 countedLate k big t = those (λ v. leb t (length (chamberPairs (v .q) (after k (sized big 0))))) (after k (sized big 0))
 
@@ -85,7 +85,7 @@ pub counted-late-wrong : (countedLate (key 5 1) lastLargest 2 ≡ []) × (pairsL
 unfolding pairsList after follows chamberPairs listTo listedTo smallFor atLeast listBy rows row pairFor ringPairBy unblocked allB sameSpot blocks pointsOf tab spotOf num
 counted-late-wrong = (refl, refl)
 
--- The chambers of both contractors. "of the list of these terms (t, contractor, profile)": the first chamber is contractor 0's, the second 1's.
+-- The chambers of both contractors. "of the list of these terms (t, contractor, profile)": the first chamber is contractor 0's, the second 1's. [MP1]
 abbrev ofBoth : ℕ → List ℕ → List Pair
 ofBoth c o = listTo lastLargest full o pumps chambers
 
@@ -93,7 +93,7 @@ pub of-both-wrong : (ofBoth 0 (0 ∷ 1 ∷ []) ≡ to 5 1 16 ∷ to 5 2 36 ∷ t
 unfolding listTo listedTo smallFor atLeast listBy rows row pairFor ringPairBy unblocked allB sameSpot blocks
 of-both-wrong = (refl, refl)
 
--- A self join has each pair both ways, and each record with itself. "`own_pairs` likewise for a self join", "lower id first".
+-- A self join has each pair both ways, and each record with itself. "`own_pairs` likewise for a self join", "lower id first". [MP9]
 abbrev bothWays : List Point → List Pair
 bothWays S = listTo lastLargest full [] S S
 
@@ -103,7 +103,7 @@ pairs-both-ways-wrong = (refl, refl)
 
 -- ---- what is stored and said
 
--- More follow where the slots are full. "whether more follow": three slots hold the last three pairs.
+-- More follow where the slots are full. "whether more follow": three slots hold the last three pairs. [MP6]
 abbrev fullSlots : ℕ → List Pair → Bool
 fullSlots len l = eqb (length (take len l)) len
 
@@ -111,7 +111,7 @@ pub more-where-full-wrong : (fullSlots 3 (to 5 1 16 ∷ to 5 2 36 ∷ to 6 2 37 
 unfolding manyGiven isNone
 more-where-full-wrong = (refl, refl)
 
--- With no slots nothing is said to follow. "with no slots: 0, and whether any follow".
+-- With no slots nothing is said to follow. "with no slots: 0, and whether any follow". [MP6]
 abbrev someStored : ℕ → List Pair → Bool
 someStored len l = not (isNone (take len l)) && not (isNone (drop len l))
 
@@ -119,7 +119,7 @@ pub no-slots-wrong : (someStored 0 (to 5 1 16 ∷ []) ≡ false) × (manyGiven 0
 unfolding manyGiven isNone
 no-slots-wrong = (refl, refl, refl)
 
--- The rest of the slots is cleared, as the unused pairs of a page are. "the rest of the slots untouched".
+-- The rest of the slots is cleared, as the unused pairs of a page are. "the rest of the slots untouched". [MP5]
 abbrev restCleared : List Pair → List Pair → List Pair
 restCleared slots l = take (length slots) l ++ replicate (length slots - length (take (length slots) l)) none
 
@@ -129,7 +129,7 @@ rest-cleared-wrong = (refl, refl)
 
 -- ---- numbers of refusal
 
--- The greatest size is refused. "8*10^18 means all".
+-- The greatest size is refused. "8*10^18 means all". [MP3, MP14]
 abbrev boundBelow : ℕ → ℕ
 boundBelow big = given (not (ltb big lastLargest)) 40
 
@@ -137,7 +137,7 @@ pub bound-below-wrong : (boundBelow lastLargest ≡ 40) × (largestNo lastLarges
 unfolding largestNo given
 bound-below-wrong = (refl, refl)
 
--- 24 before 40. "a number of our own for `largest` [..], 24": of a larger size and no words it is 40.
+-- 24 before 40. "a number of our own for `largest` [..], 24": of a larger size and no words it is 40. [MP12, MP13]
 abbrev bitsFirst : List ℤ → ℕ → ℕ → ℕ
 bitsFirst P big len = first (bitsNo (need P) len ∷ largestNo big ∷ [])
 
@@ -151,7 +151,7 @@ bits-before-largest-wrong = (refl, refl, refl, refl)
 abbrev which : Which
 which = record { largest = lastLargest; threshold = 0; contractor = 2; grid = false }
 
--- Their number is refused by 9 for a key, as the pairs are. "its numbers those of `pairs` without 9": there is no key in what is asked.
+-- Their number is refused by 9 for a key, as the pairs are. "its numbers those of `pairs` without 9": there is no key in what is asked. [MP13]
 abbrev keyed : List ℤ → List ℤ → Key → Which → ℕ → ℕ
 keyed P Q k a len = pairsNo P Q [] (record { key = k; largest = a .largest; threshold = a .threshold; contractor = a .contractor; grid = a .grid }) len
 
@@ -159,7 +159,7 @@ pub count-keyed-wrong : (keyed pumpSheet chamberSheet (key 2000000001 0) which 1
 unfolding pairsNo countNo largestNo gridNo contractorNo ownersNo keyNo thresholdNo bitsNo wordsFor openNo bodyNo trailerNo first given countsOk within editionWord layoutOk rootWord pointsOk pointOk fieldsOk risesOk idWord coordWord before orderOk placeOk isBelow rankOf orderOf nodesOk tableOk nodeOk nodeRule runOk endOk isLast sameLevel dueOf dueNext tightOk tightSide best better minZ maxZ coordOf sideOf levelOf firstOf countOf eqZ num allB limitsOf form1
 count-keyed-wrong = (refl, refl)
 
--- The chambers are counted, not their pairs. "the number of pairs of such a list".
+-- The chambers are counted, not their pairs. "the number of pairs of such a list". [MP8]
 abbrev chambersOf : List Pair → List ℕ
 chambersOf [] = []
 chambersOf (v ∷ l) = cond (isNone (chamberPairs (v .q) l)) (v .q ∷ chambersOf l) (chambersOf l)
@@ -168,7 +168,7 @@ pub chambers-counted-wrong : (length (chambersOf (sized lastLargest 0)) ≡ 2) �
 unfolding countGiven chamberPairs isNone listTo listedTo smallFor atLeast listBy rows row pairFor ringPairBy unblocked allB sameSpot blocks pointsOf tab spotOf num
 chambers-counted-wrong = (refl, refl)
 
--- The number of a self join is that of two sheets that are one. "of a self join": each pair once.
+-- The number of a self join is that of two sheets that are one. "of a self join": each pair once. [MP9]
 pub count-both-ways-wrong : (countGiven lastLargest full [] pumpSheet pumpSheet .count ≡ 4) × (countGiven lastLargest alone [] pumpSheet pumpSheet .count ≡ 1)
 unfolding countGiven listTo listedTo smallFor atLeast listBy rows row pairFor ringPairBy unblocked allB sameSpot blocks pointsOf tab spotOf num
 count-both-ways-wrong = (refl, refl)
