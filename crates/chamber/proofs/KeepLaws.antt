@@ -1,7 +1,7 @@
 -- A chamber's candidates, judged one after the other: those that stay are its pairs.
 -- Assumes nothing.
 use mathlib.Core.Path.{_≡_, refl, sym, ap, ap₂, subst, _∙_}
-use mathlib.Core.Bool.{Bool, true, false, cond, not, _&&_, _||_}
+use mathlib.Core.Bool.{Bool, true, false, not, _&&_, _||_}
 use mathlib.Core.Logic.{_⊎_, ⊎-elim}
 use mathlib.Core.List.{List, [], _∷_}
 use Prim.Native.Nat.{ℕ, zero, suc, _+_, _-_, _*_, _≤_, _<_}
@@ -10,7 +10,6 @@ use native.Mathlib.Decide.{ℕ-discrete}
 use lib.Dec.{leb, ltb}
 use lib.IntN.{ℤ, pos, negsuc}
 use lib.ListN.{length}
-use lib.Signed.{leZ}
 use borrow.Author.Tests.{ltb-true, ltb-false, lt-ltb, le-ltb, leb-true}
 use Rattle.integers.proofs.Bools.{and-left, and-right, decide, clash, test-iff, failed, passed}
 use Rattle.plane.specs.declared.Spot.{Spot}
@@ -23,7 +22,7 @@ use Rattle.sheet.specs.Open.{Opens}
 use Rattle.sheet.specs.Places.{spotOf, pointsOf}
 use Rattle.sheet.proofs.SheetLaws.{by-counts}
 use Rattle.sheet.proofs.RangeLaws.{spot-in}
-use Rattle.sheet.proofs.PointsLaws.{spot-of, id-of}
+use Rattle.sheet.proofs.PointsLaws.{spot-of}
 use Rattle.bits.specs.Set.{kept, without, nextFrom}
 use Rattle.bits.proofs.SetLaws.{without-length, gone-same, gone-other}
 use Rattle.bits.proofs.NextLaws.{from-skip}
@@ -90,8 +89,8 @@ module _ (t : Terms) (P Q : List ℤ) (a : Spot) where
   right-same known at c r b s e h = r .is (and-left known s h) ∙ ap (freeOf t P Q a) (same-place at b (sym e ∙ and-right known s h))
 
 -- the chamber stands in range
-pub chamber-in : (Q : List ℤ) (n m : ℕ) → Opens Q n m → (j : ℕ) → j < n → (a : Spot) → a ≡ spotAt (pointsOf Q) j → SpotIn a
-chamber-in Q n m o j h a e = subst SpotIn (sym (e ∙ spot-of Q j (omega (arith, o .n-is)))) (spot-in o j h)
+pub chamber-spot-in : (Q : List ℤ) (n m : ℕ) → Opens Q n m → (j : ℕ) → j < n → (a : Spot) → a ≡ spotAt (pointsOf Q) j → SpotIn a
+chamber-spot-in Q n m o j h a e = subst SpotIn (sym (e ∙ spot-of Q j (omega (arith, o .n-is)))) (spot-in o j h)
 
 -- ---- whether a pair is asked for
 
@@ -175,8 +174,8 @@ module _ (rule : ℕ → ℕ → Bool) (pair : ℕ → ℕ → Pair) where
   pub rest-no : (j n i : ℕ) → i < n → rule j i ≡ false → rest j n i ≡ rest j n (i + 1)
   rest-no j n i h e = let s : n - i ≡ suc (n - (i + 1)) = omega arith in ap (λ (k : ℕ). row rule pair j k i) s ∙ row-no j (n - (i + 1)) i e
 
-  pub rest-end : (j n i : ℕ) → n ≤ i → rest j n i ≡ []
-  rest-end j n i h = let s : n - i ≡ 0 = omega arith in ap (λ (k : ℕ). row rule pair j k i) s ∙ row-nil j i
+  pub chamber-rest-end : (j n i : ℕ) → n ≤ i → rest j n i ≡ []
+  chamber-rest-end j n i h = let s : n - i ≡ 0 = omega arith in ap (λ (k : ℕ). row rule pair j k i) s ∙ row-nil j i
 
   -- on to the next kept position nothing of it is passed over
   pub rest-skip : (j n : ℕ) (ws : List ℕ) → ((y : ℕ) → y < n → rule j y ≡ true → kept ws y ≡ true) → (x u : ℕ) → u ≡ nextFrom ws x → rest j n x ≡ rest j n u
@@ -186,7 +185,7 @@ module _ (rule : ℕ → ℕ → Bool) (pair : ℕ → ℕ → Pair) where
       go y f t =
           ⊎-elim
           (λ (a : ltb y n ≡ true). rest-no j n y (ltb-true y n a) (⊎-elim (λ (x : rule j y ≡ true). clash (sure y (ltb-true y n a) x) f) (λ (x : rule j y ≡ false). x) (decide (rule j y))))
-          (λ (a : ltb y n ≡ false). let l = ltb-false y n a in rest-end j n y l ∙ sym (rest-end j n (y + 1) (omega arith)))
+          (λ (a : ltb y n ≡ false). let l = ltb-false y n a in chamber-rest-end j n y l ∙ sym (chamber-rest-end j n (y + 1) (omega arith)))
           t
 
   module _ (j n : ℕ) where
@@ -206,8 +205,8 @@ module _ (rule : ℕ → ℕ → Bool) (pair : ℕ → ℕ → Pair) where
           left = omega (arith, s .left, ap length (rest-skip j n b (s .sure) x u e));
         }
 
-    pub keep-start : (b : List ℕ) (u : ℕ) → ((y : ℕ) → y < n → rule j y ≡ true → kept b y ≡ true) → u ≡ nextFrom b 0 → Keeping b b 0 u
-    keep-start b u sure e =
+    pub chamber-keep-start : (b : List ℕ) (u : ℕ) → ((y : ℕ) → y < n → rule j y ≡ true → kept b y ≡ true) → u ≡ nextFrom b 0 → Keeping b b 0 u
+    chamber-keep-start b u sure e =
         let z : n - 0 ≡ n = omega arith in
         keep-next b b 0 0 u e (record { long = refl; sure = sure; settled = λ y h l k. absurd (omega arith); left = omega (arith, ap (λ (k : ℕ). length (row rule pair j k 0)) z) })
 
@@ -245,12 +244,12 @@ module _ (rule : ℕ → ℕ → Bool) (pair : ℕ → ℕ → Pair) where
           go y l m k (yes z) = clash k (ap (kept (without b i)) z ∙ gone-same b i fits)
           go y l m k (no z) = s .settled y (omega arith) m (sym (gone-other b i y fits z) ∙ k)
 
-    pub keep-few : (b₀ b : List ℕ) (count i : ℕ) → Keeping b₀ b count i → count ≤ n
-    keep-few b₀ b count i s = omega (arith, s .left, row-short j n 0)
+    pub chamber-keep-few : (b₀ b : List ℕ) (count i : ℕ) → Keeping b₀ b count i → count ≤ n
+    chamber-keep-few b₀ b count i s = omega (arith, s .left, row-short j n 0)
 
     pub keep-end : (b₀ b : List ℕ) (count i : ℕ) → n ≤ i → Keeping b₀ b count i → PairsOn rule pair j n b count
     keep-end b₀ b count i h s =
         record {
           held = λ y l. test-iff _ _ (s .settled y (omega arith) l) (s .sure y l);
-          counted = omega (arith, s .left, ap length (rest-end j n i h));
+          counted = omega (arith, s .left, ap length (chamber-rest-end j n i h));
         }

@@ -1,19 +1,16 @@
 -- Chambers of a list one after the other: what a chamber adds to it, and what is left of it.
 -- Assumes nothing.
 use mathlib.Core.Path.{_≡_, refl, sym, ap, subst, _∙_}
-use mathlib.Core.Bool.{Bool, true, false, cond, not, _&&_}
-use mathlib.Core.Logic.{⊎-elim}
-use mathlib.Core.List.{List, [], _∷_, _++_}
+use mathlib.Core.Bool.{Bool, true, false, not, _&&_}
+use mathlib.Core.List.{List, [], _++_}
 use Prim.Native.Nat.{ℕ, zero, suc, _+_, _-_, _*_, _≤_, _<_}
 use native.Mathlib.Omega.{arith}
 use native.Mathlib.Nat.{mul-le-mul}
-use lib.Dec.{leb, ltb}
 use lib.IntN.{ℤ}
 use lib.ListN.{length, length-append}
 use borrow.Author.Tests.{le-leb, lt-leb}
-use Rattle.integers.proofs.Bools.{failed, passed, decide}
+use Rattle.integers.proofs.Bools.{failed, passed}
 use Rattle.plane.specs.Point.{Point}
-use Rattle.sheet.specs.Layout.{points}
 use Rattle.sheet.specs.Places.{pointsOf}
 use Rattle.sheet.specs.Open.{Opens}
 use Rattle.sheet.proofs.PointsLaws.{length-points}
@@ -109,8 +106,8 @@ module _ (rule : ℕ → ℕ → Bool) (pair : ℕ → ℕ → Pair) (np nq : �
     pub most : j ≤ nq
     pub left : total + length (rows rule pair np (nq - j) j) ≡ length (rows rule pair np nq 0)
 
-  pub count-start : Counting 0 0
-  count-start = let z : nq - 0 ≡ nq = omega arith in record { most = omega arith; left = omega (arith, ap (λ (k : ℕ). length (rows rule pair np k 0)) z) }
+  pub chamber-count-start : Counting 0 0
+  chamber-count-start = let z : nq - 0 ≡ nq = omega arith in record { most = omega arith; left = omega (arith, ap (λ (k : ℕ). length (rows rule pair np k 0)) z) }
 
   module _ (total j : ℕ) (s : Counting total j) (h : j < nq) (b : List ℕ) (found : ℕ) (on : ListedOn rule pair j np b found) where
     split : length (rows rule pair np (nq - j) j) ≡ found + length (rows rule pair np (nq - (j + 1)) (j + 1))
@@ -125,9 +122,9 @@ module _ (rule : ℕ → ℕ → Bool) (pair : ℕ → ℕ → Pair) (np nq : �
   pub count-by : (total found wide j : ℕ) → wide ≡ found → Counting (total + found) j → Counting (total + wide) j
   count-by total found wide j e s = subst (λ (x : ℕ). Counting (total + x) j) (sym e) s
 
-  pub count-end : (total j : ℕ) → Counting total j → nq ≤ j → total ≡ length (listBy rule pair np nq)
+  pub chamber-count-end : (total j : ℕ) → Counting total j → nq ≤ j → total ≡ length (listBy rule pair np nq)
   unfolding listBy
-  count-end total j s h = omega (arith, s .left, ap length (rows-end j h))
+  chamber-count-end total j s h = omega (arith, s .left, ap length (rows-end j h))
 
 -- there is room to count
 pub count-fits : (found total wide np : ℕ) {nq : ℕ} → wide ≡ found → total + found ≤ nq * np → np ≤ 60000 → nq ≤ 60000 → total + wide < 18446744073709551616

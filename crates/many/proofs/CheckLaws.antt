@@ -1,17 +1,14 @@
 -- The numbers of the calls, and their answers by them.
 -- Assumes nothing.
 use mathlib.Core.Path.{_≡_, refl, sym, ap, subst, _∙_}
-use mathlib.Core.Bool.{Bool, true, false, not, _&&_}
+use mathlib.Core.Bool.{Bool, false}
 use mathlib.Core.List.{List, [], _∷_, _++_}
-use Prim.Native.Nat.{ℕ, zero, suc, _≤_, _<_}
-use native.Mathlib.Omega.{arith}
-use lib.Dec.{leb, ltb}
+use Prim.Native.Nat.{ℕ, zero, suc, _≤_}
 use lib.IntN.{ℤ}
 use lib.ListN.{length, take, drop}
-use borrow.Author.Tests.{ltb-false, lt-ltb, le-ltb}
+use borrow.Author.Tests.{ltb-false}
 use Rattle.words.specs.First.{given, first, answer}
 use Rattle.words.proofs.FirstLaws.{first-passes, first-stops, first-last, none-applies, given-failed, answer-given, answer-refused}
-use Rattle.words.specs.Range.{lastId}
 use Rattle.sheet.specs.declared.Size.{Size}
 use Rattle.sheet.specs.Layout.{points}
 use Rattle.sheet.specs.Places.{pointsOf}
@@ -28,7 +25,7 @@ use Rattle.ring.specs.Answers.{headOf}
 use Rattle.ring.specs.Lent.{need, bitsNo, wipedBy}
 use Rattle.ring.specs.Numbers.{gridNo}
 use Rattle.ring.specs.Page.{keyNo}
-use Rattle.ring.proofs.HeadLaws.{Headed, headed, head-number}
+use Rattle.ring.proofs.HeadLaws.{headed, head-number}
 use Rattle.ring.proofs.LentLaws.{wiped-refused, wiped-given}
 use Rattle.many.specs.declared.Wanted.{Wanted}
 use Rattle.many.specs.declared.Which.{Which}
@@ -46,10 +43,10 @@ pub first-other : (a b : ℕ) → a ≡ 0 → b ≡ first (a ∷ b ∷ [])
 first-other a b e = sym (first-passes a (b ∷ []) e ∙ first-last b)
 
 -- one more before those whose first is known
-pub first-more : (a c r s : ℕ) (l : List ℕ) → a ≡ c → r ≡ first l → s ≡ first (a ∷ r ∷ []) → s ≡ first (c ∷ l)
+pub many-first-more : (a c r s : ℕ) (l : List ℕ) → a ≡ c → r ≡ first l → s ≡ first (a ∷ r ∷ []) → s ≡ first (c ∷ l)
 unfolding first
-first-more zero c r s l e f g = g ∙ first-last r ∙ f ∙ ap (λ (x : ℕ). first (x ∷ l)) e
-first-more (suc a) c r s l e f g = g ∙ ap (λ (x : ℕ). first (x ∷ l)) e
+many-first-more zero c r s l e f g = g ∙ first-last r ∙ f ∙ ap (λ (x : ℕ). first (x ∷ l)) e
+many-first-more (suc a) c r s l e f g = g ∙ ap (λ (x : ℕ). first (x ∷ l)) e
 
 -- a number that never applies
 pub first-without : (a b : List ℕ) (k : ℕ) → k ≡ 0 → first (a ++ (k ∷ b)) ≡ first (a ++ b)
@@ -109,9 +106,9 @@ count-number P Q o a len =
 -- ---- one sheet
 
 -- its contractor, bytes and threshold are never refused
-pub undivided : contractorNo false 2 ≡ 0
+pub many-undivided : contractorNo false 2 ≡ 0
 unfolding contractorNo given
-undivided = refl
+many-undivided = refl
 
 pub no-bytes : (n : ℕ) → ownersNo 2 [] n ≡ 0
 unfolding ownersNo given
@@ -134,14 +131,14 @@ module _ (S : List ℤ) (key : Key) (big : ℕ) (g : Bool) (len : ℕ) (h : Head
     unfolding ownPairsNo restNo
     own-rest =
         d ∙ ap (λ (k : ℕ). restNo S S [] (h .n) (record { key = key; largest = big; threshold = 0; contractor = 2; grid = g }) k len) own-needed
-        ∙ first-passes (contractorNo false 2) _ undivided
+        ∙ first-passes (contractorNo false 2) _ many-undivided
         ∙ first-passes (ownersNo 2 [] (h .n)) _ (no-bytes (h .n))
         ∙ first-without (gridNo g S S ∷ keyNo key ∷ []) (largestNo big ∷ bitsNo (need S) len ∷ []) (thresholdNo 0) no-threshold
         ∙ sym (first-passes (sheetNo S) _ (headed S h e z .opens))
 
-    pub own-served : r ≡ 0 → (hp hq : Size) → hp ≡ record { n = h .n; m = h .m } → hq ≡ record { n = h .n; m = h .m } → Served S S hp hq w len
+    pub many-own-served : r ≡ 0 → (hp hq : Size) → hp ≡ record { n = h .n; m = h .m } → hq ≡ record { n = h .n; m = h .m } → Served S S hp hq w len
     unfolding restNo
-    own-served x hp hq eh eg =
+    many-own-served x hp hq eh eg =
         record {
           p-opens = subst (λ (s : Size). Opens S (s .n) (s .m)) (sym eh) (headed S h e z .facts);
           q-opens = subst (λ (s : Size). Opens S (s .n) (s .m)) (sym eg) (headed S h e z .facts);
@@ -155,8 +152,8 @@ unfolding ownPairsNo ownCountNo
 own-number S big g len = first-without (sheetNo S ∷ gridNo g S S ∷ []) (largestNo big ∷ bitsNo (need S) len ∷ []) (keyNo start) key-start
 
 -- a self join is of one sheet in both places
-pub of-one : (a : Terms) → a .threshold ≡ 0 → (S : List ℤ) → Alone a S S
-of-one a z S = record { one = λ e. refl; no-t = λ e. z }
+pub many-of-one : (a : Terms) → a .threshold ≡ 0 → (S : List ℤ) → Alone a S S
+many-of-one a z S = record { one = λ e. refl; no-t = λ e. z }
 
 -- ---- answers by their numbers, and the lent words
 

@@ -1,31 +1,29 @@
 -- From one pair of a list to the next: what is left of a chamber, of the list, and the list after a key.
 -- Assumes nothing.
 use mathlib.Core.Path.{_≡_, refl, sym, ap, subst, _∙_}
-use mathlib.Core.Bool.{Bool, true, false, cond, _&&_, _||_}
+use mathlib.Core.Bool.{Bool, true, false, _&&_}
 use mathlib.Core.Logic.{_⊎_, ⊎-elim}
 use mathlib.Core.List.{List, [], _∷_, _++_}
-use Prim.Native.Nat.{ℕ, zero, suc, _+_, _-_, _*_, _≤_, _<_}
+use Prim.Native.Nat.{ℕ, zero, suc, _+_, _-_, _≤_, _<_}
 use native.Mathlib.Omega.{arith}
-use native.Mathlib.Nat.{pos-of-ne-zero}
 use native.Mathlib.Decide.{ℕ-discrete}
-use lib.Dec.{leb, ltb, eqb}
+use lib.Dec.{leb, ltb}
 use lib.ListN.{length}
-use borrow.Author.Tests.{ltb-true, ltb-false, lt-ltb, le-ltb, leb-true, le-leb, ne-eqb}
-use Rattle.integers.proofs.Bools.{and-left, and-right, and-both, decide, clash}
+use borrow.Author.Tests.{ltb-true, ltb-false, leb-true, le-leb}
+use Rattle.integers.proofs.Bools.{and-left, and-right, and-both, decide}
 use Rattle.plane.specs.Point.{Point, idAt}
 use Rattle.plane.specs.Profile.{Profile}
 use Rattle.bits.specs.Set.{kept, nextFrom, Holds}
 use Rattle.bits.proofs.NextLaws.{from-le, from-kept}
 use Rattle.list.specs.declared.Key.{Key}
 use Rattle.list.specs.declared.Pair.{Pair}
-use Rattle.list.specs.Pairs.{keyOf, follows, after}
-use Rattle.list.specs.Rows.{row, rows, listBy}
+use Rattle.list.specs.Pairs.{keyOf, follows}
+use Rattle.list.specs.Rows.{row, rows}
 use Rattle.list.specs.RingList.{pairAt, pairBy}
-use Rattle.list.proofs.Order.{after-append}
 use Rattle.chamber.specs.Chamber.{ListedOn}
 use Rattle.many.specs.Cursor.{lateTo, Early, Seeks, restTo, Entered, leftTo, Holding, Advanced}
-use Rattle.chamber.proofs.KeepLaws.{between, row-yes, row-no, row-nil, rest-yes, rest-no, rest-end}
-use Rattle.chamber.proofs.ListedLaws.{row-empty, rows-next, rows-end}
+use Rattle.chamber.proofs.KeepLaws.{between, row-yes, row-no, row-nil, rest-no, chamber-rest-end}
+use Rattle.chamber.proofs.ListedLaws.{rows-next, rows-end}
 
 -- ---- chambers before the key
 
@@ -89,7 +87,7 @@ module _ (rule : ℕ → ℕ → Bool) (pair : ℕ → ℕ → Pair) (key : Key)
       rest-no late pair j n i (ltb-true i n a) (f i (omega arith) (omega arith) (ltb-true i n a))
       ∙ rest-over j n (i + 1) d (λ y l h m. f y (omega arith) (omega arith) m)
       ∙ ap (λ (x : ℕ). row late pair j (n - x) x) shift)
-      (λ (a : ltb i n ≡ false). let l = ltb-false i n a in rest-end late pair j n i l ∙ sym (rest-end late pair j n (i + suc d) (omega arith)))
+      (λ (a : ltb i n ≡ false). let l = ltb-false i n a in chamber-rest-end late pair j n i l ∙ sym (chamber-rest-end late pair j n (i + suc d) (omega arith)))
       (decide (ltb i n))
 
   row-fewer : (j k i : ℕ) → length (row late pair j k i) ≤ length (row rule pair j k i)
@@ -117,7 +115,7 @@ module _ (rule : ℕ → ℕ → Bool) (pair : ℕ → ℕ → Pair) (key : Key)
   entered-none b j n c z s =
       let e : n - 0 ≡ n = omega arith in
       record {
-        all = ap (λ (k : ℕ). row late pair j k 0) e ∙ nil-of (row late pair j n 0) (omega (arith, row-fewer j n 0, s .counted)) ∙ sym (rest-end late pair j n n (omega arith));
+        all = ap (λ (k : ℕ). row late pair j k 0) e ∙ nil-of (row late pair j n 0) (omega (arith, row-fewer j n 0, s .counted)) ∙ sym (chamber-rest-end late pair j n n (omega arith));
         held = λ h. absurd (omega arith);
         here = λ h. absurd (omega arith);
       }
@@ -179,7 +177,7 @@ module _ (rule : ℕ → ℕ → Bool) (pair : ℕ → ℕ → Pair) (key : Key)
       }
     where
       nothing : (at i : ℕ) → n ≤ i → restTo rule pair key at n i ≡ []
-      nothing at i h = rest-end (lateTo rule pair key) pair at n i h
+      nothing at i h = chamber-rest-end (lateTo rule pair key) pair at n i h
 
       whole : (j : ℕ) → row (lateTo rule pair key) pair j n 0 ≡ restTo rule pair key j n 0
       whole j = let z : n - 0 ≡ n = omega arith in ap (λ (k : ℕ). row (lateTo rule pair key) pair j k 0) (sym z)
@@ -193,7 +191,7 @@ module _ (rule : ℕ → ℕ → Bool) (pair : ℕ → ℕ → Pair) (key : Key)
         here = s .here;
         done = λ h.
             let last : nq ≤ next = ltb-false next nq (sym (ap (λ (x : Bool). x && ltb next nq) (le-leb n i h)) ∙ t) in
-            ap (λ (x : List Pair). x ++ rows (lateTo rule pair key) pair n (nq - next) next) (rest-end (lateTo rule pair key) pair at n i h)
+            ap (λ (x : List Pair). x ++ rows (lateTo rule pair key) pair n (nq - next) next) (chamber-rest-end (lateTo rule pair key) pair at n i h)
             ∙ rows-end (lateTo rule pair key) pair n nq next last;
       }
 

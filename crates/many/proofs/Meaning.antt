@@ -5,7 +5,7 @@
 use mathlib.Core.Path.{_≡_, refl, ap, _∙_}
 use mathlib.Core.Bool.{Bool, true, false, _&&_}
 use mathlib.Core.List.{List}
-use Prim.Native.Nat.{ℕ, _+_, _≤_, _<_}
+use Prim.Native.Nat.{ℕ, _≤_, _<_}
 use native.Mathlib.Omega.{arith}
 use lib.Dec.{leb}
 use lib.ListN.{length}
@@ -16,7 +16,7 @@ use Rattle.plane.proofs.ProfileLaws.{profile-lawful}
 use Rattle.list.specs.declared.Pair.{Pair}
 use Rattle.list.specs.declared.Terms.{Terms}
 use Rattle.list.specs.Contractor.{mine}
-use Rattle.list.specs.Rows.{row, atLeast, listBy}
+use Rattle.list.specs.Rows.{row, atLeast}
 use Rattle.list.specs.RingList.{pairBy, Reached}
 use Rattle.list.specs.Terms.{profileFor, pairFor, listedFor, listFor}
 use Rattle.list.proofs.RowLaws.{row-same, list-same}

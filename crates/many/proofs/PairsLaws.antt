@@ -4,7 +4,7 @@ use mathlib.Core.Path.{_≡_, refl, sym, ap, subst, _∙_}
 use mathlib.Core.Bool.{Bool, true, false, not}
 use mathlib.Core.Logic.{⊎-elim}
 use mathlib.Core.List.{List, [], _∷_, _++_}
-use Prim.Native.Nat.{ℕ, zero, suc, _+_, _-_, _≤_, _<_}
+use Prim.Native.Nat.{ℕ, zero, suc, _+_, _≤_, _<_}
 use native.Mathlib.Omega.{arith}
 use native.Mathlib.Nat.{zero-add}
 use lib.Dec.{ltb, eqb}
@@ -29,7 +29,7 @@ use Rattle.many.specs.declared.Many.{Many}
 use Rattle.many.specs.declared.step.Task.{Task}
 use Rattle.many.specs.declared.step.Step.{Step}
 use Rattle.chamber.specs.Sized.{listTo}
-use Rattle.many.specs.Many.{wantedTerms, pairsNo, pairsList, manyGiven, manyRefused, stored, pairsAnswer, pairsSlots, pairsBits, ownPairsNo, ownList, ownPairsAnswer, ownPairsSlots, ownPairsBits}
+use Rattle.many.specs.Many.{pairsNo, pairsList, manyGiven, manyRefused, stored, pairsAnswer, pairsSlots, pairsBits, ownPairsNo, ownList, ownPairsAnswer, ownPairsSlots, ownPairsBits}
 use Rattle.many.specs.Step.{leftOf, Stand, Ahead, Started, Begun, OwnBegun}
 
 -- ---- the slots after k stores of a list

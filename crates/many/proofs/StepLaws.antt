@@ -1,13 +1,11 @@
 -- The work of `pairs`, a pair at a time: what a step leaves, and that its whole list is what is asked for.
 -- Assumes nothing.
 use mathlib.Core.Path.{_≡_, refl, sym, ap, subst, _∙_}
-use mathlib.Core.Bool.{Bool, true, false, cond, _&&_, _||_}
-use mathlib.Core.Logic.{⊎-elim}
+use mathlib.Core.Bool.{Bool, true, false, cond, _&&_}
 use mathlib.Core.List.{List, [], _∷_, _++_}
-use Prim.Native.Nat.{ℕ, zero, suc, _+_, _-_, _*_, _≤_, _<_}
+use Prim.Native.Nat.{ℕ, zero, suc, _+_, _-_, _≤_, _<_}
 use native.Mathlib.Omega.{arith}
 use native.Mathlib.Nat.{not-suc-le-zero}
-use lib.Dec.{ltb, eqb}
 use lib.IntN.{ℤ}
 use lib.ListN.{length, take, drop, length-append, length-drop}
 use lib.Seq.{take-append-seam, drop-append-seam}
@@ -16,27 +14,24 @@ use Rattle.integers.proofs.Bools.{clash}
 use Rattle.plane.specs.Point.{Point, idAt}
 use Rattle.plane.specs.Profile.{Profile}
 use Rattle.sheet.specs.Places.{pointsOf}
-use Rattle.sheet.specs.Open.{Opens}
-use Rattle.bits.specs.Set.{kept, none, wiped}
+use Rattle.bits.specs.Set.{none}
 use Rattle.bits.proofs.LentLaws.{part-long, part-wiped}
 use Rattle.list.specs.declared.Key.{Key}
 use Rattle.list.specs.declared.Pair.{Pair}
-use Rattle.list.specs.declared.Terms.{Terms}
 use Rattle.list.specs.Pairs.{keyOf, follows, after}
 use Rattle.list.specs.Rows.{row, rows, listBy}
 use Rattle.list.specs.RingList.{pairBy}
 use Rattle.list.specs.Terms.{profileFor, aloneBy}
 use Rattle.list.proofs.Order.{after-append}
 use Rattle.ring.specs.Lent.{need, wipedBy}
-use Rattle.ring.proofs.LentLaws.{wiped-refused, wiped-given}
+use Rattle.ring.proofs.LentLaws.{wiped-given}
 use Rattle.many.specs.declared.Wanted.{Wanted}
 use Rattle.many.specs.declared.step.Task.{Task}
 use Rattle.many.specs.declared.step.Step.{Step}
-use Rattle.chamber.specs.Sized.{listedTo, listTo}
 use Rattle.many.specs.Many.{pairsNo, wantedTerms, ownPairsNo}
 use Rattle.many.specs.Cursor.{lateTo, Early, restTo, leftTo, Holding, Advanced}
 use Rattle.many.specs.Step.{ruleOf, pairOf, leftOf, Able, Stand, Ahead, Started, Begun, OwnBegun}
-use Rattle.chamber.proofs.KeepLaws.{rest-yes, rest-end}
+use Rattle.chamber.proofs.KeepLaws.{rest-yes, chamber-rest-end}
 use Rattle.chamber.proofs.ListedLaws.{row-empty, rows-next, list-of-sheets}
 
 -- ---- the pair at hand is the first of what is left
@@ -90,12 +85,12 @@ module _ (rule : ℕ → ℕ → Bool) (φ : Profile) (P Q : List Point) (key : 
       ∙ early-rows r s d (j + 1) (omega arith) m
       ∙ ap (λ (x : ℕ). rows late (pairBy φ P Q) n (nq - x) x) shift
 
-  pub left-all : (at r : ℕ) → r ≤ nq → Early Q key r → leftTo rule (pairBy φ P Q) key n nq at n r ≡ after key (listBy rule (pairBy φ P Q) n nq)
+  pub many-left-all : (at r : ℕ) → r ≤ nq → Early Q key r → leftTo rule (pairBy φ P Q) key n nq at n r ≡ after key (listBy rule (pairBy φ P Q) n nq)
   unfolding leftTo restTo listBy
-  left-all at r m s =
+  many-left-all at r m s =
       let z : nq - 0 ≡ nq = omega arith in
       let w : 0 + r ≡ r = omega arith in
-      ap (λ (x : List Pair). x ++ rows late (pairBy φ P Q) n (nq - r) r) (rest-end late (pairBy φ P Q) at n n (omega arith))
+      ap (λ (x : List Pair). x ++ rows late (pairBy φ P Q) n (nq - r) r) (chamber-rest-end late (pairBy φ P Q) at n n (omega arith))
       ∙ sym (ap (λ (k : ℕ). rows late (pairBy φ P Q) n k 0) (sym z) ∙ early-rows r s r 0 (omega arith) m ∙ ap (λ (x : ℕ). rows late (pairBy φ P Q) n (nq - x) x) w)
       ∙ sym (after-rows rule (pairBy φ P Q) key n nq 0)
 
@@ -205,7 +200,7 @@ started-first P Q o len ws b t s r a z h ea st ah et ec el past =
       ahead = λ y. ah;
       all = λ y.
           ap (λ (u : Task). leftOf P Q o u (s .at) (s .i) (s .next)) (sym et) ∙ sym el
-          ∙ left-all (ruleOf P Q o t) (profileFor (t .terms)) (pointsOf P) (pointsOf Q) (t .key) (t .hp .n) (t .hq .n) 0 r h ea
+          ∙ many-left-all (ruleOf P Q o t) (profileFor (t .terms)) (pointsOf P) (pointsOf Q) (t .key) (t .hp .n) (t .hq .n) 0 r h ea
           ∙ ap (after (t .key)) (list-of-sheets (t .largest) (t .terms) o P Q (t .hp .n) (t .hp .m) (t .hq .n) (t .hq .m) (a .p-opens) (a .q-opens));
       past = λ y. past;
     }

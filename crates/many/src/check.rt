@@ -1,7 +1,6 @@
 // What a call is refused by, and with 0 the counts of its sheets.
 use crate::Wanted;
 use list::Key;
-use list::Terms;
 use sheet::Size;
 ghost use mathlib.Core.Path.{_≡_};
 ghost use mathlib.Core.List.{[], _∷_};
@@ -9,7 +8,7 @@ ghost use Rattle.words.specs.First.{first};
 ghost use Rattle.ring.specs.Lent.{bitsNo};
 ghost use Rattle.ring.specs.Numbers.{gridNo};
 ghost use Rattle.ring.specs.Page.{keyNo};
-ghost use Rattle.many.specs.Many.{largestNo, restNo, pairsNo, ownPairsNo, wantedTerms};
+ghost use Rattle.many.specs.Many.{largestNo, restNo, pairsNo, ownPairsNo};
 ghost use Rattle.many.specs.Checked.{Served};
 
 // The number, and with 0 the counts of both sheets and how many words are needed.

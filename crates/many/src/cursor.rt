@@ -3,9 +3,7 @@ use list::Key;
 use list::Terms;
 use sheet::Size;
 ghost use mathlib.Core.Path.{_≡_};
-ghost use Prim.Native.Nat.{ℕ, _≤_, _<_};
-ghost use lib.ListN.{length};
-ghost use Rattle.plane.specs.Point.{idAt};
+ghost use Prim.Native.Nat.{_≤_, _<_};
 ghost use Rattle.sheet.specs.Open.{Opens};
 ghost use Rattle.sheet.specs.Places.{pointsOf};
 ghost use Rattle.bits.specs.Set.{Holds};
@@ -14,7 +12,7 @@ ghost use Rattle.list.specs.RingList.{pairAt, pairBy};
 ghost use Rattle.list.specs.Terms.{profileFor};
 ghost use Rattle.join.specs.Sheets.{Alone};
 ghost use Rattle.chamber.specs.Sized.{listedTo};
-ghost use Rattle.many.specs.Cursor.{Seeks, Early, lateTo, Entered, Holding, Advanced};
+ghost use Rattle.many.specs.Cursor.{Seeks, Early, Entered, Holding, Advanced};
 
 // Where the search stands: the chamber whose pairs are kept on the words lent, the position to go on from there, and the chamber after which none was entered yet.
 pub(crate) struct Cursor {

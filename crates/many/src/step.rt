@@ -9,9 +9,8 @@ use sheet::Size;
 ghost use mathlib.Core.Path.{_≡_};
 ghost use mathlib.Core.List.{[], _∷_};
 ghost use Prim.Native.Nat.{_+_, _≤_, _<_};
-ghost use lib.ListN.{length, take, drop};
+ghost use lib.ListN.{length, drop};
 ghost use Rattle.ring.specs.Lent.{wipedBy};
-ghost use Rattle.many.specs.Many.{pairsNo, wantedTerms};
 ghost use Rattle.many.specs.Step.{Able, Stand, leftOf, Ahead, Started, Begun, OwnBegun};
 
 // What is to be done: the number of refusal, or 0 and the sheets' counts, the words needed, and which pairs of which list.

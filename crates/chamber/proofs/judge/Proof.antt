@@ -1,7 +1,6 @@
 -- `chamber::judge` meets its contract. Assumes nothing.
-use Rattle.sheet.proofs.RangeLaws.{spot-in}
 use Rattle.walk.proofs.NodeLaws.{spot-fits}
-use Rattle.chamber.proofs.KeepLaws.{small-not, small-free, chamber-in}
+use Rattle.chamber.proofs.KeepLaws.{small-not, small-free, chamber-spot-in}
 use borrow.Author.Needs.{needs}
 use Rattle.chamber.proofs.judge.Statement.{statement}
 use Rattle.chamber.proofs.judge.Tie as tie
@@ -19,7 +18,7 @@ seen-at-requires : tie.Need-seen-at-requires
 seen-at-requires c κs =
     let s = c .before .before .before in
     let p = s .pre in
-    (p .0, p .1, p .2, chamber-in _ _ _ (p .1) _ (p .3) _ (p .5), spot-fits _ _ _ (p .0) _ _ (p .4) (c .spot-at .ensures), p .6)
+    (p .0, p .1, p .2, chamber-spot-in _ _ _ (p .1) _ (p .3) _ (p .5), spot-fits _ _ _ (p .0) _ _ (p .4) (c .spot-at .ensures), p .6)
 
 returns-2 : tie.Need-returns-2
 returns-2 c =

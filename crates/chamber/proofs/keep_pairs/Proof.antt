@@ -4,7 +4,6 @@ use mathlib.Core.Logic.{⊎-elim}
 use Prim.Native.Nat.{_+_, _-_}
 use native.Mathlib.Omega.{arith}
 use Rattle.sheet.specs.Places.{pointsOf}
-use Rattle.sheet.proofs.RangeLaws.{spot-in}
 use Rattle.sheet.proofs.PointsLaws.{spot-of}
 use Rattle.bits.proofs.NextLaws.{from-le}
 use Rattle.walk.proofs.NodeLaws.{spot-fits}
@@ -12,7 +11,7 @@ use Rattle.list.specs.RingList.{pairBy}
 use Rattle.list.specs.Terms.{profileFor}
 use Rattle.chamber.specs.Sized.{smallFor}
 use Rattle.chamber.specs.Chamber.{Right}
-use Rattle.chamber.proofs.KeepLaws.{Keeping, keep-start, keep-next, keep-yes, keep-no, keep-few, keep-end, small-covered, right-start}
+use Rattle.chamber.proofs.KeepLaws.{Keeping, chamber-keep-start, keep-next, keep-yes, keep-no, chamber-keep-few, keep-end, small-covered, right-start}
 use Rattle.chamber.proofs.keep_pairs.Statement.{statement}
 use Rattle.chamber.proofs.keep_pairs.Tie as tie
 
@@ -35,7 +34,7 @@ loop-holds c =
     let z = c .before .before in
     let s = c .before .before .before .before in
     let p = s .pre in
-    (keep-start _ _ _ _ _ _ (λ y l e. small-covered (s .args .largest) (s .args .terms) _ _ _ _ (p .5) y (omega (arith, p .0 .n-is)) e) (c .next-from .ensures), right-start _ _ _ _ _ (spot-fits _ _ _ (p .1) _ _ (p .3) (z .spot-at .ensures)))
+    (chamber-keep-start _ _ _ _ _ _ (λ y l e. small-covered (s .args .largest) (s .args .terms) _ _ _ _ (p .5) y (omega (arith, p .0 .n-is)) e) (c .next-from .ensures), right-start _ _ _ _ _ (spot-fits _ _ _ (p .1) _ _ (p .3) (z .spot-at .ensures)))
 
 judge-requires : tie.Need-judge-requires Inv-loop μ-loop
 judge-requires c κs =
@@ -47,7 +46,7 @@ judge-requires c κs =
 add-count : tie.Need-add-count Inv-loop μ-loop
 add-count c =
     let i = c .before .before .before in
-    omega (arith, keep-few _ _ _ _ _ _ _ _ (i .before .loop .inv .0), c .before .before .before .before .before .before .before .before .before .pre .0 .n-le)
+    omega (arith, chamber-keep-few _ _ _ _ _ _ _ _ (i .before .loop .inv .0), c .before .before .before .before .before .before .before .before .before .pre .0 .n-le)
 
 remove-requires : tie.Need-remove-requires Inv-loop μ-loop
 remove-requires c κs =

@@ -1,5 +1,5 @@
 -- `chamber::seen_at` meets its contract. Assumes nothing.
-use Rattle.chamber.proofs.KeepLaws.{right-same, right-new}
+use Rattle.chamber.proofs.KeepLaws.{right-same}
 use borrow.Author.Needs.{needs}
 use Rattle.chamber.proofs.seen_at.Statement.{statement}
 use Rattle.chamber.proofs.seen_at.Tie as tie

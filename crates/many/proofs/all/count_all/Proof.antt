@@ -8,7 +8,7 @@ use Rattle.list.specs.RingList.{pairBy}
 use Rattle.list.specs.Terms.{profileFor}
 use Rattle.walk.proofs.FilterCode.{still-holds}
 use Rattle.chamber.specs.Sized.{listedTo}
-use Rattle.chamber.proofs.ListedLaws.{Counting, count-start, count-room, count-more, count-by, count-end, count-fits, list-of-sheets}
+use Rattle.chamber.proofs.ListedLaws.{Counting, chamber-count-start, count-room, count-more, count-by, chamber-count-end, count-fits, list-of-sheets}
 use Rattle.many.proofs.all.count_all.Statement.{statement}
 use Rattle.many.proofs.all.count_all.Tie as tie
 
@@ -21,7 +21,7 @@ abbrev μ-loop : tie.MeasureT-loop
 μ-loop p hp q hq owners terms largest bits₀ n total₀ j₀ bits total j = hq .n - j
 
 loop-holds : tie.Need-loop-holds Inv-loop μ-loop
-loop-holds c = (count-start _ _ _ _, refl)
+loop-holds c = (chamber-count-start _ _ _ _, refl)
 
 listed-of-requires : tie.Need-listed-of-requires Inv-loop μ-loop
 listed-of-requires c κs =
@@ -56,7 +56,7 @@ same-length c = c .before .loop .inv .1
 returns : tie.Need-returns Inv-loop μ-loop
 returns c =
     let s = c .before .before .before .before in
-    count-end _ _ _ _ _ _ (c .before .loop .inv .0) (c .loop-test .left) ∙ ap length (list-of-sheets (s .args .largest) (s .args .terms) _ _ _ _ _ _ _ (s .pre .0) (s .pre .1))
+    chamber-count-end _ _ _ _ _ _ (c .before .loop .inv .0) (c .loop-test .left) ∙ ap length (list-of-sheets (s .args .largest) (s .args .terms) _ _ _ _ _ _ _ (s .pre .0) (s .pre .1))
 
 pub count-all-spec : {M : Type 1} → statement M
 count-all-spec =

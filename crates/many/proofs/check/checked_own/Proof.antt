@@ -2,7 +2,7 @@
 use mathlib.Core.Path.{refl, sym, _∙_}
 use native.Mathlib.Omega.{arith}
 use Rattle.ring.proofs.HeadLaws.{headed}
-use Rattle.many.proofs.CheckLaws.{own-p, own-rest, own-served}
+use Rattle.many.proofs.CheckLaws.{own-p, own-rest, many-own-served}
 use borrow.Author.Needs.{needs}
 use Rattle.many.proofs.check.checked_own.Statement.{statement}
 use Rattle.many.proofs.check.checked_own.Tie as tie
@@ -32,7 +32,7 @@ returns-2 : tie.Need-returns-2
 returns-2 c =
     let s = c .before .before .before .before .before .before .args in
     let p = (c .before .before .before .before .before .head-of .ensures) in
-    (own-rest _ (s .key) (s .largest) (s .grid) (s .len) _ p (c .before .before .before .if1 .left) _ (c .before .before .words-for .ensures) _ (c .rest-no .ensures), λ z. own-served _ (s .key) (s .largest) (s .grid) (s .len) _ p (c .before .before .before .if1 .left) _ (c .before .before .words-for .ensures) _ (c .rest-no .ensures) z _ _ refl refl)
+    (own-rest _ (s .key) (s .largest) (s .grid) (s .len) _ p (c .before .before .before .if1 .left) _ (c .before .before .words-for .ensures) _ (c .rest-no .ensures), λ z. many-own-served _ (s .key) (s .largest) (s .grid) (s .len) _ p (c .before .before .before .if1 .left) _ (c .before .before .words-for .ensures) _ (c .rest-no .ensures) z _ _ refl refl)
 
 pub checked-own-spec : {M : Type 1} → statement M
 checked-own-spec =

@@ -2,7 +2,7 @@
 use mathlib.Core.Path.{sym, _∙_}
 use Rattle.words.proofs.FirstLaws.{first-last}
 use Rattle.many.specs.Many.{restNo}
-use Rattle.many.proofs.CheckLaws.{first-more}
+use Rattle.many.proofs.CheckLaws.{many-first-more}
 use borrow.Author.Needs.{needs}
 use Rattle.many.proofs.check.rest_no.Statement.{statement}
 use Rattle.many.proofs.check.rest_no.Tie as tie
@@ -50,12 +50,12 @@ returns : tie.Need-returns
 unfolding restNo
 returns c =
     let g = (c .before .before .before .before .before .before .bits-no .ensures) ∙ sym (first-last _) in
-    let f = first-more _ _ _ _ _ (c .before .before .before .before .before .before .before .largest-no .ensures) g (c .before .before .before .before .before .first-of .ensures) in
-    let e = first-more _ _ _ _ _ (c .before .before .before .before .before .before .before .before .threshold-no .ensures) f (c .before .before .before .before .first-of2 .ensures) in
-    let d = first-more _ _ _ _ _ (c .before .before .before .before .before .before .before .before .before .key-no .ensures) e (c .before .before .before .first-of3 .ensures) in
-    let h = first-more _ _ _ _ _ (c .before .before .before .before .before .before .before .before .before .before .grid-no .ensures) d (c .before .before .first-of4 .ensures) in
-    let b = first-more _ _ _ _ _ (c .before .before .before .before .before .before .before .before .before .before .before .owners-no .ensures) h (c .before .first-of5 .ensures) in
-    first-more _ _ _ _ _ (c .before .before .before .before .before .before .before .before .before .before .before .before .contractor-no .ensures) b (c .first-of6 .ensures)
+    let f = many-first-more _ _ _ _ _ (c .before .before .before .before .before .before .before .largest-no .ensures) g (c .before .before .before .before .before .first-of .ensures) in
+    let e = many-first-more _ _ _ _ _ (c .before .before .before .before .before .before .before .before .threshold-no .ensures) f (c .before .before .before .before .first-of2 .ensures) in
+    let d = many-first-more _ _ _ _ _ (c .before .before .before .before .before .before .before .before .before .key-no .ensures) e (c .before .before .before .first-of3 .ensures) in
+    let h = many-first-more _ _ _ _ _ (c .before .before .before .before .before .before .before .before .before .before .grid-no .ensures) d (c .before .before .first-of4 .ensures) in
+    let b = many-first-more _ _ _ _ _ (c .before .before .before .before .before .before .before .before .before .before .before .owners-no .ensures) h (c .before .first-of5 .ensures) in
+    many-first-more _ _ _ _ _ (c .before .before .before .before .before .before .before .before .before .before .before .before .contractor-no .ensures) b (c .first-of6 .ensures)
 
 pub rest-no-spec : {M : Type 1} → statement M
 rest-no-spec =

@@ -3,7 +3,6 @@ use mathlib.Core.Path.{ap, _∙_}
 use native.Mathlib.Omega.{arith}
 use Rattle.bits.specs.Set.{none}
 use Rattle.bits.proofs.LentLaws.{lent-holds}
-use Rattle.many.specs.Many.{countGiven}
 use Rattle.many.proofs.CheckLaws.{count-given}
 use borrow.Author.Needs.{needs}
 use Rattle.many.proofs.count.given.Statement.{statement}

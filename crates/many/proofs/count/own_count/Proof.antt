@@ -2,7 +2,7 @@
 use mathlib.Core.Path.{refl, sym, _∙_}
 use Rattle.bits.proofs.LentLaws.{part-long}
 use Rattle.many.specs.Many.{ownCountAnswer, ownCountBits}
-use Rattle.many.proofs.CheckLaws.{own-number, of-one, done-refused, done-given}
+use Rattle.many.proofs.CheckLaws.{own-number, many-of-one, done-refused, done-given}
 use borrow.Author.Needs.{needs}
 use Rattle.many.proofs.count.own_count.Statement.{statement}
 use Rattle.many.proofs.count.own_count.Tie as tie
@@ -32,7 +32,7 @@ slice-aggregate-given-2 c = sym (part-long _ _ (c .before .before .before .befor
 given-requires : tie.Need-given-requires
 given-requires c κs =
     let v = c .before .before .before .before .before .before .checked-own .ensures .1 (c .before .before .before .before .if1 .left) in
-    (v .p-opens, v .q-opens, of-one _ refl _, part-long _ _ (v .lent) ∙ v .needed)
+    (v .p-opens, v .q-opens, many-of-one _ refl _, part-long _ _ (v .lent) ∙ v .needed)
 
 same-length : tie.Need-same-length
 same-length c = search needs

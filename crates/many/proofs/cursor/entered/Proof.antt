@@ -1,5 +1,4 @@
 -- `many::cursor::entered` meets its contract. Assumes nothing.
-use mathlib.Core.Path.{_∙_}
 use Rattle.list.specs.Terms.{profileFor}
 use Rattle.walk.proofs.FilterCode.{still-holds}
 use Rattle.many.proofs.CursorLaws.{entered-none, entered-some}

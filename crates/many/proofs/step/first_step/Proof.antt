@@ -1,8 +1,6 @@
 -- `many::step::first_step` meets its contract. Assumes nothing.
-use mathlib.Core.Path.{_≡_, refl, sym, ap, subst, _∙_}
+use mathlib.Core.Path.{refl}
 use Rattle.ring.proofs.PageLaws.{of-two}
-use Rattle.many.specs.declared.step.Task.{Task}
-use Rattle.many.specs.Step.{Started}
 use Rattle.many.proofs.StepLaws.{begun-is}
 use borrow.Author.Needs.{needs}
 use Rattle.many.proofs.step.first_step.Statement.{statement}

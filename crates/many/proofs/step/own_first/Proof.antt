@@ -1,6 +1,6 @@
 -- `many::step::own_first` meets its contract. Assumes nothing.
 use mathlib.Core.Path.{refl}
-use Rattle.many.proofs.CheckLaws.{of-one}
+use Rattle.many.proofs.CheckLaws.{many-of-one}
 use Rattle.many.proofs.StepLaws.{own-begun-is}
 use borrow.Author.Needs.{needs}
 use Rattle.many.proofs.step.own_first.Statement.{statement}
@@ -14,7 +14,7 @@ slice-aggregate-started c = search needs
 
 started-requires : tie.Need-started-requires
 started-requires c κs =
-    λ z. let v = c .before .before .before .before .checked-own .ensures .1 z in record { p-opens = v .p-opens; q-opens = v .q-opens; alone = of-one _ refl _; needed = v .needed; lent = v .lent }
+    λ z. let v = c .before .before .before .before .checked-own .ensures .1 z in record { p-opens = v .p-opens; q-opens = v .q-opens; alone = many-of-one _ refl _; needed = v .needed; lent = v .lent }
 
 same-length : tie.Need-same-length
 same-length c = search needs
