@@ -37,8 +37,8 @@
  *   profile, every other call of the circle. Along the streets two sheets that hold assets may give no pair at all.
  *
  * Words lent for kept sets: `bits`
- *   - A call that filters works on 64-bit words that the caller lends: at least RING_WORDS(n), where n is P's number of points (ring_open says it), of a self
- *     join its sheet's; ring_leaf_run 16 times as many. Where n is 0 none is needed.
+ *   - A call that filters, or looks for many pairs, works on 64-bit words that the caller lends: at least RING_WORDS(n), where n is P's number of points
+ *     (ring_open says it), of a self join its sheet's; ring_leaf_run 16 times as many. Where n is 0 none is needed.
  *   - What they hold before does not matter.
  *   - After an answer of ring_filter_walk and ring_near_filter the first RING_WORDS(n) words are the kept set; after one of any other call so many as it
  *     needs are 0. Words past these are never written.
