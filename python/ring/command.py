@@ -60,6 +60,11 @@ def terms_of(args, q):
     return terms
 
 
+def largest_of(args):
+    """The largest size that is asked for, where one is."""
+    return {} if args.largest is None else {"largest": args.largest}
+
+
 # ---------------------------------------------------------------- what is written
 
 def say(text):
@@ -194,7 +199,7 @@ def sheet_tidy(ring, args):
 
 def list_(ring, args):
     p, q = both(ring, args)
-    terms = terms_of(args, q)
+    terms = {**terms_of(args, q), **largest_of(args)}
     give_list(args, p, q, gathered(ring.pairs(p, q, **terms), q), terms)
 
 
@@ -211,8 +216,8 @@ def cluster_list(ring, args):
 
 
 def self_(ring, args):
-    sheet = opened(ring, args.sheet)
-    give_list(args, sheet, sheet, gathered(ring.own_pairs(sheet, grid=args.grid), sheet), {"own": True, "grid": args.grid})
+    sheet, terms = opened(ring, args.sheet), {"grid": args.grid, **largest_of(args)}
+    give_list(args, sheet, sheet, gathered(ring.own_pairs(sheet, **terms), sheet), {"own": True, **terms})
 
 
 def shortest(ring, args):
@@ -563,6 +568,13 @@ def whole_number(text):
     return value
 
 
+def size(text):
+    value = int(text)
+    if not 0 <= value < 1 << 64:
+        raise argparse.ArgumentTypeError("a whole number from 0 to %d" % ((1 << 64) - 1))
+    return value
+
+
 def some(text):
     value = whole_number(text)
     if not value:
@@ -588,6 +600,10 @@ def with_terms(one):
     one.add_argument("--owners", metavar="FILE.csv", help="whose each chamber is: a CSV with the ids and a column of 0 or 1")
     one.add_argument("--owner", metavar="NAME", help="the column of the owners (owner)")
     with_csv(one)
+
+
+def with_largest(one, what=""):
+    one.add_argument("--largest", type=size, metavar="N", help="nothing farther than this: the pairs whose size, the squared distance, is at most N%s" % what)
 
 
 def with_sheets(one):
@@ -652,8 +668,10 @@ def parser():
     one.add_argument("file", metavar="FILE.sheet")
     one.add_argument("--out", metavar="FILE.sheet", help="to this file, and not to the same")
 
-    one = added(commands, "list", list_, "the ring pairs of two sheets", "./ring list pumps.sheet chambers.sheet --geojson --scale 100 --offset 430000,5400000 --out visits.geojson")
+    one = added(commands, "list", list_, "the ring pairs of two sheets", "./ring list pumps.sheet chambers.sheet --geojson --scale 100 --offset 430000,5400000 --out visits.geojson",
+                " With --largest nothing farther: in centimetres\n--largest 900000000 is to 300 m, the square of 30,000.")
     with_sheets(one)
+    with_largest(one, "; with --threshold T of the chambers with at least T such pairs")
     with_terms(one)
     with_list(one)
     cluster = commands.add_parser("cluster", allow_abbrev=False, help="a list made by many workers", description="Lists made by many workers.", epilog=STATUS)
@@ -669,8 +687,9 @@ def parser():
     one.add_argument("--uncounted", action="store_true", help="do not hold the number of the pairs to `count`, which takes about as long as the list")
     with_terms(one)
     with_list(one)
-    one = added(commands, "self", self_, "the ring pairs of one sheet with itself", "./ring self chambers.sheet")
+    one = added(commands, "self", self_, "the ring pairs of one sheet with itself", "./ring self chambers.sheet --largest 900000000")
     one.add_argument("sheet", metavar="S.sheet")
+    with_largest(one)
     one.add_argument("--grid", action="store_true", help="along a street grid (sheets of form 1)")
     with_list(one)
     one = added(commands, "shortest", shortest, "the ring pairs with the smallest circles", "./ring shortest pumps.sheet chambers.sheet --count 5")

@@ -9,33 +9,77 @@ use many::Counted;
 use many::Many;
 use many::Wanted;
 use many::Which;
-ghost use Prim.Native.Nat.{_≤_};
-ghost use lib.ListN.{length};
+ghost use mathlib.Core.Path.{_≡_};
+ghost use lib.ListN.{length, take};
+ghost use Rattle.list.specs.Lent.{lentOf};
+ghost use Rattle.many.specs.Many.{pairsAnswer, ownPairsAnswer};
 
-// Of the slots of a case the first n are lent.
-fn found(p: &[i32], q: &[i32], owners: &[u8], wanted: Wanted, n: usize, slots: &mut [Pair], bits: &mut [u64]) -> Many
-    requires { ⌜ n ≤ length (now slots) ⌝ }
-{
-    many::pairs::pairs(p, q, owners, wanted, &mut slots[..n], bits)
+// The slots of a case, and what was answered of those lent.
+struct Lot {
+    slots: [Pair; 256],
+    many: Many,
 }
 
-fn own_found(s: &[i32], key: Key, largest: u64, grid: bool, n: usize, slots: &mut [Pair], bits: &mut [u64]) -> Many
-    requires { ⌜ n ≤ length (now slots) ⌝ }
+fn lent_of(len: usize) -> usize
+    ensures { λ r. ⌜ r ≡ lentOf 256 len ⌝ }
 {
-    many::pairs::own_pairs(s, key, largest, grid, &mut slots[..n], bits)
+    list::lent_of(256, len)
 }
 
-// How many slots are lent, and what was answered.
-fn print_found(r: Many) {
+fn with_slots(slots: [Pair; 256], many: Many) -> Lot
+    ensures { λ r. ⌜ r .many ≡ many ⌝ }
+{
+    Lot {
+        slots: slots,
+        many: many,
+    }
+}
+
+// Of the slots the first `len` are lent for the call, and come back.
+fn found(
+    p: &[i32],
+    q: &[i32],
+    owners: &[u8],
+    wanted: Wanted,
+    slots: [Pair; 256],
+    len: usize,
+    bits: &mut [u64],
+) -> Lot
+    ensures { λ r. ⌜ r .many ≡ pairsAnswer (now (p .entry)) (now (q .entry)) (now (owners .entry)) wanted (length (take (lentOf 256 len) slots)) (length (now (bits .entry))) ⌝ }
+{
+    let mut own = slots;
+    let n = lent_of(len);
+    let many = many::pairs::pairs(p, q, owners, wanted, &mut own[..n], bits);
+    with_slots(own, many)
+}
+
+// The same of a self join.
+fn own_found(
+    s: &[i32],
+    key: Key,
+    largest: u64,
+    grid: bool,
+    slots: [Pair; 256],
+    len: usize,
+    bits: &mut [u64],
+) -> Lot
+    ensures { λ r. ⌜ r .many ≡ ownPairsAnswer (now (s .entry)) key largest grid (length (take (lentOf 256 len) slots)) (length (now (bits .entry))) ⌝ }
+{
+    let mut own = slots;
+    let n = lent_of(len);
+    let many = many::pairs::own_pairs(s, key, largest, grid, &mut own[..n], bits);
+    with_slots(own, many)
+}
+
+// What was answered, how many of the slots hold their mark, and the pairs that were stored.
+fn print_lot(lot: Lot) {
+    let r = lot.many;
+    let slots = lot.slots;
     say::number(r.number as u64);
     say::number(r.count as u64);
     pages::print_mark(r.more);
-}
-
-// How many of the slots hold their mark, and the pairs that were stored.
-fn print_slots(slots: [Pair; 256], count: usize) {
     say::number(leaves::marks(slots));
-    leaves::print_pairs(slots, count);
+    leaves::print_pairs(slots, r.count);
 }
 
 fn print_wanted(wanted: Wanted, bytes: usize, n: usize) {
@@ -55,14 +99,9 @@ fn print_which(largest: u64, threshold: u32, grid: bool, contractor: u32, bytes:
     say::number(bytes as u64);
 }
 
-fn pairs_asked(p: &[i32], q: &[i32], owners: &[u8], wanted: Wanted, n: usize, bits: &mut [u64])
-    requires { ⌜ n ≤ 256 ⌝ }
-{
+fn pairs_asked(p: &[i32], q: &[i32], owners: &[u8], wanted: Wanted, n: usize, bits: &mut [u64]) {
     print_wanted(wanted, owners.len(), n);
-    let mut slots = leaves::marked();
-    let r = found(p, q, owners, wanted, n, &mut slots, bits);
-    print_found(r);
-    print_slots(slots, r.count);
+    print_lot(found(p, q, owners, wanted, leaves::marked(), n, bits));
 }
 
 // A key, how many slots are lent, the largest size, a threshold, a profile and a contractor, how many owner bytes there are, and these.
@@ -102,10 +141,7 @@ pub fn own_pairs_case(s: &[i32], bits: &mut [u64]) {
     pages::print_mark(grid);
     say::number(n as u64);
     say::say(b":");
-    let mut slots = leaves::marked();
-    let r = own_found(s, key, largest, grid, n, &mut slots, bits);
-    print_found(r);
-    print_slots(slots, r.count);
+    print_lot(own_found(s, key, largest, grid, leaves::marked(), n, bits));
 }
 
 fn print_counted(r: Counted) {
