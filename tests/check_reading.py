@@ -129,6 +129,78 @@ def contractors_examples():
         0, 27, 21, 0, 27, 21]
 
 
+def many_examples():
+    """The listing's pairs at once: the first so many as there are slots, strictly after the key, to a size; what is refused, and in which order."""
+    whole, any_size, marks = [(5, 1, 16), (5, 2, 36), (6, 2, 37)], reading.ANY_SIZE, [(9, 9, 9)] * 4
+    assert any_size == reading.DIAMETER
+    for slots in range(5):
+        assert reading.pairs_call(P, Q, (0, 0), any_size, marks[:slots], words=[7, 8]) == (0, min(slots, 3), slots < 3, whole[:slots] + marks[:slots - 3 if slots > 3 else 0], [0, 8])
+    for key, largest, t, pairs in (((5, 1), any_size, 0, whole[1:]), ((5, 2), any_size, 0, whole[2:]), ((6, 2), any_size, 0, []), ((5, 0), 36, 0, whole[:2]), ((0, 0), 35, 0, whole[:1]), ((0, 0), 15, 0, []),
+                                   ((0, 0), any_size, 2, whole[:2]), ((5, 1), any_size, 2, whole[1:2]), ((5, 1), 36, 2, whole[1:2]), ((0, 0), 35, 2, []), ((0, 0), 36, 1, whole[:2])):
+        number, count, more, slots, _ = reading.pairs_call(P, Q, key, largest, list(marks), t)
+        assert (number, count, more, slots) == (0, len(pairs), False, pairs + marks[len(pairs):])
+        assert key != (0, 0) or reading.count_call(P, Q, largest, t)[:2] == (0, len(pairs))
+    # no slot: 0, and whether any follow
+    assert [reading.pairs_call(P, Q, key, any_size, [])[:3] for key in ((0, 0), (6, 1), (6, 2))] == [(0, 0, True), (0, 0, True), (0, 0, False)]
+    # contractors, and the street grid, along which the last pair is of size 49
+    assert [reading.pairs_call(P, Q, (0, 0), any_size, list(marks), contractor=contractor, owners=(0, 1))[3][:2] for contractor in (0, 1)] == [whole[:2], whole[2:] + marks[:1]]
+    assert [reading.count_call(P, Q, largest, grid=True)[1] for largest in (37, 48, 49)] == [2, 2, 3]
+    # a self join: one pair, of size 100
+    assert reading.own_pairs_call(P, (0, 0), 100, list(marks), words=[7, 8]) == (0, 1, False, [(1, 2, 100)] + marks[1:], [0, 8])
+    assert [reading.own_count_call(P, largest)[:2] for largest in (99, 100, any_size, any_size + 1)] == [(0, 0), (0, 1), (0, 1), (40, 0)]
+    # 27, 26, 29, 9, 21, 40, 24: each with all that come after it; a count has no 9, a self join no 27, 26 and 21
+    wide, past = P[:-1] + [2], (reading.ID + 1, 0)
+    for p, contractor, owners, key, t, largest, number in ((wide[:-1] + [3], 3, (2,), past, 60001, any_size + 1, 2), (wide, 3, (2,), past, 60001, any_size + 1, 27), (wide, 0, (0,), past, 60001, any_size + 1, 26),
+                                                           (wide, 0, (0, 1), past, 60001, any_size + 1, 29), (P, 0, (0, 1), past, 60001, any_size + 1, 9), (P, 0, (0, 1), (0, 0), 60001, any_size + 1, 21),
+                                                           (P, 0, (0, 1), (0, 0), 60000, any_size + 1, 40), (P, 0, (0, 1), (0, 0), 60000, any_size, 24)):
+        assert reading.pairs_call(p, Q, key, largest, list(marks), t, None, [], True, contractor, owners) == (number, 0, False, marks, [])
+        assert reading.count_call(p, Q, largest, t, None, [], True, contractor, owners) == (21 if number == 9 else number, 0, [])
+    for words, key, largest, number in ((wide[:-1] + [3], past, any_size + 1, 2), (wide, past, any_size + 1, 29), (P, past, any_size + 1, 9), (P, (0, 0), any_size + 1, 40), (P, (0, 0), any_size, 24)):
+        assert reading.own_pairs_call(words, key, largest, list(marks), None, [], True) == (number, 0, False, marks, [])
+        assert reading.own_count_call(words, largest, None, [], True) == (40 if number == 9 else number, 0, [])
+
+
+def many_are_the_pages(rng, p_words, q_words, grid):
+    """Many pairs at once, followed by their last keys, are those of the pages; to a size, those of them that are no larger; as many as their count says. So for each
+    contractor and t; and of a self join."""
+    p, q = reading.Sheet(p_words), reading.Sheet(q_words)
+    whole, owners = reading.ring_list(p.points, q.points, grid), tuple(rng.randint(0, 1) for _ in range(q.n))
+    sizes = [0, reading.ANY_SIZE] + [pair[2] for pair in whole[:2]]
+    for contractor in (0, 1, 2):
+        whose = owners if contractor < 2 else ()
+        for t in (0, 1, 2):
+            paged = followed_pages(rng, lambda key: reading.page_call(p_words, q_words, key, 16, t, whole, grid=grid, contractor=contractor, owners=whose)[1])
+            for largest in sizes:
+                found = followed_many(rng, lambda key, slots: reading.pairs_call(p_words, q_words, key, largest, slots, t, whole, grid=grid, contractor=contractor, owners=whose))
+                assert reading.count_call(p_words, q_words, largest, t, whole, grid=grid, contractor=contractor, owners=whose)[1] == len(found)
+                assert found == paged if largest == reading.ANY_SIZE else all(pair in whole and pair[2] <= largest for pair in found)
+                assert t or found == [pair for pair in paged if pair[2] <= largest]
+    paged = followed_pages(rng, lambda key: reading.own_call(p_words, key, 16, grid=grid)[1])
+    for largest in [0, reading.ANY_SIZE] + [pair[2] for pair in paged[:2]]:
+        found = followed_many(rng, lambda key, slots: reading.own_pairs_call(p_words, key, largest, slots, grid=grid))
+        assert found == [pair for pair in paged if pair[2] <= largest] and reading.own_count_call(p_words, largest, grid=grid)[1] == len(found)
+
+
+def followed_pages(rng, page_from):
+    found, end = [], False
+    while not end:
+        page = page_from(reading.key_of(found[-1]) if found else (0, 0))
+        found, end = found + page.pairs, page.end
+    return found
+
+
+def followed_many(rng, many_from):
+    """The slots past the pairs keep their mark; with no slot nothing is stored, and more follow exactly if some do."""
+    found, more = [], True
+    while more:
+        key, marked = reading.key_of(found[-1]) if found else (0, 0), [(9, 9, 9)] * rng.randint(1, 20)
+        _, count, more, slots, _ = many_from(key, list(marked))
+        assert slots[count:] == marked[count:] and (count == len(marked) or not more)
+        assert many_from(key, [])[:4] == (0, 0, count > 0, [])
+        found += slots[:count]
+    return found
+
+
 def contractors_divide(rng, p_words, q_words, grid):
     """Both contractors' lists together are the undivided one, and no pair is in both; what their pages show when they are followed; so for each t."""
     p, q = reading.Sheet(p_words), reading.Sheet(q_words)
@@ -166,7 +238,14 @@ def handed(rules, p, q, pairs, contractor, owners, key, size, t, grid):
     return number, words, page and (page.editions, page.t, page.own, page.grid, page.contractor, page.key, page.pairs, page.end)
 
 
-def unlike(rules):
+def handed_many(rules, p, q, pairs, contractor, owners, key, size, t, grid):
+    """What a contractor is handed for a request for many pairs, on marked slots, and for a count: to a size that some pair has, or to any."""
+    largest = reading.ANY_SIZE if size == 16 else 5 * size
+    return (rules.pairs_call(p, q, key, largest, [(9, 9, 9)] * (size - 1), t, pairs, [7, 7], grid, contractor, owners),
+            rules.count_call(p, q, largest, t, pairs, [7, 7], grid, contractor, owners))
+
+
+def unlike(rules, handed=handed):
     """The first request to which a contractor is handed one thing in one run and another in a second, of which only the ids of the other's chambers differ, and with
     them positions, trees and bytes: for every key that is an id of either run, one more, or at an end of the range. None where there is no such request."""
     rng = Chance("blind")
@@ -196,6 +275,9 @@ def contractors_are_blind():
     assert unlike(reading) is None, unlike(reading)
     for old, new in wrong_readings.UNBLIND:
         assert unlike(wrong_readings.misread(old, new)), "the blind check lets through the reading `%s`" % new
+    assert unlike(reading, handed_many) is None, unlike(reading, handed_many)
+    for old, new in wrong_readings.UNBLIND_MANY:
+        assert unlike(wrong_readings.misread(old, new), handed_many), "the blind check of many pairs lets through the reading `%s`" % new
 
 
 def streets_turned(rng):
@@ -355,6 +437,7 @@ def main():
     examples()
     street_examples()
     contractors_examples()
+    many_examples()
     contractors_are_blind()
     book()
     one_corner_is_enough(Chance("corners"))
@@ -369,6 +452,7 @@ def main():
         runs_are_the_list(p, q)
         if k % 3 == 0:
             contractors_divide(rng, p, q, k % 2 > 0)
+            many_are_the_pages(Chance("many pages %d" % k), p, q, k % 2 > 0)
     for count in (0, 1, 16, 40):
         keys = sorted({(rng.randint(1, 9), rng.randint(1, 40)) for _ in range(count)})
         for t in (0, 1, 2, 5, 40):

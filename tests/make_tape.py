@@ -5,6 +5,7 @@
 """
 import make_contractors
 import make_examples
+import make_many
 import make_near
 import make_pages
 import make_runs
@@ -14,7 +15,7 @@ import make_views
 import make_walks
 from stored import Cases
 
-GENERATORS = [make_examples, make_sheets, make_walks, make_pages, make_contractors, make_runs, make_shortest, make_near, make_views]
+GENERATORS = [make_examples, make_sheets, make_walks, make_pages, make_contractors, make_runs, make_shortest, make_near, make_views, make_many]
 
 
 def joined(parts):

@@ -780,6 +780,126 @@ def own_call(s_words, key, size, pairs=None, words=ENOUGH, grid=False):
     return 0, page, opened, with_zeros(words, sheet)
 
 
+# ---------------------------------------------------------------- many pairs at once
+
+# "8*10^18 means all"
+ANY_SIZE = 8_000_000_000_000_000_000
+
+
+# "those pairs [..] whose size is at most `largest`"
+def up_to(pairs, largest):
+    return [pair for pair in pairs if pair[2] <= largest]
+
+
+# "with t above 0 the chambers that have at least t such pairs, whatever the key"
+def list_up_to(pairs, largest, t):
+    """Of the full list: those to a size, of the chambers that have at least t of these."""
+    return list_of(up_to(pairs, largest), t)
+
+
+# "strictly after the key"
+def pairs_after(pairs, key):
+    return [pair for pair in pairs if key_of(pair) > key]
+
+
+# "the first so many as the lent slice has slots, their number, whether more follow (with no slots: 0, and whether any follow)"; "the rest of the slots
+# untouched"
+def stored_in(slots, pairs):
+    """How many are stored, whether more follow, the slots from now on."""
+    count = min(len(slots), len(pairs))
+    return count, len(pairs) > count, pairs[:count] + slots[count:]
+
+
+# "Numbers: 1-8 P, 1-8 Q, 27, 26, 29, 9, 21, a number of our own for `largest` (ours start at 40 [..]), 24"; of a count "those of `pairs` without 9"
+def many_number(p_words, q_words, key, largest, t, words, grid, contractor, owners):
+    """The number of the first refusal that applies, or 0; `key` is None for a count."""
+    number = open_number(p_words) or open_number(q_words)
+    if number:
+        return number
+    p, q = Sheet(p_words), Sheet(q_words)
+    if not contractor_right(contractor):
+        return 27
+    if not owners_right(contractor, owners, q.n):
+        return 26
+    if too_wide(grid, p, q):
+        return 29
+    if key is not None and max(key) > ID:
+        return 9
+    if t > THRESHOLD:
+        return 21
+    if largest > ANY_SIZE:
+        return 40
+    if too_short(words, p):
+        return 24
+    return 0
+
+
+# "`own_pairs` likewise for a self join", which is undivided and has no threshold
+def own_many_number(s_words, key, largest, words, grid):
+    """The same of a self join."""
+    number = open_number(s_words)
+    if number:
+        return number
+    sheet = Sheet(s_words)
+    if too_wide(grid, sheet):
+        return 29
+    if key is not None and max(key) > ID:
+        return 9
+    if largest > ANY_SIZE:
+        return 40
+    if too_short(words, sheet):
+        return 24
+    return 0
+
+
+def lists_pairs(p_words, q_words, pairs, largest, t, grid, contractor, owners):
+    """The list of a contractor, of an undivided list all, of a t and to a size. `pairs` is the undivided list, made anew where it is not handed in."""
+    p, q = Sheet(p_words), Sheet(q_words)
+    whole = ring_list(p.points, q.points, grid) if pairs is None else pairs
+    return list_up_to(contractors_list(whole, q, chambers_of(q, owners, contractor)), largest, t)
+
+
+def own_lists_pairs(s_words, pairs, largest, grid):
+    """The list of a self join, to a size. `pairs` as above."""
+    return list_up_to(self_list(Sheet(s_words).points, grid) if pairs is None else pairs, largest, 0)
+
+
+# "the bits zero after an answer"; a refusal "leaves lent memory [..] as they stood"
+def pairs_call(p_words, q_words, key, largest, slots, t=0, pairs=None, words=ENOUGH, grid=False, contractor=UNDIVIDED, owners=()):
+    """(number, how many pairs, whether more follow, the slots and the lent words from now on) of a request for many pairs. `pairs` as above."""
+    number = many_number(p_words, q_words, key, largest, t, words, grid, contractor, owners)
+    if number:
+        return number, 0, False, slots, words
+    listed = lists_pairs(p_words, q_words, pairs, largest, t, grid, contractor, owners)
+    return (0,) + stored_in(slots, pairs_after(listed, key)) + (with_zeros(words, Sheet(p_words)),)
+
+
+def own_pairs_call(s_words, key, largest, slots, pairs=None, words=ENOUGH, grid=False):
+    """The same of a self join."""
+    number = own_many_number(s_words, key, largest, words, grid)
+    if number:
+        return number, 0, False, slots, words
+    listed = own_lists_pairs(s_words, pairs, largest, grid)
+    return (0,) + stored_in(slots, pairs_after(listed, key)) + (with_zeros(words, Sheet(s_words)),)
+
+
+# "`count`: the number of pairs of such a list, 64-bit, so that a caller can lend enough"
+def count_call(p_words, q_words, largest, t=0, pairs=None, words=ENOUGH, grid=False, contractor=UNDIVIDED, owners=()):
+    """(number, how many pairs the list has, the lent words from now on). `pairs` as above."""
+    number = many_number(p_words, q_words, None, largest, t, words, grid, contractor, owners)
+    if number:
+        return number, 0, words
+    return 0, len(lists_pairs(p_words, q_words, pairs, largest, t, grid, contractor, owners)), with_zeros(words, Sheet(p_words))
+
+
+def own_count_call(s_words, largest, pairs=None, words=ENOUGH, grid=False):
+    """The same of a self join."""
+    number = own_many_number(s_words, None, largest, words, grid)
+    if number:
+        return number, 0, words
+    return 0, len(own_lists_pairs(s_words, pairs, largest, grid)), with_zeros(words, Sheet(s_words))
+
+
 # ---------------------------------------------------------------- whether a chamber has at least t partners
 
 # "For one q id and a t, give the smaller of t and the number of its pairs in the list, and a yes exactly when that is t." "20 unknown q id (single question

@@ -11,22 +11,25 @@ TOP = os.path.join(os.path.dirname(os.path.abspath(__file__)), "..")
 # The kinds of cases on the tape, as crates/trial knows them: a 0 ends it, and 6 is the program's own, for the ring walks of a case of walks.
 RULES, OPEN, POINT, PACK, WALKS = range(1, 6)
 PAGES, PARTNERS, OWN, RUNS, SHORTEST, NEAR, VIEWS, MARK = range(7, 15)
+MANY, OWN_MANY, COUNT, OWN_COUNT = range(15, 19)
 
 # of the kinds that are asked of two sheets: the words of a request, of which the first says how many words for kept bits are lent
-WIDTH = {PAGES: 6, PARTNERS: 3, OWN: 5, RUNS: 3, SHORTEST: 2, NEAR: 5, VIEWS: 10}
+WIDTH = {PAGES: 6, PARTNERS: 3, OWN: 5, RUNS: 3, SHORTEST: 2, NEAR: 5, VIEWS: 10, MANY: 9, OWN_MANY: 8, COUNT: 6, OWN_COUNT: 5}
+# those that end with a contractor and its owner bytes
+OWNED = (PAGES, MANY, COUNT)
 # of the views: the call that is a page request
 VIEW_PAGE = 6
 
 
 def whose(contractor, owners):
-    """What a page request ends with: its contractor, how many owner bytes there are, and these, a word each."""
+    """What such a request ends with: its contractor, how many owner bytes there are, and these, a word each."""
     return [contractor, len(owners), *owners]
 
 
 def request_end(kind, words, at):
     """Where the request ends that begins there."""
     end = at + WIDTH[kind]
-    if kind == PAGES or kind == VIEWS and words[at + 1] == VIEW_PAGE:
+    if kind in OWNED or kind == VIEWS and words[at + 1] == VIEW_PAGE:
         return end + 2 + words[end + 1]
     return end
 

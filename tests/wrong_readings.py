@@ -835,8 +835,226 @@ BOOK += [
     (NOT_28, NOT_28.replace("return 28", "return 22")),
 ]
 
+UP_TO = "    return [pair for pair in pairs if pair[2] <= largest]\n"
+OF_T_UP_TO = "    return list_of(up_to(pairs, largest), t)\n"
+AFTER = "    return [pair for pair in pairs if key_of(pair) > key]\n"
+STORED_COUNT = "    count = min(len(slots), len(pairs))\n"
+STORED = "    return count, len(pairs) > count, pairs[:count] + slots[count:]\n"
+SHEETS_OF_MANY = '''None for a count."""
+    number = open_number(p_words) or open_number(q_words)'''
+MANY_27 = "    if not contractor_right(contractor):\n        return 27\n"
+MANY_26 = "    if not owners_right(contractor, owners, q.n):\n        return 26\n"
+MANY_29 = "    if too_wide(grid, p, q):\n        return 29\n"
+MANY_9 = MANY_29 + "    if key is not None and max(key) > ID:\n        return 9\n"
+MANY_21 = "    if t > THRESHOLD:\n        return 21\n"
+MANY_40 = MANY_21 + "    if largest > ANY_SIZE:\n        return 40\n"
+MANY_24 = "    if too_short(words, p):\n        return 24\n    return 0\n\n\n# \"`own_pairs`"
+SHEET_OF_OWN_MANY = '''The same of a self join."""
+    number = open_number(s_words)'''
+OWN_MANY_29 = "    if too_wide(grid, sheet):\n        return 29\n"
+OWN_MANY_9 = OWN_MANY_29 + "    if key is not None and max(key) > ID:\n        return 9\n"
+OWN_MANY_40 = OWN_MANY_9 + "    if largest > ANY_SIZE:\n        return 40\n"
+OWN_MANY_24 = "    if too_short(words, sheet):\n        return 24\n"
+REFUSED_PAIRS = "largest, t, words, grid, contractor, owners)\n    if number:\n        return number, 0, False, slots, words\n"
+REFUSED_OWN = "    number = own_many_number(s_words, key, largest, words, grid)\n    if number:\n        return number, 0, False, slots, words\n"
+REFUSED_COUNT = "    number = many_number(p_words, q_words, None, largest, t, words, grid, contractor, owners)\n    if number:\n        return number, 0, words\n"
+REFUSED_OWN_COUNT = "    number = own_many_number(s_words, None, largest, words, grid)\n    if number:\n        return number, 0, words\n"
+MANY_LISTED = "    return list_up_to(contractors_list(whole, q, chambers_of(q, owners, contractor)), largest, t)\n"
+OWN_MANY_LISTED = "    return list_up_to(self_list(Sheet(s_words).points, grid) if pairs is None else pairs, largest, 0)\n"
+PAIRS_GIVEN = "    return (0,) + stored_in(slots, pairs_after(listed, key)) + (with_zeros(words, Sheet(p_words)),)\n"
+OWN_PAIRS_GIVEN = "    return (0,) + stored_in(slots, pairs_after(listed, key)) + (with_zeros(words, Sheet(s_words)),)\n"
+COUNT_GIVEN = "    return 0, len(lists_pairs(p_words, q_words, pairs, largest, t, grid, contractor, owners)), with_zeros(words, Sheet(p_words))\n"
+OWN_COUNT_GIVEN = "    return 0, len(own_lists_pairs(s_words, pairs, largest, grid)), with_zeros(words, Sheet(s_words))\n"
+# the key's chamber is the other's
+MANY_OTHERS = "contractor < UNDIVIDED and any(point[0] == key[0] and byte != contractor for point, byte in zip(Sheet(q_words).points, owners))"
+# what is refused by a number after 27, and what by one after 26
+AFTER_27 = [(26, "not owners_right(contractor, owners, q.n)"), (29, "too_wide(grid, p, q)"), (9, "key is not None and max(key) > ID"), (21, "t > THRESHOLD"), (40, "largest > ANY_SIZE"),
+            (24, "too_short(words, p)")]
+
+
+def put_after(text, number, later):
+    """The test with this number, which is the last of the text, put after each of the later ones."""
+    head, tail = text.rsplit("return %d\n" % number, 1)
+    return [(text, "%sreturn %d if %s else %d\n%s" % (head, other, test, number, tail)) for other, test in later]
+
+
+# Here the pairs that a contractor is handed, their number or what is said to follow depend on the ids of the other's chambers: more follow where the other's do; a key
+# of the other's chamber is refused, begins from the start, or has nothing after it; the slots left say how many the other has. check_reading.py has two runs that
+# tell each.
+UNBLIND_MANY = [
+    (PAIRS_GIVEN, """    count, more, after = stored_in(slots, pairs_after(listed, key))
+    others = pairs_after(lists_pairs(p_words, q_words, pairs, largest, t, grid, UNDIVIDED, ()), key_of(after[count - 1]) if count else key)
+    return 0, count, more or bool(others), after, with_zeros(words, Sheet(p_words))
+"""),
+    (PAIRS_GIVEN, "    if %s:\n        return 9, 0, False, slots, words\n" % MANY_OTHERS + PAIRS_GIVEN),
+    (PAIRS_GIVEN, "    key = (0, 0) if %s else key\n" % MANY_OTHERS + PAIRS_GIVEN),
+    (PAIRS_GIVEN, "    listed = [] if %s else listed\n" % MANY_OTHERS + PAIRS_GIVEN),
+    (PAIRS_GIVEN, """    count, more, after = stored_in(slots, pairs_after(listed, key))
+    others = len(pairs_after(lists_pairs(p_words, q_words, pairs, largest, t, grid, UNDIVIDED, ()), key))
+    return 0, count, more, after[:count] + [UNUSED] * (min(others, len(slots)) - count) + after[max(count, min(others, len(slots))):], with_zeros(words, Sheet(p_words))
+"""),
+    (COUNT_GIVEN, COUNT_GIVEN.replace("contractor, owners)), with", "contractor, owners)) + (owners[:1] == (1 - contractor,)), with")),
+]
+
+MANY = UNBLIND_MANY + SIZES + ZEROS + put_after(MANY_27, 27, AFTER_27) + put_after(MANY_26, 26, AFTER_27[1:]) + put_after(MANY_29, 29, AFTER_27[2:]) + put_after(MANY_9, 9, AFTER_27[3:]) \
+    + put_after(MANY_21, 21, AFTER_27[4:]) + put_after(MANY_40, 40, AFTER_27[5:]) + [
+    # strictly after the key: at or after it; after its q id alone; of its chamber alone; its p id goes by itself; no key at all; before it
+    (AFTER, AFTER.replace("> key", ">= key")),
+    (AFTER, AFTER.replace("key_of(pair) > key", "pair[0] > key[0]")),
+    (AFTER, AFTER.replace("key_of(pair) > key", "key_of(pair) > key and pair[0] == (key[0] or pair[0])")),
+    (AFTER, AFTER.replace("key_of(pair) > key", "pair[0] >= key[0] and pair[1] > key[1]")),
+    (AFTER, "    return pairs\n"),
+    (AFTER, AFTER.replace("> key", "< key or key == (0, 0)")),
+    # at most the largest: below it; one more; by the diameter in whole numbers; at least it; 0 means all; the limit is not all; the largest is not looked at
+    (UP_TO, UP_TO.replace("<= largest", "< largest")),
+    (UP_TO, UP_TO.replace("<= largest", "<= largest + 1")),
+    (UP_TO, UP_TO.replace("pair[2] <= largest", "int(pair[2] ** 0.5) <= int(largest ** 0.5)")),
+    (UP_TO, UP_TO.replace("<= largest", ">= largest or largest == ANY_SIZE")),
+    (UP_TO, UP_TO.replace("pair[2] <= largest", "pair[2] <= (largest or ANY_SIZE)")),
+    (UP_TO, UP_TO.replace("pair[2] <= largest", "pair[2] <= min(largest, ANY_SIZE - 1)")),
+    (UP_TO, "    return pairs\n"),
+    # the largest size in 32 bits, and in 63
+    (UP_TO, UP_TO.replace("<= largest", "<= largest % 2 ** 32")),
+    (UP_TO, UP_TO.replace("<= largest", "<= largest % 2 ** 62")),
+    # a t: of pairs of any size; after the size, of the whole list; more than t; t goes by the pump houses; the first t of each chamber; not at all
+    (OF_T_UP_TO, "    return up_to(list_of(pairs, t), largest)\n"),
+    (OF_T_UP_TO, "    return list_of(pairs, t)\n"),
+    (OF_T_UP_TO, OF_T_UP_TO.replace(", t)", ", t + 1)")),
+    (OF_T_UP_TO, "    return up_to(pairs, largest)\n"),
+    (OF_T_UP_TO, "    few = up_to(pairs, largest)\n    return [pair for pair in few if sum(other[1] == pair[1] for other in few) >= t]\n"),
+    (OF_T_UP_TO, "    few = list_of(up_to(pairs, largest), t)\n    return [pair for pair in few if not t or sum(other[0] == pair[0] and other < pair for other in few) < t]\n"),
+    # "whatever the key": t goes by the pairs after it alone
+    (PAIRS_GIVEN, PAIRS_GIVEN.replace("pairs_after(listed, key)", "list_of(pairs_after(listed, key), t)")),
+    # so many as there are slots: one fewer; one slot is left; none but where all fit; the last ones; sixteen at most
+    (STORED_COUNT, STORED_COUNT.replace("len(slots)", "max(len(slots) - 1, 0)")),
+    (STORED_COUNT, STORED_COUNT.replace("len(slots), len(pairs)", "len(slots), max(len(pairs) - 1, 0)")),
+    (STORED_COUNT, "    count = len(pairs) if len(pairs) <= len(slots) else 0\n"),
+    (STORED, STORED.replace("pairs[:count] +", "pairs[len(pairs) - count:] +")),
+    (STORED_COUNT, STORED_COUNT.replace("len(slots)", "len(slots), 16")),
+    # whether more follow: not with no slot; always with no slot; where the slots are full; never; where fewer follow than slots; only where two follow
+    (STORED, STORED.replace("len(pairs) > count", "len(pairs) > count > 0")),
+    (STORED, STORED.replace("len(pairs) > count", "len(pairs) > count or not slots")),
+    (STORED, STORED.replace("len(pairs) > count", "len(pairs) >= len(slots)")),
+    (STORED, STORED.replace("len(pairs) > count", "False")),
+    (STORED, STORED.replace("len(pairs) > count", "len(pairs) < len(slots)")),
+    (STORED, STORED.replace("len(pairs) > count", "len(pairs) > count + 1")),
+    # the rest of the slots: zeros; the first of the rest is zeros; the pairs stand at the end; the last pair fills them
+    (STORED, STORED.replace("+ slots[count:]", "+ [UNUSED] * (len(slots) - count)")),
+    (STORED, STORED.replace("+ slots[count:]", "+ [UNUSED] * (len(slots) > count) + slots[count + 1:]")),
+    (STORED, STORED.replace("pairs[:count] + slots[count:]", "slots[:len(slots) - count] + pairs[:count]")),
+    (STORED, STORED.replace("+ slots[count:]", "+ (pairs[-1:] * len(slots) + slots)[:len(slots) - count]")),
+    # its pairs by size, and by p id
+    (STORED_COUNT, "    pairs = sorted(pairs, key=lambda pair: pair[2])\n" + STORED_COUNT),
+    (STORED_COUNT, "    pairs = sorted(pairs, key=lambda pair: (pair[1], pair[0]))\n" + STORED_COUNT),
+    # the sheets' numbers: Q's before P's; Q's not at all; after 9, 21, 40 and 24; of a self join after 9, 40 and 24
+    (SHEETS_OF_MANY, SHEETS_OF_MANY.replace("(p_words)", "(words)").replace("(q_words)", "(p_words)").replace("(words)", "(q_words)")),
+    (SHEETS_OF_MANY, SHEETS_OF_MANY.replace(" or open_number(q_words)", "")),
+    (SHEETS_OF_MANY, SHEETS_OF_MANY + " if key is None or max(key) <= ID else 9"),
+    (SHEETS_OF_MANY, SHEETS_OF_MANY + " if t <= THRESHOLD else 21"),
+    (SHEETS_OF_MANY, SHEETS_OF_MANY + " if largest <= ANY_SIZE else 40"),
+    (SHEETS_OF_MANY, SHEETS_OF_MANY.replace(" or ", " or (40 if largest > ANY_SIZE else 0) or ")),
+    (SHEETS_OF_MANY, SHEETS_OF_MANY + " if words else 24"),
+    (SHEETS_OF_MANY, SHEETS_OF_MANY + " if contractor <= UNDIVIDED else 27"),
+    (SHEET_OF_OWN_MANY, SHEET_OF_OWN_MANY + " if key is None or max(key) <= ID else 9"),
+    (SHEET_OF_OWN_MANY, SHEET_OF_OWN_MANY + " if largest <= ANY_SIZE else 40"),
+    (SHEET_OF_OWN_MANY, SHEET_OF_OWN_MANY + " if words else 24"),
+    # each number not at all; 9 by the q id alone; 29 by P alone, by Q alone; 21 of a t of 1,001
+    (MANY_27, "    contractor = min(contractor, UNDIVIDED)\n"),
+    (MANY_26, ""),
+    (MANY_29, ""),
+    (MANY_9, MANY_29),
+    (MANY_9, MANY_9.replace("max(key)", "key[0]")),
+    (MANY_9, MANY_9.replace("max(key)", "key[1]")),
+    (MANY_29, MANY_29.replace("(grid, p, q)", "(grid, p)")),
+    (MANY_29, MANY_29.replace("(grid, p, q)", "(grid, q)")),
+    (MANY_21, ""),
+    (MANY_21, MANY_21.replace("> THRESHOLD", "> 1_000")),
+    (MANY_40, MANY_21 + "    largest = min(largest, ANY_SIZE)\n"),
+    # 40: of the limit itself; of one more than the limit not; of the limit of the street grid; of 63 bits; with another number
+    ("ANY_SIZE = 8_000_000_000_000_000_000", "ANY_SIZE = 7_999_999_999_999_999_999"),
+    ("ANY_SIZE = 8_000_000_000_000_000_000", "ANY_SIZE = 8_000_000_000_000_000_001"),
+    (MANY_40, MANY_40.replace("> ANY_SIZE", "> (STREETS if grid else ANY_SIZE)")),
+    (MANY_40, MANY_40.replace("> ANY_SIZE", ">= 2 ** 63")),
+    (MANY_40, MANY_40.replace("return 40", "return 10")),
+    # 24: not at all; of the words that Q needs; where no word is lent alone; for a count not
+    (MANY_24, MANY_24.replace("too_short(words, p)", "False")),
+    (MANY_24, MANY_24.replace("(words, p)", "(words, q)")),
+    (MANY_24, MANY_24.replace("too_short(words, p)", "p.n and not words")),
+    (MANY_24, MANY_24.replace("too_short(words, p)", "key is not None and too_short(words, p)")),
+    # of a self join: 9 before 29; 40 before 29, before 9; 24 before each of them; each not at all; 9 by one id alone
+    (OWN_MANY_29, OWN_MANY_29.replace("return 29", "return 9 if key is not None and max(key) > ID else 29")),
+    (OWN_MANY_29, OWN_MANY_29.replace("return 29", "return 40 if largest > ANY_SIZE else 29")),
+    (OWN_MANY_29, OWN_MANY_29.replace("return 29", "return 24 if too_short(words, sheet) else 29")),
+    (OWN_MANY_9, OWN_MANY_9.replace("return 9\n", "return 40 if largest > ANY_SIZE else 9\n")),
+    (OWN_MANY_9, OWN_MANY_9.replace("return 9\n", "return 24 if too_short(words, sheet) else 9\n")),
+    (OWN_MANY_40, OWN_MANY_40.replace("return 40", "return 24 if too_short(words, sheet) else 40")),
+    (OWN_MANY_29, ""),
+    (OWN_MANY_9, OWN_MANY_29),
+    (OWN_MANY_9, OWN_MANY_9.replace("max(key)", "key[0]")),
+    (OWN_MANY_9, OWN_MANY_9.replace("max(key)", "key[1]")),
+    (OWN_MANY_40, OWN_MANY_9),
+    (OWN_MANY_24, ""),
+    # a count refuses a key, as the call for pairs does: whatever it is taken for
+    (REFUSED_COUNT, REFUSED_COUNT.replace("None, largest", "(ID + 1, 0), largest")),
+    (REFUSED_COUNT, REFUSED_COUNT.replace("None, largest", "(largest, 0), largest")),
+    (REFUSED_OWN_COUNT, REFUSED_OWN_COUNT.replace("None, largest", "(largest, 0), largest")),
+    # what is refused clears the words; takes away what the slots held; counts
+    (REFUSED_PAIRS, REFUSED_PAIRS.replace("slots, words\n", "slots, [0] * len(words)\n")),
+    (REFUSED_PAIRS, REFUSED_PAIRS.replace("slots, words\n", "[UNUSED] * len(slots), words\n")),
+    (REFUSED_PAIRS, REFUSED_PAIRS.replace("0, False", "0, True")),
+    (REFUSED_PAIRS, REFUSED_PAIRS.replace("0, False", "len(slots), False")),
+    (REFUSED_OWN, REFUSED_OWN.replace("slots, words\n", "slots, [0] * len(words)\n")),
+    (REFUSED_OWN, REFUSED_OWN.replace("slots, words\n", "[UNUSED] * len(slots), words\n")),
+    (REFUSED_COUNT, REFUSED_COUNT.replace("0, words\n", "0, [0] * len(words)\n")),
+    (REFUSED_COUNT, REFUSED_COUNT.replace("return number, 0,", "return number, 1,")),
+    (REFUSED_OWN_COUNT, REFUSED_OWN_COUNT.replace("0, words\n", "0, [0] * len(words)\n")),
+    # the words after an answer of each call: as they were; zeros but where no pair follows
+    (PAIRS_GIVEN, PAIRS_GIVEN.replace("with_zeros(words, Sheet(p_words))", "words")),
+    (PAIRS_GIVEN, PAIRS_GIVEN.replace("with_zeros(words, Sheet(p_words))", "with_zeros(words, Sheet(p_words)) if pairs_after(listed, key) else words")),
+    (PAIRS_GIVEN, PAIRS_GIVEN.replace("Sheet(p_words)", "Sheet(q_words)")),
+    (OWN_PAIRS_GIVEN, OWN_PAIRS_GIVEN.replace("with_zeros(words, Sheet(s_words))", "words")),
+    (COUNT_GIVEN, COUNT_GIVEN.replace("with_zeros(words, Sheet(p_words))", "words")),
+    (COUNT_GIVEN, COUNT_GIVEN.replace("Sheet(p_words)", "Sheet(q_words)")),
+    (OWN_COUNT_GIVEN, OWN_COUNT_GIVEN.replace("with_zeros(words, Sheet(s_words))", "words")),
+    # the count: of pairs of any size; of the chambers; of no t; of the undivided list; in 8 bits; one more
+    (COUNT_GIVEN, COUNT_GIVEN.replace("pairs, largest, t", "pairs, ANY_SIZE, t")),
+    (COUNT_GIVEN, COUNT_GIVEN.replace("len(lists_pairs(p_words, q_words, pairs, largest, t, grid, contractor, owners))", "len({pair[0] for pair in lists_pairs(p_words, q_words, pairs, largest, t, grid, contractor, owners)})")),
+    (COUNT_GIVEN, COUNT_GIVEN.replace("largest, t,", "largest, 0,")),
+    (COUNT_GIVEN, COUNT_GIVEN.replace("contractor, owners))", "UNDIVIDED, ()))")),
+    (COUNT_GIVEN, COUNT_GIVEN.replace("owners)), with", "owners)) % 256, with")),
+    (COUNT_GIVEN, COUNT_GIVEN.replace("owners)), with", "owners)) + 1, with")),
+    (OWN_COUNT_GIVEN, OWN_COUNT_GIVEN.replace("pairs, largest", "pairs, ANY_SIZE")),
+    (OWN_COUNT_GIVEN, OWN_COUNT_GIVEN.replace("grid)), with", "grid)) * 2, with")),
+    # whose: the undivided list for each; the other's; contractor 0 has all; a contractor's list has no t, goes by the whole list's t
+    (MANY_LISTED, MANY_LISTED.replace("contractor))", "UNDIVIDED))")),
+    (OWN_CHAMBERS, OWN_CHAMBERS.replace("== contractor", "!= contractor")),
+    (OWN_CHAMBERS, OWN_CHAMBERS.replace("== contractor", "== 0")),
+    (OWN_CHAMBERS, OWN_CHAMBERS.replace("owners[j]", "owners[q.order[j]]")),
+    (OWN_CHAMBERS, OWN_CHAMBERS.replace("owners[j]", "owners[q.rank[j]]")),
+    (MANY_LISTED, MANY_LISTED.replace("largest, t)", "largest, t if contractor == UNDIVIDED else 0)")),
+    (ONE_EACH, ONE_EACH.replace("(0, 1)", "(0, 1, 2)")),
+    (ONE_EACH, ONE_EACH.replace("len(owners) == chambers and ", "")),
+    (NO_BYTES, "        return True\n"),
+    (IN_RANGE, IN_RANGE.replace("<= UNDIVIDED and", "<= 3 and")),
+    (IN_RANGE, IN_RANGE.replace("0 <= contractor <=", "0 <= contractor % 256 <=")),
+    # the rule of pairs: what touches the circle does not block; a record at an end's place does; records of P alone block, of Q alone; the other profile
+    ("    return product(a, b, x) <= 0", "    return product(a, b, x) < 0"),
+    (NO_END_BLOCKS, ""),
+    ("        if k != i and blocking(q, p, point[1:]):\n", "        if False:\n"),
+    ("        if k != j and blocking(q, p, point[1:]):\n", "        if False:\n"),
+    ("    q, p = q_points[j][1:], p_points[i][1:]\n", "    q, p, grid = q_points[j][1:], p_points[i][1:], not grid\n"),
+    ("    if x in (a, b):\n        return False\n    return from_middle(a, b, x) <= along_streets(a, b)\n", "    if x in (a, b):\n        return False\n    return from_middle(a, b, x) < along_streets(a, b)\n"),
+    # of a self join: pairs both ways; a record with itself; blocked by an end's copy; the other profile
+    ("            if one[0] < other[0] and not", "            if one[0] != other[0] and not"),
+    ("            if one[0] < other[0] and not", "            if one[0] <= other[0] and not"),
+    (NONE_BLOCKS, NONE_BLOCKS.replace("blocking", "point[1:] in (one[1:], other[1:]) or blocking")),
+    (OWN_MANY_LISTED, OWN_MANY_LISTED.replace("points, grid)", "points, not grid)")),
+    (OWN_MANY_LISTED, OWN_MANY_LISTED.replace("largest, 0)", "ANY_SIZE, 0)")),
+    (OWN_MANY_LISTED, OWN_MANY_LISTED.replace("largest, 0)", "largest, 2)")),
+]
+
 STEP = 100
-WRONG = {"sheets": SHEETS, "walks": WALKS, "pages": PAGES, "contractors": CONTRACTORS, "runs": RUNS, "shortest": SHORTEST, "near": NEAR, "the book": BOOK}
+WRONG = {"sheets": SHEETS, "walks": WALKS, "pages": PAGES, "contractors": CONTRACTORS, "runs": RUNS, "shortest": SHORTEST, "near": NEAR, "many": MANY, "the book": BOOK}
 
 
 def misread(old, new):

@@ -26,7 +26,7 @@ enum { NO_CALL = 1001, NO_SHAPE = 1002, NO_HANDLE = 1003, NO_MEMORY = 1004, NO_F
 
 enum {
     HELLO = 1, SHEET, DROP, PACK, POINT, WALK, PAGE, OWN, PARTNERS, SHORTEST, NEAREST, MARKER, BOOK, NEXT, TAKE, SLOTS, STORED_BOOK, FORMS, DEPOT, GIVE, SHELF,
-    STORED_DEPOT, HELD, POSITION, RUN
+    STORED_DEPOT, HELD, POSITION, RUN, MANY, OWN_MANY, COUNT, OWN_COUNT
 };
 
 /* How many words stand for a pair, a source, a page and a form. */
@@ -250,16 +250,21 @@ static uint32_t say_paged(RingPaged paged) {
     return 0;
 }
 
+/* The owner bytes of as many words, to be freed, or NULL where there is no memory. A word that is no byte is handed on as one that is refused. */
+static uint8_t *bytes_of(const uint32_t *words, size_t owners) {
+    uint8_t *bytes = malloc(owners + 1);
+    for (size_t k = 0; bytes != NULL && k < owners; k++) bytes[k] = words[k] > 255 ? 255 : (uint8_t)words[k];
+    return bytes;
+}
+
 /* key, size, threshold, contractor, grid, then a word for each owner byte */
 static uint32_t page(const Thing *p, const Thing *q, const uint32_t *words, size_t len) {
     size_t owners = len - 6;
-    uint8_t *bytes = malloc(owners + 1);
+    uint8_t *bytes = bytes_of(words + 6, owners);
     if (bytes == NULL || !may_lend(RING_WORDS(p->n))) {
         free(bytes);
         return NO_MEMORY;
     }
-    /* a word that is no byte is handed on as one that is refused */
-    for (size_t k = 0; k < owners; k++) bytes[k] = words[6 + k] > 255 ? 255 : (uint8_t)words[6 + k];
     RingRequest request = {{words[0], words[1]}, words[2], words[3], words[4], words[5] != 0};
     RingPaged paged = ring_page(p->room, p->len, q->room, q->len, bytes, owners, request, lent, RING_WORDS(p->n));
     free(bytes);
@@ -447,6 +452,73 @@ static uint32_t run(const Thing *p, const Thing *q, const uint32_t *words) {
     return found.number;
 }
 
+/* Room for so many pairs and one more, to be freed, or NULL: more than an answer has room for nobody asks for. */
+static RingPair *slots_for(size_t slots) { return slots > (MOST - 1) / PAIR ? NULL : malloc((slots + 1) * sizeof(RingPair)); }
+
+/* whether more follow, and the pairs */
+static uint32_t say_many(RingMany found, const RingPair *out) {
+    if (found.number != 0) return found.number;
+    if (!may_say(1 + PAIR * found.count)) return NO_MEMORY;
+    say(found.more);
+    for (size_t k = 0; k < found.count; k++) say_pair(out[k]);
+    return 0;
+}
+
+/* key, largest, how many slots, threshold, contractor, grid, then a word for each owner byte */
+static uint32_t many(const Thing *p, const Thing *q, const uint32_t *words, size_t len) {
+    size_t slots = words[4], owners = len - 8;
+    uint8_t *bytes = bytes_of(words + 8, owners);
+    RingPair *out = slots_for(slots);
+    uint32_t status = NO_MEMORY;
+    if (bytes != NULL && out != NULL && may_lend(RING_WORDS(p->n))) {
+        RingWanted wanted = {{words[0], words[1]}, long_at(words + 2), words[5], words[6], words[7] != 0};
+        status = say_many(ring_pairs(p->room, p->len, q->room, q->len, bytes, owners, wanted, out, slots, lent, RING_WORDS(p->n)), out);
+    }
+    free(bytes);
+    free(out);
+    return status;
+}
+
+/* key, largest, how many slots, grid */
+static uint32_t own_many(const Thing *s, const uint32_t *words) {
+    RingKey key = {words[0], words[1]};
+    RingPair *out = slots_for(words[4]);
+    if (out == NULL || !may_lend(RING_WORDS(s->n))) {
+        free(out);
+        return NO_MEMORY;
+    }
+    uint32_t status = say_many(ring_own_pairs(s->room, s->len, key, long_at(words + 2), words[5] != 0, out, words[4], lent, RING_WORDS(s->n)), out);
+    free(out);
+    return status;
+}
+
+static uint32_t say_counted(RingCounted counted) {
+    if (counted.number != 0) return counted.number;
+    if (!may_say(2)) return NO_MEMORY;
+    say_long(counted.count);
+    return 0;
+}
+
+/* largest, threshold, contractor, grid, then a word for each owner byte */
+static uint32_t count(const Thing *p, const Thing *q, const uint32_t *words, size_t len) {
+    size_t owners = len - 5;
+    uint8_t *bytes = bytes_of(words + 5, owners);
+    if (bytes == NULL || !may_lend(RING_WORDS(p->n))) {
+        free(bytes);
+        return NO_MEMORY;
+    }
+    RingWhich which = {long_at(words), words[2], words[3], words[4] != 0};
+    RingCounted counted = ring_count(p->room, p->len, q->room, q->len, bytes, owners, which, lent, RING_WORDS(p->n));
+    free(bytes);
+    return say_counted(counted);
+}
+
+/* largest, grid */
+static uint32_t own_count(const Thing *s, const uint32_t *words) {
+    if (!may_lend(RING_WORDS(s->n))) return NO_MEMORY;
+    return say_counted(ring_own_count(s->room, s->len, long_at(words), words[2] != 0, lent, RING_WORDS(s->n)));
+}
+
 /* What each call is given: how many handles and of what kind, then how many words at least, and whether more may follow. */
 typedef struct Shape {
     int handles;
@@ -461,11 +533,11 @@ static const Shape shapes[] = {
     [MARKER] = {0, 0, 4, 0}, [BOOK] = {0, 0, SOURCE + 1, 0}, [NEXT] = {1, A_BOOK, 0, 0}, [TAKE] = {1, A_BOOK, PAGED, 0}, [SLOTS] = {1, A_BOOK, 2, 0},
     [STORED_BOOK] = {0, 0, SOURCE + 3, 1}, [FORMS] = {1, A_BOOK, 0, 0}, [DEPOT] = {0, 0, 1, 0}, [GIVE] = {1, A_DEPOT, FORM, 0}, [SHELF] = {1, A_DEPOT, 2, 0},
     [STORED_DEPOT] = {0, 0, 2, 1}, [HELD] = {1, A_DEPOT, 0, 0}, [POSITION] = {1, A_SHEET, 1, 0},
-    [RUN] = {2, A_SHEET, 2, 0},
+    [RUN] = {2, A_SHEET, 2, 0}, [MANY] = {2, A_SHEET, 8, 1}, [OWN_MANY] = {1, A_SHEET, 6, 0}, [COUNT] = {2, A_SHEET, 5, 1}, [OWN_COUNT] = {1, A_SHEET, 3, 0},
 };
 
 static uint32_t answered(uint32_t call, const uint32_t *words, size_t len) {
-    if (call < HELLO || call > RUN) return NO_CALL;
+    if (call < HELLO || call > OWN_COUNT) return NO_CALL;
     Shape shape = shapes[call];
     size_t least = (size_t)shape.handles + shape.words;
     if (len < least || (len > least && !shape.more)) return NO_SHAPE;
@@ -502,7 +574,11 @@ static uint32_t answered(uint32_t call, const uint32_t *words, size_t len) {
     case STORED_DEPOT: return stored_depot(words, len);
     case HELD: return held(a);
     case POSITION: return position(a, words[0]);
-    default: return run(a, b, words);
+    case RUN: return run(a, b, words);
+    case MANY: return many(a, b, words, len);
+    case OWN_MANY: return own_many(a, words);
+    case COUNT: return count(a, b, words, len);
+    default: return own_count(a, words);
     }
 }
 

@@ -13,12 +13,12 @@ exception, `ring.Refused`, with its number and its reason. docs/GUIDE.md says mo
 """
 from .api import Book, Depot, Ring
 from .faults import BadFile, BadTable, NoSuchId, Refused, RingError, WorkerFault
-from .records import Form, Key, Marker, Near, Page, Pair, Partners, Point, Source, Why
+from .records import Form, Key, Many, Marker, Near, Page, Pair, Partners, Point, Source, Why
 from .refusals import reason
 from .sheets import Sheet, Units
 from .table import read_owners, read_points
 
 __all__ = [
-    "BadFile", "BadTable", "Book", "Depot", "Form", "Key", "Marker", "Near", "NoSuchId", "Page", "Pair", "Partners", "Point", "Refused", "Ring", "RingError",
+    "BadFile", "BadTable", "Book", "Depot", "Form", "Key", "Many", "Marker", "Near", "NoSuchId", "Page", "Pair", "Partners", "Point", "Refused", "Ring", "RingError",
     "Sheet", "Source", "Units", "Why", "WorkerFault", "read_owners", "read_points", "reason",
 ]

@@ -3,7 +3,7 @@ import struct
 
 from . import sheets, stored
 from .faults import NoSuchId, Refused, WorkerFault
-from .records import Form, Key, Marker, Near, Page, Pair, Partners, Source, Why
+from .records import Form, Key, Many, Marker, Near, Page, Pair, Partners, Source, Why
 from .worker import Call, Handle, Worker, long_at, signed
 
 UNDIVIDED = 2
@@ -14,6 +14,10 @@ KINDS = ("clear", "point", "side")
 PAIR, SOURCE, FORM, SLOTS = 4, 6, 9, 16
 # the slots that a leaf run is lent at first
 LEAF = 1 << 10
+# the slots that many pairs are lent at first, each time so many times as many, and at most
+FEW, TIMES, MOST = 1 << 8, 4, 1 << 14
+# no pair has a greater size
+ANY_SIZE = 8_000_000_000_000_000_000
 # how many pairs or forms are fetched at once
 FETCHED = 1 << 16
 
@@ -162,31 +166,58 @@ class Ring:
                 return
             key = Key(*page.pairs[-1][:2])
 
-    @staticmethod
-    def _whole(pages):
-        """All pairs of a list, as they come. The one place where a whole list is made: by its pages, until a call gives it at once."""
-        for page in pages:
-            yield from page.pairs
+    def many(self, p, q, key=START, slots=MOST, largest=None, threshold=0, contractor=UNDIVIDED, owners=(), grid=False):
+        """The first so many pairs strictly after a key, of those that are no larger than `largest`, the squared distance; and whether more follow. With a threshold
+        the list is of the chambers that have at least so many pairs no larger than that."""
+        request = self._after(key, largest, slots) + [number(threshold, "the threshold"), number(contractor, "the contractor"), int(grid)]
+        return self._many(Call.MANY, request + [number(one, "an owner") for one in owners], (p, q))
+
+    def own_many(self, s, key=START, slots=MOST, largest=None, grid=False):
+        """The same of the self join of one sheet."""
+        return self._many(Call.OWN_MANY, self._after(key, largest, slots) + [int(grid)], (s,))
 
     @staticmethod
-    def _number(pairs):
-        """How many pairs a list has. The one place where they are counted: one by one, until a call gives their number."""
-        return sum(1 for _ in pairs)
+    def _largest(largest):
+        return long_words(ANY_SIZE if largest is None else number(largest, "the largest size", (1 << 64) - 1))
 
-    def pairs(self, p, q, **terms):
-        """The list: every ring pair once, by q id, then p id. Terms: threshold, contractor with owners, grid."""
-        return self._whole(self.pages(p, q, **terms))
+    def _after(self, key, largest, slots):
+        return [number(key[0], "the key's q"), number(key[1], "the key's p")] + self._largest(largest) + [number(slots, "the slots")]
 
-    def own_pairs(self, s, **terms):
-        """The list of the self join of one sheet. Terms: grid."""
-        return self._whole(self.own_pages(s, **terms))
+    def _many(self, call, words, of):
+        said = self._worker.call(call, words, of=of)
+        if len(said) % PAIR != 1:
+            raise WorkerFault("the worker says %d words of many pairs" % len(said))
+        return Many(pairs_at(said, 1, len(said) // PAIR), bool(said[0]))
 
-    def count(self, p, q, **terms):
+    @staticmethod
+    def _whole(many_after, key):
+        """All pairs of a list that follow a key, as they come: the first few soon, then many at once. The one place where a whole list is made."""
+        slots = FEW
+        while True:
+            found = many_after(key, slots)
+            yield from found.pairs
+            if not found.more:
+                return
+            if not found.pairs:
+                raise WorkerFault("the worker says no pairs, and that more follow")
+            key, slots = Key(*found.pairs[-1][:2]), min(TIMES * slots, MOST)
+
+    def pairs(self, p, q, key=START, **terms):
+        """The list: every ring pair once, by q id, then p id; or those that follow a key. Terms: largest (those of at most this squared distance), threshold,
+        contractor with owners, grid."""
+        return self._whole(lambda key, slots: self.many(p, q, key, slots, **terms), key)
+
+    def own_pairs(self, s, key=START, **terms):
+        """The list of the self join of one sheet. Terms: largest, grid."""
+        return self._whole(lambda key, slots: self.own_many(s, key, slots, **terms), key)
+
+    def count(self, p, q, largest=None, threshold=0, contractor=UNDIVIDED, owners=(), grid=False):
         """How many pairs the list has, and so how many slots a book of it takes."""
-        return self._number(self.pairs(p, q, **terms))
+        request = self._largest(largest) + [number(threshold, "the threshold"), number(contractor, "the contractor"), int(grid)]
+        return long_at(self._worker.call(Call.COUNT, request + [number(one, "an owner") for one in owners], 2, of=(p, q)), 0)
 
-    def own_count(self, s, **terms):
-        return self._number(self.own_pairs(s, **terms))
+    def own_count(self, s, largest=None, grid=False):
+        return long_at(self._worker.call(Call.OWN_COUNT, self._largest(largest) + [int(grid)], 2, of=(s,)), 0)
 
     def run(self, p, q, leaf):
         """The pairs of the chambers of one leaf of Q, a node by its number: by place, then p id. Over all leaves they are the list, in another order."""

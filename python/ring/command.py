@@ -60,6 +60,11 @@ def terms_of(args, q):
     return terms
 
 
+def largest_of(args):
+    """The largest size that is asked for, where one is."""
+    return {} if args.largest is None else {"largest": args.largest}
+
+
 # ---------------------------------------------------------------- what is written
 
 def say(text):
@@ -207,7 +212,7 @@ def sheet_tidy(ring, args):
 
 def list_(ring, args):
     p, q = for_list(ring, args, args.p), for_list(ring, args, args.q)
-    terms = terms_of(args, q)
+    terms = {**terms_of(args, q), **largest_of(args)}
     give_list(args, p, q, gathered(ring.pairs(p, q, **terms), q), terms)
 
 
@@ -224,8 +229,8 @@ def cluster_list(ring, args):
 
 
 def self_(ring, args):
-    sheet = opened(ring, args.sheet)
-    give_list(args, sheet, sheet, gathered(ring.own_pairs(sheet, grid=args.grid), sheet), {"own": True, "grid": args.grid})
+    sheet, terms = opened(ring, args.sheet), {"grid": args.grid, **largest_of(args)}
+    give_list(args, sheet, sheet, gathered(ring.own_pairs(sheet, **terms), sheet), {"own": True, **terms})
 
 
 def shortest(ring, args):
@@ -576,6 +581,13 @@ def whole_number(text):
     return value
 
 
+def size(text):
+    value = int(text)
+    if not 0 <= value < 1 << 64:
+        raise argparse.ArgumentTypeError("a whole number from 0 to %d" % ((1 << 64) - 1))
+    return value
+
+
 def some(text):
     value = whole_number(text)
     if not value:
@@ -608,6 +620,10 @@ def with_columns(one):
     one.add_argument("--y", metavar="NAME", help="the column of y (y)")
     one.add_argument("--decimal-comma", action="store_true", help="decimals are written with a comma")
     one.add_argument("--round", action="store_true", help="to the nearest whole number, half up, where it is none")
+
+
+def with_largest(one, what=""):
+    one.add_argument("--largest", type=size, metavar="N", help="nothing farther than this: the pairs whose size, the squared distance, is at most N%s" % what)
 
 
 def with_sheets(one):
@@ -670,8 +686,10 @@ def parser():
     one.add_argument("--out", metavar="FILE.sheet", help="to this file, and not to the same")
 
     one = added(commands, "list", list_, "the ring pairs of two sheets", "./ring list pumps.sheet chambers.sheet --geojson --scale 100 --offset 430000,5400000 --out visits.geojson",
-                " Either may be a CSV of points (FILE.csv), which\nis packed for this list alone; a sheet in a bad order is packed anew for it too.")
+                " Either may be a CSV of points (FILE.csv), which\nis packed for this list alone; a sheet in a bad order is packed anew for it too. With --largest nothing\nfarther: in centimetres "
+                "--largest 900000000 is to 300 m, the square of 30,000.")
     with_sheets(one)
+    with_largest(one, "; with --threshold T of the chambers with at least T such pairs")
     with_columns(one)
     with_terms(one)
     with_list(one)
@@ -688,8 +706,9 @@ def parser():
     one.add_argument("--uncounted", action="store_true", help="do not hold the number of the pairs to `count`, which takes about as long as the list")
     with_terms(one)
     with_list(one)
-    one = added(commands, "self", self_, "the ring pairs of one sheet with itself", "./ring self chambers.sheet")
+    one = added(commands, "self", self_, "the ring pairs of one sheet with itself", "./ring self chambers.sheet --largest 900000000")
     one.add_argument("sheet", metavar="S.sheet")
+    with_largest(one)
     one.add_argument("--grid", action="store_true", help="along a street grid (sheets of form 1)")
     with_list(one)
     one = added(commands, "shortest", shortest, "the ring pairs with the smallest circles", "./ring shortest pumps.sheet chambers.sheet --count 5")

@@ -39,6 +39,12 @@ class Page(NamedTuple):
     opened: int
 
 
+class Many(NamedTuple):
+    """Pairs of a list, one after the other, and whether more follow."""
+    pairs: Tuple[Pair, ...]
+    more: bool
+
+
 class Near(NamedTuple):
     """A pump house, and its squared distance to the chamber that was asked for."""
     id: int

@@ -44,6 +44,10 @@ class Call(enum.IntEnum):
     HELD = 23
     POSITION = 24
     RUN = 25
+    MANY = 26
+    OWN_MANY = 27
+    COUNT = 28
+    OWN_COUNT = 29
 
 
 # statuses that are no number of refusal: faults of a frame

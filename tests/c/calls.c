@@ -1,9 +1,10 @@
 /*
  * Every call of ring.h with random and damaged inputs: null with length 0, wrong lengths, extreme numbers, words changed at random, sheets of both forms.
  * Answers are held to a plain second reading of the rules: the numbers of open, pack, next key and take; the list, by trying every pair against every
- * record; the shortest pairs, the nearest pump houses and a leaf's run likewise; what walks keep, what stops them, and the nodes opened, of pages and runs
+ * record; the shortest pairs, the nearest pump houses, a leaf's run, many pairs at once and their number likewise; what walks keep, what stops them, and the nodes opened, of pages and runs
  * too, by plain walks; the marker, doubled. Pages, books and ring walks of the street grid are held to it by turned coordinates.
- * A contractor's pages, books and forms are held to the same reading, and the blind test is made: two runs that differ in the ids of the other's chambers alone.
+ * A contractor's pages, books and forms are held to the same reading, and the blind test is made of pages, of many pairs and of their number: two runs that differ in
+ * the ids of the other's chambers alone. Many pairs at once, followed by the last one's key, are those of the pages.
  * Lent memory is held to a copy made before the call, with marks on both sides: what an answer is to leave there is put into the copy, and nothing for a refusal.
  * Last two sheets of 60,000 points, held to the same reading.
  * Prints one line, and ends with 1 where an answer differs or a number of refusal never came up.
@@ -24,9 +25,9 @@
 /* how much is watched on both sides of what is lent */
 #define PAST 64
 
-/* the numbers of refusal: 0 to 22 and 24 to 31 */
-#define LAST 31
-#define A_NUMBER(k) ((k) <= 22 || ((k) >= 24 && (k) <= 31))
+/* the numbers of refusal: 0 to 22, 24 to 31, and 40 */
+#define LAST 40
+#define A_NUMBER(k) ((k) <= 22 || ((k) >= 24 && (k) <= 31) || (k) == 40)
 
 /* counts have 64 bits: a field, or a whole struct, has so many bytes */
 #define FIELD(type, field, bytes) typedef char type##_##field[sizeof ((type *)0)->field == (bytes) ? 1 : -1]
@@ -62,6 +63,17 @@ FIELD(RingTerms, own, 1);
 FIELD(RingTerms, grid, 1);
 FIELD(RingRequest, contractor, 4);
 FIELD(RingRequest, grid, 1);
+FIELD(RingWhich, largest, 8);
+FIELD(RingWhich, threshold, 4);
+FIELD(RingWhich, contractor, 4);
+FIELD(RingWhich, grid, 1);
+FIELD(RingWanted, largest, 8);
+FIELD(RingWanted, threshold, 4);
+FIELD(RingWanted, contractor, 4);
+FIELD(RingWanted, grid, 1);
+FIELD(RingCounted, count, 8);
+FIELD(RingMany, count, 8);
+FIELD(RingMany, more, 1);
 STRUCT(RingTerms, 12);
 STRUCT(RingSource, 20);
 STRUCT(RingRequest, 32);
@@ -75,6 +87,10 @@ STRUCT(RingFiltered, 24);
 STRUCT(RingWalked, 32);
 STRUCT(RingPaged, 320);
 STRUCT(RingRun, 24);
+STRUCT(RingWhich, 24);
+STRUCT(RingWanted, 32);
+STRUCT(RingCounted, 16);
+STRUCT(RingMany, 24);
 
 static uint64_t seed = 88172645463325252ull;
 static unsigned long calls, wrong, first_wrong, seen[LAST + 1], named[2][4];
@@ -865,6 +881,161 @@ static void try_own(void) {
     HOLD(same_page(&r.page, &expected));
 }
 
+/* ---- many pairs at once, and their number */
+
+/* the most pairs that are listed by trying every two records */
+#define LISTED 40000
+#define ANY_SIZE 8000000000000000000u
+
+static RingPair listed[LISTED], many_room[LISTED + 16], many_due[LISTED + 16];
+static RingPair *const many_slots = many_room + 8;
+
+/* whether the two records are a pair of P and Q, or of P's self join */
+static bool is_listed(bool grid, bool own, size_t j, size_t i) {
+    if (!own) return is_pair_by(grid, j, i);
+    for (size_t k = 0; k < count_of(&P); k++)
+        if (k != j && k != i && blocks_by(grid, P.words + 3 * j, P.words + 3 * i, P.words + 3 * k)) return false;
+    return i > j;
+}
+
+/* the list of the contractor, to a size, of the chambers that have at least t such pairs, or of P's self join to a size; how many pairs */
+static size_t listed_to(bool grid, bool own, uint64_t largest, uint32_t t, RingPair *out) {
+    const Sheet *s = own ? &P : &Q;
+    size_t count = 0;
+    for (size_t j = 0; j < count_of(s); j++) {
+        size_t many = 0;
+        for (size_t i = 0; i < count_of(&P) && (own || is_mine(j)); i++) {
+            RingPair v = size_by(grid, s->words + 3 * j, P.words + 3 * i);
+            if (v.size <= largest && is_listed(grid, own, j, i)) out[count + many++] = v;
+        }
+        if (many >= t) count += many;
+    }
+    return count;
+}
+
+/* of a list, how many pairs come before the key or are it */
+static size_t up_to_key(const RingPair *pairs, size_t count, RingKey key) {
+    size_t k = 0;
+    while (k < count && !after(key, pairs[k])) k++;
+    return k;
+}
+
+/* a largest size: any, one at the edge of a size of the list, at the limit, or any number */
+static uint64_t some_largest(const RingPair *pairs, size_t count) {
+    size_t way = below(8);
+    if (way < 3) return ANY_SIZE;
+    if (way < 6 && count) return pairs[below(count)].size + below(3) - 1;
+    return way == 6 ? ANY_SIZE + below(3) - 1 : below(2) ? below(40) : chance() >> below(64);
+}
+
+/* slots with others on both sides: none, fewer than there are pairs, one fewer, as many, more */
+static size_t lend_slots(size_t count) {
+    size_t way = below(6), len = way == 0 || count == 0 ? below(2) * below(4) : way == 1 ? below(count) : way == 2 ? count - 1 : way == 3 ? count + 1 + below(4) : count;
+    if (len > LISTED) len = LISTED;
+    for (size_t k = 0; k < len + 16; k++) many_room[k].q = wild(), many_room[k].p = wild(), many_room[k].size = chance();
+    memcpy(many_due, many_room, (len + 16) * sizeof many_room[0]);
+    return len;
+}
+
+static void hold_slots(size_t len) { HOLD(memcmp(many_room, many_due, (len + 16) * sizeof many_room[0]) == 0); }
+
+/* whether there are so few that trying every two is soon done */
+static bool is_small(bool own) { return count_of(&P) * (own ? count_of(&P) : count_of(&Q)) <= LISTED; }
+
+/* a key of the sheets' ids, beside one, or any */
+static RingKey some_key(const Sheet *s, bool opens) {
+    RingKey key = {0, 0};
+    if (opens && count_of(s) && count_of(&P) && below(4)) {
+        key.q = (uint32_t)s->words[3 * below(count_of(s))] + (uint32_t)below(2), key.p = (uint32_t)P.words[3 * below(count_of(&P))];
+        if (below(4) == 0) key.p--;
+    }
+    if (below(8) == 0) key.q = wild();
+    if (below(8) == 0) key.p = wild();
+    return key;
+}
+
+static uint32_t key_no(RingKey key) { return key.q > 2000000000 || key.p > 2000000000 ? 9 : 0; }
+
+static unsigned long many_exact, many_cut, many_none, many_left, many_edge;
+
+static void try_pairs(void) {
+    bool grid = below(2);
+    uint32_t t = some_threshold();
+    size_t j, i, count = 0, before = 0, stored = 0;
+    uint32_t number = some_owners(two_sheets_of(grid, 14, &j, &i));
+    if (!number && !is_small(false)) return;
+    RingKey key = some_key(&Q, !number);
+    if (!number) count = listed_to(grid, false, ANY_SIZE, 0, listed);
+    uint64_t largest = some_largest(listed, count);
+    if (!number) number = key_no(key) ? 9 : t > 60000 ? 21 : largest > ANY_SIZE ? 40 : 0;
+    number = lend(number, 1);
+    if (!number) count = listed_to(grid, false, largest, t, listed), before = up_to_key(listed, count, key), leave(1, NULL);
+    size_t len = lend_slots(number ? 5 : count - before);
+    if (!number) stored = len < count - before ? len : count - before, memcpy(many_due + 8, listed + before, stored * sizeof listed[0]);
+    RingMany r = ring_pairs(at(&P), P.len, at(&Q), Q.len, owners_len ? owners : NULL, owners_len, (RingWanted){key, largest, t, contractor, grid}, len ? many_slots : NULL, len, bits(), words_len);
+    saw(r.number), hold_saved(), hold_lent(), hold_slots(len);
+    HOLD(r.number == number && r.count == stored && r.more == (!number && before + stored < count));
+    if (!number) {
+        many_exact += stored && stored == len && !r.more, many_cut += stored && r.more, many_none += !len && r.more, many_left += stored && stored < len;
+        for (size_t k = 0; k < count; k++) many_edge += listed[k].size == largest;
+    }
+    contractor = 2;
+}
+
+static void try_own_pairs(void) {
+    bool grid = below(2);
+    size_t j, i, count = 0, before = 0, stored = 0;
+    two_sheets_of(grid, 40, &j, &i);
+    uint32_t number = open_no(P.words, P.len);
+    if (!number && grid && too_wide(&P)) number = 29;
+    if (!number && !is_small(true)) return;
+    RingKey key = some_key(&P, !number);
+    if (!number) count = listed_to(grid, true, ANY_SIZE, 0, listed);
+    uint64_t largest = some_largest(listed, count);
+    if (!number) number = key_no(key) ? 9 : largest > ANY_SIZE ? 40 : 0;
+    number = lend(number, 1);
+    if (!number) count = listed_to(grid, true, largest, 0, listed), before = up_to_key(listed, count, key), leave(1, NULL);
+    size_t len = lend_slots(number ? 5 : count - before);
+    if (!number) stored = len < count - before ? len : count - before, memcpy(many_due + 8, listed + before, stored * sizeof listed[0]);
+    RingMany r = ring_own_pairs(at(&P), P.len, key, largest, grid, len ? many_slots : NULL, len, bits(), words_len);
+    saw(r.number), hold_saved(), hold_lent(), hold_slots(len);
+    HOLD(r.number == number && r.count == stored && r.more == (!number && before + stored < count));
+}
+
+static void try_count(void) {
+    bool grid = below(2);
+    uint32_t t = some_threshold();
+    size_t j, i, count = 0;
+    uint32_t number = some_owners(two_sheets_of(grid, 14, &j, &i));
+    if (!number && !is_small(false)) return;
+    if (!number) count = listed_to(grid, false, ANY_SIZE, 0, listed);
+    uint64_t largest = some_largest(listed, count);
+    if (!number) number = t > 60000 ? 21 : largest > ANY_SIZE ? 40 : 0;
+    number = lend(number, 1);
+    if (!number) leave(1, NULL);
+    RingCounted r = ring_count(at(&P), P.len, at(&Q), Q.len, owners_len ? owners : NULL, owners_len, (RingWhich){largest, t, contractor, grid}, bits(), words_len);
+    saw(r.number), hold_saved(), hold_lent();
+    HOLD(r.number == number && r.count == (number ? 0 : listed_to(grid, false, largest, t, listed)));
+    contractor = 2;
+}
+
+static void try_own_count(void) {
+    bool grid = below(2);
+    size_t j, i, count = 0;
+    two_sheets_of(grid, 40, &j, &i);
+    uint32_t number = open_no(P.words, P.len);
+    if (!number && grid && too_wide(&P)) number = 29;
+    if (!number && !is_small(true)) return;
+    if (!number) count = listed_to(grid, true, ANY_SIZE, 0, listed);
+    uint64_t largest = some_largest(listed, count);
+    if (!number) number = largest > ANY_SIZE ? 40 : 0;
+    number = lend(number, 1);
+    if (!number) leave(1, NULL);
+    RingCounted r = ring_own_count(at(&P), P.len, largest, grid, bits(), words_len);
+    saw(r.number), hold_saved(), hold_lent();
+    HOLD(r.number == number && r.count == (number ? 0 : listed_to(grid, true, largest, 0, listed)));
+}
+
 /* by size, then q id, then p id */
 static bool sooner(RingPair v, RingPair w) { return v.size != w.size ? v.size < w.size : v.q != w.q ? v.q < w.q : v.p < w.p; }
 
@@ -1158,6 +1329,58 @@ static RingBook book_for(RingPair *pairs, size_t len, uint32_t t, bool grid) {
     return b.book;
 }
 
+/* the list that the pages of the contractor show when they are followed, or those of P's self join; how many pairs */
+static size_t by_pages(bool grid, bool own, uint32_t t, RingPair *out) {
+    RingKey key = {0, 0};
+    size_t count = 0;
+    for (bool end = false; !end;) {
+        RingPaged r;
+        if (own) {
+            lend_words(words_for(count_of(&P))), leave(1, NULL);
+            r = ring_own_page(P.words, P.len, key, 16, grid, bits(), words_len);
+            saw(r.number), hold_lent();
+        } else r = page_for(contractor, key, 16, t, grid);
+        HOLD(r.number == 0);
+        memcpy(out + count, r.page.pairs, r.page.count * sizeof out[0]), count += r.page.count;
+        key = key_of(out, count), end = r.page.end || r.number;
+    }
+    return count;
+}
+
+/* the pairs of a list, so many at a time, each time from the last one's key on until no more follow: those of its pages; as many as are counted; and so to a size */
+static void try_followed(void) {
+    static RingPair paged[64 * 64];
+    bool grid = below(2), own = below(3) == 0;
+    uint32_t t = own || below(2) ? 0 : 1 + (uint32_t)below(3);
+    make_narrow(&P, below(12)), make_narrow(&Q, below(12)), save();
+    divide(count_of(&Q));
+    contractor = own ? 2 : (uint32_t)below(3), owners_len = contractor == 2 ? 0 : count_of(&Q);
+    size_t count = by_pages(grid, own, t, paged);
+    for (int turn = 0; turn < 2; turn++) {
+        uint64_t largest = turn && count ? paged[below(count)].size : ANY_SIZE;
+        size_t due = turn ? listed_to(grid, own, largest, t, paged) : count, found = 0;
+        RingKey key = {0, 0};
+        for (bool more = true; more;) {
+            size_t len = 1 + below(7), left = due - found < len ? due - found : len;
+            for (size_t k = 0; k < len + 16; k++) many_room[k].q = wild(), many_room[k].p = wild(), many_room[k].size = chance();
+            memcpy(many_due, many_room, (len + 16) * sizeof many_room[0]), memcpy(many_due + 8, paged + found, left * sizeof paged[0]);
+            lend_words(words_for(count_of(&P))), leave(1, NULL);
+            RingMany r = own ? ring_own_pairs(P.words, P.len, key, largest, grid, many_slots, len, bits(), words_len)
+                             : ring_pairs(P.words, P.len, Q.words, Q.len, owners_len ? owners : NULL, owners_len, (RingWanted){key, largest, t, contractor, grid}, many_slots, len, bits(), words_len);
+            saw(r.number), hold_saved(), hold_lent(), hold_slots(len);
+            found += r.count, more = r.more && r.count;
+            HOLD(r.number == 0 && r.count == left && r.more == (found < due));
+            if (r.count) key.q = many_slots[r.count - 1].q, key.p = many_slots[r.count - 1].p;
+        }
+        lend_words(words_for(count_of(&P))), leave(1, NULL);
+        RingCounted r = own ? ring_own_count(P.words, P.len, largest, grid, bits(), words_len)
+                            : ring_count(P.words, P.len, Q.words, Q.len, owners_len ? owners : NULL, owners_len, (RingWhich){largest, t, contractor, grid}, bits(), words_len);
+        saw(r.number), hold_saved(), hold_lent();
+        HOLD(r.number == 0 && r.count == found && found == due);
+    }
+    contractor = 2;
+}
+
 static void try_contractors(void) {
     static RingPair pairs[64], due[64];
     static RingForm made[64], held[3 * 64];
@@ -1230,6 +1453,27 @@ static void pack_anew(Sheet *s, const Sheet *old, const int32_t *points) {
     HOLD(ring_pack((uint32_t)old->words[old->len - 1], n, points, 3 * n, some_order, n, (uint32_t)old->words[old->len - 2], s->words, s->len) == 0);
 }
 
+/* the same for many pairs on so many slots, and for their number */
+static void blind_many(RingKey key, uint32_t t, bool grid, size_t n, const uint64_t *words_before) {
+    uint64_t largest = below(3) ? ANY_SIZE : below(2) ? below(40) : chance() >> below(64);
+    RingWanted wanted = {key, largest, t, contractor, grid};
+    RingWhich which = {largest, t, contractor, grid};
+    size_t len = below(2) ? below(4) : below(40), bytes = (len + 16) * sizeof many_room[0];
+    for (size_t k = 0; k < len + 16; k++) many_room[k].q = wild(), many_room[k].p = wild(), many_room[k].size = chance();
+    memcpy(listed, many_room, bytes), memcpy(words, words_before, sizeof words);
+    RingMany one = ring_pairs(at(&P), P.len, at(&Q), Q.len, n ? owners : NULL, n, wanted, len ? many_slots : NULL, len, bits(), words_len);
+    memcpy(many_due, many_room, bytes), memcpy(many_room, listed, bytes), memcpy(words_due, words, sizeof words), memcpy(words, words_before, sizeof words);
+    RingMany two = ring_pairs(at(&second_p), second_p.len, at(&second_q), second_q.len, n ? moved : NULL, n, wanted, len ? many_slots : NULL, len, bits(), words_len);
+    saw(one.number), saw(two.number), hold_saved(), hold_lent(), hold_slots(len);
+    HOLD(one.number == two.number && one.count == two.count && one.more == two.more);
+    memcpy(words, words_before, sizeof words);
+    RingCounted first = ring_count(at(&P), P.len, at(&Q), Q.len, n ? owners : NULL, n, which, bits(), words_len);
+    memcpy(words_due, words, sizeof words), memcpy(words, words_before, sizeof words);
+    RingCounted second = ring_count(at(&second_p), second_p.len, at(&second_q), second_q.len, n ? moved : NULL, n, which, bits(), words_len);
+    saw(first.number), saw(second.number), hold_saved(), hold_lent();
+    HOLD(first.number == second.number && first.count == second.count && (first.number || one.number || one.count <= first.count));
+}
+
 static void try_blind(void) {
     static uint64_t words_before[16 * 938 + 40 + 2 * PAST];
     size_t j, i, size = below(12) ? 1 + below(16) : below(2) ? 0 : 17;
@@ -1252,6 +1496,7 @@ static void try_blind(void) {
     RingPaged two = ring_page(at(&second_p), second_p.len, at(&second_q), second_q.len, n ? moved : NULL, n, request, bits(), words_len);
     saw(one.number), saw(two.number), hold_saved(), hold_lent();
     HOLD(one.number == two.number && same_page(&one.page, &two.page));
+    blind_many(key, t, grid, n, words_before);
     size_t k = with_id(Q.words, n, key.q);
     blind_named += !one.number && k < n && !is_mine(k), blind_moved += memcmp(owners, moved, n) != 0;
     contractor = 2;
@@ -1509,6 +1754,68 @@ static void province_run(size_t v) {
     }
 }
 
+/* the whole list, or that of P's self join, on exactly as many slots as are counted: it ascends, each pair of it is clear by a plain ring walk, and some chambers have all
+   theirs; the first of it again on fewer slots, and from a key amid it */
+static void province_pairs(bool own) {
+    static RingPair all[16 * LARGEST + 2];
+    const size_t need = words_for(count_of(&P));
+    const Sheet *s = own ? &P : &Q;
+    const RingKey start = {0, 0};
+    lend_words(need + 1), leave(1, NULL);
+    RingCounted c = own ? ring_own_count(P.words, P.len, ANY_SIZE, false, bits(), words_len)
+                        : ring_count(P.words, P.len, Q.words, Q.len, NULL, 0, (RingWhich){ANY_SIZE, 0, 2, false}, bits(), words_len);
+    saw(c.number), hold_saved(), hold_lent();
+    HOLD(c.number == 0 && in(LARGEST, (int64_t)c.count, 16 * LARGEST));
+    if (!in(LARGEST, (int64_t)c.count, 16 * LARGEST)) return;
+    size_t len = (size_t)c.count, mid = len / 2, at_chamber = 0;
+    memset(all, 0xA5, sizeof all);
+    lend_words(need), leave(1, NULL);
+    RingMany r = own ? ring_own_pairs(P.words, P.len, start, ANY_SIZE, false, all + 1, len, bits(), need)
+                     : ring_pairs(P.words, P.len, Q.words, Q.len, NULL, 0, (RingWanted){start, ANY_SIZE, 0, 2, false}, all + 1, len, bits(), need);
+    saw(r.number), hold_saved(), hold_lent();
+    HOLD(r.number == 0 && r.count == len && !r.more && all[0].q == 0xA5A5A5A5 && all[len + 1].q == 0xA5A5A5A5);
+    for (size_t k = 1, j = 0; k <= len; k++) {
+        while (j < count_of(s) && (uint32_t)s->words[3 * j] != all[k].q) j++;
+        size_t low = 0, high = count_of(&P);
+        while (low + 1 < high)
+            if ((uint32_t)P.words[3 * ((low + high) / 2)] <= all[k].p) low = (low + high) / 2;
+            else high = (low + high) / 2;
+        HOLD(k == 1 || after((RingKey){all[k - 1].q, all[k - 1].p}, all[k]));
+        HOLD(j < count_of(s) && (uint32_t)P.words[3 * low] == all[k].p);
+        if (j == count_of(s)) return;
+        RingPair v = size_of(s->words + 3 * j, P.words + 3 * low);
+        HOLD(v.size == all[k].size && walked(false, s->words + 3 * j, P.words + 3 * low, j, low, own).kind == RING_CLEAR);
+        at_chamber = k == mid ? j : at_chamber;
+    }
+    for (size_t j = at_chamber; j < at_chamber + 3 && j < count_of(s); j++) {
+        size_t many = 0, stored = 0;
+        for (size_t i = own ? j + 1 : 0; i < count_of(&P); i++) many += is_listed(false, own, j, i);
+        for (size_t k = 1; k <= len; k++) stored += all[k].q == (uint32_t)s->words[3 * j];
+        HOLD(many == stored);
+    }
+    RingKey key = {all[mid].q, all[mid].p};
+    memset(many_room, 0xA5, sizeof many_room), memcpy(many_due, many_room, sizeof many_room), memcpy(many_due + 8, all + mid + 1, 1000 * sizeof all[0]);
+    lend_words(need), leave(1, NULL);
+    r = own ? ring_own_pairs(P.words, P.len, key, ANY_SIZE, false, many_slots, 1000, bits(), need)
+            : ring_pairs(P.words, P.len, Q.words, Q.len, NULL, 0, (RingWanted){key, ANY_SIZE, 0, 2, false}, many_slots, 1000, bits(), need);
+    saw(r.number), hold_saved(), hold_lent(), hold_slots(1000);
+    HOLD(r.number == 0 && r.count == 1000 && r.more);
+    /* to a size: exactly those of the list that are no larger */
+    uint64_t largest = all[mid].size, few = 0;
+    for (size_t k = 1; k <= len; k++) few += all[k].size <= largest;
+    lend_words(need), leave(1, NULL);
+    c = own ? ring_own_count(P.words, P.len, largest, false, bits(), need) : ring_count(P.words, P.len, Q.words, Q.len, NULL, 0, (RingWhich){largest, 0, 2, false}, bits(), need);
+    saw(c.number), hold_saved(), hold_lent();
+    HOLD(c.number == 0 && c.count == few);
+    /* along the streets both are refused, and with one word fewer */
+    lend_words(need - 1);
+    c = own ? ring_own_count(P.words, P.len, ANY_SIZE, true, bits(), need - 1) : ring_count(P.words, P.len, Q.words, Q.len, NULL, 0, (RingWhich){ANY_SIZE, 0, 2, true}, bits(), need - 1);
+    r = own ? ring_own_pairs(P.words, P.len, start, ANY_SIZE, false, many_slots, 1000, bits(), need - 1)
+            : ring_pairs(P.words, P.len, Q.words, Q.len, NULL, 0, (RingWanted){start, ANY_SIZE, 0, 2, false}, many_slots, 1000, bits(), need - 1);
+    saw(c.number), saw(r.number), hold_saved(), hold_lent(), hold_slots(1000);
+    HOLD(c.number == 29 && c.count == 0 && r.number == 24 && r.count == 0 && !r.more);
+}
+
 /* numbers lent for what waits, with one on either side; and what they are to hold after the call */
 static uint64_t numbers[LARGEST + NODES + 2], numbers_due[LARGEST + NODES + 2];
 
@@ -1584,6 +1891,8 @@ static void try_provinces(void) {
     province_page(key_at(&P, LARGEST / 3, 0), 16, true, need);
     province_run(LARGEST / 16 / 2);
     province_chamber(LARGEST / 5);
+    province_pairs(false);
+    province_pairs(true);
 
     /* a sheet of form 2 and one of form 1, either way */
     Q = (Sheet){rooms[2] + PAST, rooms[3] + PAST, 0};
@@ -1613,7 +1922,7 @@ static void try_barren(void) {
 }
 
 int main(void) {
-    static void (*const tries[])(void) = {try_open, try_pack, try_point, try_filter, try_pair, try_page, try_own, try_partners, try_shortest, try_begin, try_next, try_take, try_forms, try_depot_begin, try_depot_take, try_marker, try_leaf, try_nearest, try_near_filter, try_length, try_position};
+    static void (*const tries[])(void) = {try_open, try_pack, try_point, try_filter, try_pair, try_page, try_own, try_partners, try_shortest, try_begin, try_next, try_take, try_forms, try_depot_begin, try_depot_take, try_marker, try_leaf, try_nearest, try_near_filter, try_length, try_position, try_pairs, try_own_pairs, try_count, try_own_count};
     size_t exports = sizeof tries / sizeof tries[0];
     for (size_t n = 0; n <= LARGEST; n++) HOLD(RING_WORDS(n) == words_for(n));
     for (size_t k = 0; k < 4; k++)
@@ -1621,9 +1930,10 @@ int main(void) {
     for (size_t k = 0; k < exports; k++)
         for (int i = 0; i < TIMES; i++) tries[k]();
     try_barren();
-    for (int i = 0; i < TIMES / 10; i++) try_deliveries(), try_contractors();
+    for (int i = 0; i < TIMES / 10; i++) try_deliveries(), try_contractors(), try_followed();
     for (int i = 0; i < TIMES; i++) try_blind();
     HOLD(blind_named && blind_moved);
+    HOLD(many_exact && many_cut && many_none && many_left && many_edge);
     try_provinces();
     unsigned long unseen = 0, unnamed = 0;
     for (int k = 0; k <= LAST; k++) unseen += A_NUMBER(k) && seen[k] == 0;

@@ -33,7 +33,7 @@ SHAPES = {
     Call.NEAREST: (2, SHEET, 2, False), Call.MARKER: (0, None, 4, False), Call.BOOK: (0, None, SOURCE + 1, False), Call.NEXT: (1, BOOK, 0, False),
     Call.TAKE: (1, BOOK, PAGED, False), Call.SLOTS: (1, BOOK, 2, False), Call.STORED_BOOK: (0, None, SOURCE + 3, True), Call.FORMS: (1, BOOK, 0, False),
     Call.DEPOT: (0, None, 1, False), Call.GIVE: (1, DEPOT, FORM, False), Call.SHELF: (1, DEPOT, 2, False), Call.STORED_DEPOT: (0, None, 2, True), Call.HELD: (1, DEPOT, 0, False), Call.POSITION: (1, SHEET, 1, False),
-    Call.RUN: (2, SHEET, 2, False),
+    Call.RUN: (2, SHEET, 2, False), Call.MANY: (2, SHEET, 8, True), Call.OWN_MANY: (1, SHEET, 6, False), Call.COUNT: (2, SHEET, 5, True), Call.OWN_COUNT: (1, SHEET, 3, False),
 }
 
 
@@ -167,25 +167,79 @@ class Reading:
         return [0, 0] + [int(part) for part in source] + [key[0], key[1], len(shown), int(len(following) <= size)] + words + [0] * (16 * PAIR - len(words))
 
     def asked(self, key, size):
-        if key[0] > reading.ID or key[1] > reading.ID:
-            raise No(9)
+        self.key_right(key)
         if not 1 <= size <= 16:
             raise No(10)
 
-    def page(self, p, q, words):
-        key, size, t, contractor, grid, owners = (words[0], words[1]), words[2], words[3], words[4], bool(words[5]), words[6:]
+    def key_right(self, key):
+        if key[0] > reading.ID or key[1] > reading.ID:
+            raise No(9)
+
+    def whose(self, p, q, contractor, grid, owners):
+        """A contractor and the owner bytes, and the profile, where they are right."""
         if contractor > UNDIVIDED:
             raise No(27)
         if owners if contractor == UNDIVIDED else len(owners) != q.read.n or any(owner > 1 for owner in owners):
             raise No(26)
         if grid and 2 in (p.read.form, q.read.form):
             raise No(29)
+
+    def mine(self, p, q, contractor, grid, owners):
+        """The list of a contractor, or the undivided one."""
+        owner = {point[0]: mine for point, mine in zip(q.read.points, owners)}
+        return [pair for pair in self.pairs(p, q, grid) if contractor == UNDIVIDED or owner[pair[0]] == contractor]
+
+    def page(self, p, q, words):
+        key, size, t, contractor, grid, owners = (words[0], words[1]), words[2], words[3], words[4], bool(words[5]), words[6:]
+        self.whose(p, q, contractor, grid, owners)
         self.asked(key, size)
         if t > reading.THRESHOLD:
             raise No(21)
-        owner = {point[0]: mine for point, mine in zip(q.read.points, owners)}
-        pairs = [pair for pair in self.pairs(p, q, grid) if contractor == UNDIVIDED or owner[pair[0]] == contractor]
-        return self.paged((p.read.edition, q.read.edition, t, contractor, False, grid), key, size, reading.list_of(pairs, t))
+        return self.paged((p.read.edition, q.read.edition, t, contractor, False, grid), key, size, reading.list_of(self.mine(p, q, contractor, grid, owners), t))
+
+    def up_to(self, largest, t):
+        """A threshold and a largest size, where they are right."""
+        if t > reading.THRESHOLD:
+            raise No(21)
+        if largest > reading.ANY_SIZE:
+            raise No(40)
+
+    def stored(self, pairs, key, slots):
+        """Whether more follow, and the pairs after a key for which there are slots."""
+        following = [pair for pair in pairs if pair[:2] > key]
+        return [int(len(following) > slots)] + [word for pair in following[:slots] for word in pair_words(pair)]
+
+    def many(self, p, q, words):
+        key, largest, slots, t, contractor, grid, owners = (words[0], words[1]), long_at(words, 2), words[4], words[5], words[6], bool(words[7]), words[8:]
+        if slots > (MOST - 1) // PAIR:
+            raise No(NO_MEMORY)
+        self.whose(p, q, contractor, grid, owners)
+        self.key_right(key)
+        self.up_to(largest, t)
+        return self.stored(reading.list_up_to(self.mine(p, q, contractor, grid, owners), largest, t), key, slots)
+
+    def own_many(self, s, words):
+        key, largest, slots, grid = (words[0], words[1]), long_at(words, 2), words[4], bool(words[5])
+        if slots > (MOST - 1) // PAIR:
+            raise No(NO_MEMORY)
+        if grid and s.read.form == 2:
+            raise No(29)
+        self.key_right(key)
+        self.up_to(largest, 0)
+        return self.stored(reading.list_up_to(self.pairs(s, None, grid), largest, 0), key, slots)
+
+    def count(self, p, q, words):
+        largest, t, contractor, grid, owners = long_at(words, 0), words[2], words[3], bool(words[4]), words[5:]
+        self.whose(p, q, contractor, grid, owners)
+        self.up_to(largest, t)
+        return long_words(len(reading.list_up_to(self.mine(p, q, contractor, grid, owners), largest, t)))
+
+    def own_count(self, s, words):
+        largest, grid = long_at(words, 0), bool(words[2])
+        if grid and s.read.form == 2:
+            raise No(29)
+        self.up_to(largest, 0)
+        return long_words(len(reading.list_up_to(self.pairs(s, None, grid), largest, 0)))
 
     def own(self, s, words):
         key, size, grid = (words[0], words[1]), words[2], bool(words[3])

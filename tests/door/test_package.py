@@ -5,6 +5,7 @@ import random
 import subprocess
 import sys
 import unittest
+from unittest import mock
 
 from base import TOP, VERSION, WithRing, surroundings, worker
 
@@ -137,7 +138,41 @@ class Answers(WithRing):
                     self.assertEqual(list(self.ring.pairs(p, q, grid=grid, contractor=contractor, owners=owners)), mine)
                 own = reading.self_list(sets[0], grid)
                 self.assertEqual((list(self.ring.own_pairs(p, grid=grid)), self.ring.own_count(p, grid=grid)), (own, len(own)))
+                for largest in [0, 8 * 10 ** 18] + [rng.choice(want + own)[2] + more for more in (-1, 0) if want + own]:
+                    largest = max(0, largest)
+                    for t in (0, 2):
+                        near = reading.list_up_to(want, largest, t)
+                        self.assertEqual((list(self.ring.pairs(p, q, grid=grid, largest=largest, threshold=t)), self.ring.count(p, q, grid=grid, largest=largest, threshold=t)), (near, len(near)))
+                    near = reading.up_to(own, largest)
+                    self.assertEqual((list(self.ring.own_pairs(p, grid=grid, largest=largest)), self.ring.own_count(p, grid=grid, largest=largest)), (near, len(near)))
             self.assertEqual(self.ring.shortest(p, q, 7), reading.shortest_of(reading.ring_list(*sets), 7))
+
+    def test_many_pairs_at_once(self):
+        """As many as there are slots, strictly after a key, and whether more follow; in batches, whatever their length; refusals by number."""
+        r, p, q = self.ring, self.pumps, self.chambers
+        want, own = [reading.ring_list(p.points, q.points), reading.self_list(p.points)]
+        for slots in (0, 1, len(want) - 1, len(want), len(want) + 1):
+            self.assertEqual(r.many(p, q, slots=slots), (tuple(want[:slots]), slots < len(want)))
+            self.assertEqual(r.own_many(p, slots=slots), (tuple(own[:slots]), slots < len(own)))
+        self.assertEqual(r.many(p, q, want[3][:2], 2), (tuple(want[4:6]), True))
+        self.assertEqual(list(r.pairs(p, q, key=want[3][:2])), want[4:])
+        for few, most in ((1, 1), (1, 16), (7, 7), (1000, 1000)):
+            with mock.patch.multiple("ring.api", FEW=few, MOST=most):
+                self.assertEqual((list(r.pairs(p, q)), list(r.own_pairs(p))), (want, own))
+        wide = r.pack([(1, 2_000_000, 0)], 1)
+        for call in (r.many, r.count):
+            self.refusal(27, call, p, q, contractor=3)
+            self.refusal(26, call, p, q, contractor=1, owners=[2] * 120)
+            self.refusal(29, call, p, wide, grid=True)
+            self.refusal(21, call, p, q, threshold=60_001)
+            self.refusal(40, call, p, q, largest=8 * 10 ** 18 + 1)
+        self.refusal(9, r.many, p, q, key=(2_000_000_001, 0))
+        self.refusal(29, r.own_count, wide, grid=True)
+        self.refusal(9, r.own_many, p, key=(0, 2_000_000_001))
+        for call in (r.own_many, r.own_count):
+            self.refusal(40, call, p, largest=2 ** 64 - 1)
+        with self.assertRaises(ValueError):
+            r.count(p, q, largest=2 ** 64)
 
     def test_a_book_through_lost_late_and_repeated_pages(self):
         r, p, q = self.ring, self.pumps, self.chambers

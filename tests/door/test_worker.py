@@ -15,7 +15,7 @@ from ring.worker import HEAD, LETTERS, MOST, Call, Worker, frame
 
 # of these answers the first of so many words are nodes opened, which the reading says as 0
 OPENED = {Call.PAGE: (0, 1), Call.OWN: (0, 1), Call.WALK: (4, 5), Call.RUN: (0, 1)}
-ROOMS = {Call.BOOK: 6, Call.STORED_BOOK: 6, Call.DEPOT: 0, Call.STORED_DEPOT: 0, Call.RUN: 3}
+ROOMS = {Call.BOOK: 6, Call.STORED_BOOK: 6, Call.DEPOT: 0, Call.STORED_DEPOT: 0, Call.RUN: 3, Call.MANY: 6, Call.OWN_MANY: 5}
 WILD = (0, 1, 2, 3, 15, 16, 17, 60_000, 60_001, 2_000_000_000, 2_000_000_001, 2 ** 31 - 1, 2 ** 31, 2 ** 32 - 1)
 
 
@@ -79,6 +79,16 @@ class Requests:
             words += [rng.randrange(2) for _ in range(n if contractor < 2 else 0)]
         elif call == Call.OWN:
             words = [some("sheet"), rng.choice((0, 20)), rng.choice((0, 50)), rng.choice((1, 16)), rng.randrange(2)]
+        elif call in (Call.MANY, Call.COUNT):
+            p, q, contractor = some("sheet"), some("sheet"), rng.choice((0, 1, 2, 2))
+            n = self.reading.things[q].read.n if q in self.reading.things and self.reading.things[q].kind == "sheet" else 0
+            words = [p, q] + ([rng.choice((0, 0, 50)), rng.choice((0, 50))] if call == Call.MANY else []) + self.largest()
+            words += ([rng.choice((0, 1, 3, 16, 400, 5000))] if call == Call.MANY else []) + [rng.choice((0, 0, 2)), contractor, int(rng.random() < 0.3)]
+            words += [rng.randrange(2) for _ in range(n if contractor < 2 else 0)]
+        elif call == Call.OWN_MANY:
+            words = [some("sheet"), rng.choice((0, 20)), rng.choice((0, 50))] + self.largest() + [rng.choice((0, 1, 16, 400)), rng.randrange(2)]
+        elif call == Call.OWN_COUNT:
+            words = [some("sheet")] + self.largest() + [rng.randrange(2)]
         elif call in (Call.PARTNERS, Call.NEAREST):
             words = [some("sheet"), some("sheet"), rng.randrange(1, 100), rng.randrange(1, 17)]
         elif call == Call.RUN:
@@ -110,6 +120,11 @@ class Requests:
         else:
             words = [some("depot")]
         return int(call), words
+
+    def largest(self):
+        """Two words of a largest size: any, a small one, at the limit and above it."""
+        size = self.rng.choice((reading.ANY_SIZE, reading.ANY_SIZE, self.rng.randrange(60), reading.ANY_SIZE - self.rng.randrange(2), reading.ANY_SIZE + 1, 10 ** self.rng.randrange(19)))
+        return [size & 0xFFFFFFFF, size >> 32]
 
     def taken(self):
         """A page that was answered before, or one made up."""
@@ -176,7 +191,7 @@ class Frames(unittest.TestCase):
             return
         self.assertTrue(all(0 in seen[call] for call in Call), [call for call in Call if 0 not in seen[call]])
         reached = set().union(*seen.values())
-        self.assertLessEqual({1001, 1002, 1003} | {3, 4, 5, 6, 8, 9, 10, 11, 12, 13, 14, 15, 16, 18, 19, 20, 21, 22, 26, 27, 28, 29, 30, 31}, reached)
+        self.assertLessEqual({1001, 1002, 1003} | {3, 4, 5, 6, 8, 9, 10, 11, 12, 13, 14, 15, 16, 18, 19, 20, 21, 22, 26, 27, 28, 29, 30, 31, 40}, reached)
 
     def test_cut_input(self):
         whole = [frame(1, Call.HELLO, []), frame(2, Call.SHEET, reading.pack([(1, 0, 0)], [0], 7)), frame(3, Call.POINT, [1, 0])]

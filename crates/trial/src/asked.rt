@@ -34,6 +34,21 @@ fn answered(kind: usize, p: &[i32], q: &[i32], bits: &mut [u64]) {
         crate::near::near_case(p, q, bits);
     } else if kind == 13 {
         crate::views::view_case(p, q, bits);
+    } else {
+        many_answered(kind, p, q, bits);
+    }
+}
+
+// Of many pairs at once, and of how many a list has.
+fn many_answered(kind: usize, p: &[i32], q: &[i32], bits: &mut [u64]) {
+    if kind == 15 {
+        crate::lists::pairs_case(p, q, bits);
+    } else if kind == 16 {
+        crate::lists::own_pairs_case(p, bits);
+    } else if kind == 17 {
+        crate::lists::count_case(p, q, bits);
+    } else if kind == 18 {
+        crate::lists::own_count_case(p, bits);
     }
 }
 

@@ -4,7 +4,7 @@ use crate::tape;
 use list::Pair;
 ghost use Prim.Native.Nat.{_<_};
 
-// What slot k holds before a run: no pair of ids, and no size.
+// What slot k holds before a call: no pair of ids, and no size.
 fn mark_of(k: usize) -> Pair
     requires { ⌜ k < 256 ⌝ }
 {
@@ -15,7 +15,7 @@ fn mark_of(k: usize) -> Pair
     }
 }
 
-fn marked() -> [Pair; 256] {
+pub fn marked() -> [Pair; 256] {
     let mut slots = [Pair {
         q: 0,
         p: 0,
@@ -37,7 +37,7 @@ fn is_marked(v: Pair, k: usize) -> bool
 }
 
 // How many slots hold their mark.
-fn marks(slots: [Pair; 256]) -> u64 {
+pub fn marks(slots: [Pair; 256]) -> u64 {
     let mut n: u64 = 0;
     let mut k: usize = 0;
     while k < 256 {
@@ -50,7 +50,7 @@ fn marks(slots: [Pair; 256]) -> u64 {
 }
 
 // The first `count` of the slots.
-fn print_pairs(slots: [Pair; 256], count: usize) {
+pub fn print_pairs(slots: [Pair; 256], count: usize) {
     let mut k: usize = 0;
     while k < 256 {
         if k < count {

@@ -3,6 +3,7 @@ mod asked;
 mod circles;
 mod leaves;
 mod lent;
+mod lists;
 mod marks;
 mod near;
 mod pages;

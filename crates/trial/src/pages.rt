@@ -6,7 +6,7 @@ use list::Request;
 // The most owner bytes that a request has.
 pub const OWNERS: usize = 2048;
 
-fn print_key(k: list::Key) {
+pub fn print_key(k: list::Key) {
     say::number(k.q as u64);
     say::number(k.p as u64);
 }

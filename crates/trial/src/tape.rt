@@ -87,6 +87,14 @@ pub fn next_id() -> u32
     words::num(w) as u32
 }
 
+// The next three words as a number of 64 bits: its digits to the base 2^31, the highest first, of which no more than 64 bits are taken.
+pub fn next_long() -> u64 {
+    let high = next_count() as u64;
+    let middle = next_count() as u64;
+    let low = next_count() as u64;
+    (high << 62) | (middle << 31) | low
+}
+
 // The next word as a mark: whether it is above 0.
 pub fn next_mark() -> bool {
     next_count() > 0
