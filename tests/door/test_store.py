@@ -408,6 +408,7 @@ class Faults(unittest.TestCase):
         self.assertEqual((status, said), (0, ""), printed)
         self.assertRegex(printed.decode(), r"^store: [89] kills .* orders: lost 0, doubled 0\. Seed 25, ")
 
+    @unittest.skipIf(built(), "wrong stores, which are seen over the reading")
     def test_wrong_stores_are_seen(self):
         """A transaction split in two, and a worker that keeps an older state: the others are kept commands."""
         for wrong, told in (("split", r".*\d+ slots beside a state of \d+ held"), ("older", r".* was altered: UNIQUE constraint failed: slots.book, slots.at")):
