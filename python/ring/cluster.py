@@ -91,9 +91,7 @@ def work_of(ring, p, q, terms=None, by="chambers"):
     if terms.get("owners") is not None:
         terms["owners"] = bytes(terms["owners"])
     data, other = p.data, q.data
-    # a name of its own, so that two lists of one scheduler never meet
-    name = "ring-%s-%s" % (hashlib.sha256(b"%d " % len(data) + data + other).hexdigest()[:12], uuid.uuid4().hex[:8])
-    return Work(data, other, terms, by, tuple(ring.version()), name)
+    return Work(data, other, terms, by, tuple(ring.version()), "ring-%s" % hashlib.sha256(b"%d " % len(data) + data + other).hexdigest()[:12])
 
 
 def leaves(q):
@@ -170,7 +168,7 @@ def ranged(ring, p, q, a, b, terms):
     contractor = terms.get("contractor", UNDIVIDED)
     while True:
         # as many as such chambers have on average, so that little is asked for that is not of the range
-        left = b - a if contractor == UNDIVIDED else bytes(terms.get("owners", b"")[a:b]).count(contractor)
+        left = bytes(terms["owners"][a:b]).count(contractor) if contractor in (0, 1) else b - a
         pairs, more = following(ring, p, q, key, EACH * left + FEW, terms)
         for pair in pairs:
             if pair.q > last:
@@ -347,6 +345,8 @@ class Spread(NamedTuple):
 
 def spread(client, work, q, asked, counts=0, call=part, say=lambda text: None):
     """Hands the tasks to the scheduler, and gathers what they answer."""
+    # a name of its own each time, so that no task is taken for one of another list, or of the same at another time
+    work = work._replace(name="%s-%s" % (work.name, uuid.uuid4().hex[:8]))
     gathered, size = Gathered(work, q), sent(client, Sheets(work))
     heard, begun, busy, futures = Heard(client, work.name, size, say), time.perf_counter(), 0.0, {}
     client.subscribe_topic("all", heard)
@@ -362,7 +362,8 @@ def spread(client, work, q, asked, counts=0, call=part, say=lambda text: None):
             return "%d of %d tasks, %d pairs, workers: %d" % (done, len(asked) + counts, gathered.pairs_seen, len(heard.workers))
         with Progress(told):
             try:
-                for future, said in distributed.as_completed(list(futures), with_results=True):
+                # on the loop of this client: where there are two in a program, it would wait on the other's
+                for future, said in distributed.as_completed(list(futures), loop=client.loop, with_results=True):
                     gathered.take(futures.pop(future), said)
                     busy += said.took
                     done += 1

@@ -222,7 +222,7 @@ def cluster_list(ring, args):
     # it alone needs `distributed`; where this Python has none, the command runs again here under another
     from . import cluster
     cluster.here(args.words)
-    p, q = both(ring, args)
+    p, q = for_list(ring, args, args.p), for_list(ring, args, args.q)
     terms = terms_of(args, q)
     pairs = cluster.listed(ring, p, q, terms, args.by, args.scheduler, args.workers, args.batch, not args.uncounted, say)
     give_list(args, p, q, pairs, terms)
@@ -704,6 +704,7 @@ def parser():
     one.add_argument("--by", choices=("chambers", "leaves"), default="chambers", help="tasks are ranges of chambers, or runs of leaves, which take longer")
     one.add_argument("--batch", type=some, metavar="N", help="so many chambers or leaves a task")
     one.add_argument("--uncounted", action="store_true", help="do not hold the number of the pairs to `count`, which takes about as long as the list")
+    with_columns(one)
     with_terms(one)
     with_list(one)
     one = added(commands, "self", self_, "the ring pairs of one sheet with itself", "./ring self chambers.sheet --largest 900000000")

@@ -79,14 +79,13 @@ def rows(pairs):
 
 def killed(client, calls, p, q, folder):
     """A worker killed while it holds a task."""
-    work = cluster.work_of(calls, p, q)
-    tried = Tried(client, folder, work, q, cluster.spans(q.n, BATCH))
+    tried = Tried(client, folder, cluster.work_of(calls, p, q), q, cluster.spans(q.n, BATCH))
     tried.wait(lambda: len(tried.seen()) >= 2)
     a, b, pid = tried.seen()[0]
     os.kill(pid, signal.SIGKILL)
     tried.wait(lambda: any(line.startswith("the worker ") and " is gone" in line for line in tried.said))
     came = tried.free()
-    task = [key for _, keys in came.heard.gone for key in keys if key.startswith("%s-%d-%d-" % (work.name, a, b))]
+    task = [key for _, keys in came.heard.gone for key in keys if key.startswith("%s-%d-%d-" % (came.heard.name, a, b))]
     story = [list(line[1:3]) for line in client.cluster.scheduler.story(*task) if line[0] in task]
     log = [sorted(told["processing-tasks"]) for _, told in client.get_events("all") if told.get("action") == "remove-worker"]
     return {"pairs": rows(came.gathered.list(q.n)), "said": tried.said, "task": task, "story": story, "log": log,
