@@ -18,8 +18,8 @@ use Rattle.bits.specs.Set.{none, some, Finds, wiped}
 use Rattle.bits.proofs.SomeLaws.{finds-some}
 use Rattle.walk.specs.FilterWalk.{Kept, soFar, shut, consider}
 use Rattle.near.specs.Waiting.{withCovered}
-use Rattle.near.specs.NearWalk.{nearAll, rootWaits, nearKept}
-use Rattle.near.specs.Room.{listed, Past}
+use Rattle.near.specs.NearWalk.{nearAll, nearKept}
+use Rattle.near.specs.Room.{listed, Heaped, Taken, Rooted, Past}
 use Rattle.near.proofs.WaitingLaws.{past-same, past-wider, past-past, wiped-past}
 use Rattle.near.proofs.WalkCode.{load, Going, going-start, going-less, going-meet, going-skip, going-under, going-open, going-end}
 
@@ -51,10 +51,10 @@ module _ (w : List ℤ) (n m : ℕ) (q : Spot) where
   pub record Sifting (bits₀ ws₀ bits ws : List ℕ) (c opened : ℕ) : Type 0 where
     pub going : Going w n m q skips opens meets (nearKept (length bits₀) w q) ws₀ ws c (soFar bits opened)
     pub long : length bits ≡ length bits₀
-    pub count : opened + load w n m ws c ≤ n + m
+    pub count : opened + load w n m q ws c ≤ n + m
 
   module _ (o : Opens w n m) where
-    pub sifting-start : (words : ℕ) (bits ws₀ ws : List ℕ) (c : ℕ) → bits ≡ none words → length bits ≡ words → listed ws c ≡ rootWaits m → Past m ws₀ ws → Sifting bits ws bits ws c 0
+    pub sifting-start : (words : ℕ) (bits ws₀ ws : List ℕ) (c : ℕ) → bits ≡ none words → length bits ≡ words → Rooted m ws c → Past m ws₀ ws → Sifting bits ws bits ws c 0
     sifting-start words bits ws₀ ws c b h e p =
         let g = going-start w n m q skips opens meets o ws ws c (soFar (none words) 0) e (past-same m ws) in
         let r : nearAll w n m q skips opens meets (soFar (none words) 0) ≡ nearKept (length bits) w q = kept-is words (o .n-is) (o .m-is) ∙ ap (λ (k : ℕ). nearKept k w q) (sym h) in
@@ -70,27 +70,28 @@ module _ (w : List ℤ) (n m : ℕ) (q : Spot) where
           let e : soFar bits opened ≡ nearKept words w q = going-end w n m q skips opens meets o _ ws₀ ws c (soFar bits opened) (x .going) z ∙ ap (λ (k : ℕ). nearKept k w q) h in
           (ap (λ (k : Kept). k .bits) e, ap (λ (k : Kept). k .opened) e)
 
-      module _ (h : 0 < c) where
-        pub sifting-less : load w n m ws (c - 1) < load w n m ws c
-        sifting-less = going-less w n m q skips opens meets o _ ws₀ ws c _ (x .going) h
+      -- e is taken out
+      module _ (ws₁ : List ℕ) (e : ℕ) (taken : Taken w n m q ws ws₁ c e) where
+        pub sifting-less : load w n m q ws₁ (c - 1) < load w n m q ws c
+        sifting-less = going-less w n m q skips opens meets o _ ws₀ ws c _ (x .going) ws₁ e taken
 
-        pub sifting-skip : getD ws (c - 1) 0 < m + 1 → shut w n q (getD ws (c - 1) 0 - 1) bits ≡ true → Sifting bits₀ ws₀ bits ws (c - 1) opened
-        sifting-skip u t = record { going = going-skip w n m q skips opens meets o _ ws₀ ws c _ (x .going) h u t; long = x .long; count = omega (arith, sifting-less, x .count) }
+        pub sifting-skip : e < m + 1 → shut w n q (e - 1) bits ≡ true → Sifting bits₀ ws₀ bits ws₁ (c - 1) opened
+        sifting-skip u t = record { going = going-skip w n m q skips opens meets o _ ws₀ ws c _ (x .going) ws₁ e taken u t; long = x .long; count = omega (arith, sifting-less, x .count) }
 
-        pub sifting-meet : m + 1 ≤ getD ws (c - 1) 0 → (bits′ : List ℕ) → length bits′ ≡ length bits → bits′ ≡ consider w n q (getD ws (c - 1) 0 - (m + 1)) bits → Sifting bits₀ ws₀ bits′ ws (c - 1) opened
-        sifting-meet u bits′ l e =
+        pub sifting-meet : m + 1 ≤ e → (bits′ : List ℕ) → length bits′ ≡ length bits → bits′ ≡ consider w n q (e - (m + 1)) bits → Sifting bits₀ ws₀ bits′ ws₁ (c - 1) opened
+        sifting-meet u bits′ l z =
             record {
-              going = subst (λ (b : List ℕ). Going w n m q skips opens meets (nearKept (length bits₀) w q) ws₀ ws (c - 1) (soFar b opened)) (sym e) (going-meet w n m q skips opens meets o _ ws₀ ws c _ (x .going) h u);
+              going = subst (λ (b : List ℕ). Going w n m q skips opens meets (nearKept (length bits₀) w q) ws₀ ws₁ (c - 1) (soFar b opened)) (sym z) (going-meet w n m q skips opens meets o _ ws₀ ws c _ (x .going) ws₁ e taken u);
               long = l ∙ x .long;
               count = omega (arith, sifting-less, x .count);
             }
 
-        module _ (u : getD ws (c - 1) 0 < m + 1) (ws′ : List ℕ) (c′ : ℕ) (y : listed ws′ c′ ≡ withCovered w n m q (getD ws (c - 1) 0 - 1) (listed ws (c - 1))) where
-          pub sifting-under : load w n m ws′ c′ < load w n m ws c
-          sifting-under = going-under w n m q skips opens meets o _ ws₀ ws c _ (x .going) h u ws′ c′ y
+        module _ (u : e < m + 1) (ws′ : List ℕ) (c′ : ℕ) (y : listed w n m q ws′ c′ ≡ withCovered w n m q (e - 1) (listed w n m q ws₁ (c - 1))) where
+          pub sifting-under : load w n m q ws′ c′ < load w n m q ws c
+          sifting-under = going-under w n m q skips opens meets o _ ws₀ ws c _ (x .going) ws₁ e taken u ws′ c′ y
 
-          pub sifting-open : shut w n q (getD ws (c - 1) 0 - 1) bits ≡ false → Past (n + m) ws ws′ → Sifting bits₀ ws₀ bits ws′ c′ (opened + 1)
-          sifting-open t p = record { going = going-open w n m q skips opens meets o _ ws₀ ws c _ (x .going) h u ws′ c′ y t p; long = x .long; count = omega (arith, sifting-under, x .count) }
+          pub sifting-open : shut w n q (e - 1) bits ≡ false → Heaped w n m q ws′ c′ → Past (n + m) ws₁ ws′ → Sifting bits₀ ws₀ bits ws′ c′ (opened + 1)
+          sifting-open t g p = record { going = going-open w n m q skips opens meets o _ ws₀ ws c _ (x .going) ws₁ e taken u ws′ c′ y t g p; long = x .long; count = omega (arith, sifting-under, x .count) }
 
 -- what is wiped at the end is what was lent, wiped
 pub wiped-all : (n m : ℕ) (ws ws₀ ws′ ws″ : List ℕ) → Past m ws ws₀ → Past (n + m) ws₀ ws′ → ws″ ≡ wiped (n + m) ws′ → ws″ ≡ wiped (n + m) ws

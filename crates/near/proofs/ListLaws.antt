@@ -1,6 +1,6 @@
 -- Lists of what waits: something said of each, of some, of the order, and a sum over all; and what is put in where it belongs.
 -- Assumes nothing.
-use mathlib.Core.Path.{_≡_, refl, sym, ap}
+use mathlib.Core.Path.{_≡_, refl, sym, ap, subst}
 use mathlib.Core.Bool.{Bool, true, false, cond, _&&_}
 use mathlib.Core.Logic.{_⊎_, inl, inr, ⊎-elim}
 use mathlib.Core.List.{List, [], _∷_}
@@ -9,8 +9,8 @@ use native.Mathlib.Omega.{arith}
 use lib.Dec.{eqb, ltb}
 use lib.IntN.{ℤ}
 use lib.ListN.{length}
-use borrow.Author.Tests.{eqb-true, eqb-false, ltb-true, ltb-false}
-use Rattle.integers.proofs.Bools.{decide, or-false-left, or-false-right, and-left, and-right}
+use borrow.Author.Tests.{le-ltb, eq-eqb, eqb-true, eqb-false, ltb-true, ltb-false}
+use Rattle.integers.proofs.Bools.{decide, clash, or-false-left, or-false-right, and-left, and-right}
 use Rattle.plane.specs.declared.Spot.{Spot}
 use Rattle.sheet.specs.Boxes.{sumOver}
 use Rattle.walk.specs.Walk.{inTurn}
@@ -83,7 +83,7 @@ module _ (w : List ℤ) (n m : ℕ) (q : Spot) where
   abbrev pub Leads : ℕ → ℕ → Type 0
   Leads = Led (distance w n m q)
 
-  before-leads : (e f : ℕ) → before w n m q e f ≡ true → Leads e f
+  pub before-leads : (e f : ℕ) → before w n m q e f ≡ true → Leads e f
   unfolding before
   before-leads e f h =
       let s = distance w n m q e in
@@ -96,7 +96,7 @@ module _ (w : List ℤ) (n m : ℕ) (q : Spot) where
       record { by = inr (eqb-true s t (and-left (eqb s t) (ltb e f) x), omega arith) })
       (decide (ltb s t))
 
-  not-before : (e f : ℕ) → before w n m q e f ≡ false → Leads f e
+  pub not-before : (e f : ℕ) → before w n m q e f ≡ false → Leads f e
   unfolding before
   not-before e f h =
       let s = distance w n m q e in
@@ -111,6 +111,31 @@ module _ (w : List ℤ) (n m : ℕ) (q : Spot) where
       let z : s ≡ t → ⊥ = eqb-false s t b in
       record { by = inl (omega arith) })
       (decide (eqb s t))
+
+  -- none comes before itself
+  never-before : (e : ℕ) → before w n m q e e ≡ false
+  unfolding before
+  never-before e = let d = distance w n m q e in rw (le-ltb d d (omega arith), eq-eqb d d refl, le-ltb e e (omega arith))
+
+  pub leads-self : (e : ℕ) → Leads e e
+  leads-self e = record { by = inr (refl, omega arith) }
+
+  -- two of which neither is after the other are the same
+  pub leads-same : (e f : ℕ) → Leads e f → Leads f e → e ≡ f
+  leads-same e f x y =
+      let s = distance w n m q e in
+      let t = distance w n m q f in
+      ⊎-elim
+      (λ (a : s < t). ⊎-elim (λ (b : t < s). absurd (omega arith)) (λ (b : (t ≡ s) × (f ≤ e)). absurd (omega arith)) (y .by))
+      (λ (a : (s ≡ t) × (e ≤ f)). ⊎-elim (λ (b : t < s). absurd (omega arith)) (λ (b : (t ≡ s) × (f ≤ e)). omega arith) (y .by))
+      (x .by)
+
+  pub leads-before : (e f : ℕ) → Leads e f → before w n m q f e ≡ false
+  leads-before e f x =
+      ⊎-elim
+      (λ (a : before w n m q f e ≡ true). let z = leads-same e f x (before-leads f e a) in clash (subst (λ (k : ℕ). before w n m q k e ≡ true) (sym z) a) (never-before e))
+      (λ (a : before w n m q f e ≡ false). a)
+      (decide (before w n m q f e))
 
   -- ---- what is put in
 
@@ -127,6 +152,11 @@ module _ (w : List ℤ) (n m : ℕ) (q : Spot) where
   unfolding insert
   insert-each e p [] a = more p none
   insert-each {P} e p (f ∷ l) a = insert-cases (Each P) e f l (λ h. more p a) (λ h. more (each-head a) (insert-each e p l (each-tail a)))
+
+  pub insert-has : {P : ℕ → Type 0} (e : ℕ) (l : List ℕ) → Each P (insert w n m q e l) → P e
+  unfolding insert
+  insert-has e [] a = each-head a
+  insert-has {P} e (f ∷ l) a = insert-cases (λ x. Each P x → P e) e f l (λ h b. each-head b) (λ h b. insert-has e l (each-tail b)) a
 
   pub insert-here : {P : ℕ → Type 0} (e : ℕ) → P e → (l : List ℕ) → Some P (insert w n m q e l)
   unfolding insert
@@ -151,7 +181,7 @@ module _ (w : List ℤ) (n m : ℕ) (q : Spot) where
   insert-total g e [] = refl
   insert-total g e (f ∷ l) = insert-cases (λ x. total g x ≡ g e + (g f + total g l)) e f l (λ h. refl) (λ h. omega (arith, insert-total g e l))
 
-  insert-length : (e : ℕ) (l : List ℕ) → length (insert w n m q e l) ≡ suc (length l)
+  pub insert-length : (e : ℕ) (l : List ℕ) → length (insert w n m q e l) ≡ suc (length l)
   unfolding insert
   insert-length e [] = refl
   insert-length e (f ∷ l) = insert-cases (λ x. length x ≡ suc (suc (length l))) e f l (λ h. refl) (λ h. ap suc (insert-length e l))

@@ -15,8 +15,8 @@ use Rattle.plane.specs.declared.Spot.{Spot}
 use Rattle.sheet.specs.Layout.{points, nodes}
 use Rattle.sheet.specs.Open.{Opens}
 use Rattle.near.specs.Waiting.{withCovered}
-use Rattle.near.specs.NearWalk.{nearAll, rootWaits, nearOrder}
-use Rattle.near.specs.Room.{zeroFilled, listed, Past}
+use Rattle.near.specs.NearWalk.{nearAll, nearOrder}
+use Rattle.near.specs.Room.{zeroFilled, listed, Heaped, Taken, Rooted, Past}
 use Rattle.near.proofs.NearLaws.{steps-keep}
 use Rattle.near.proofs.WaitingLaws.{past-same}
 use Rattle.near.proofs.WalkCode.{load, Going, going-start, going-less, going-meet, going-under, going-open, going-end}
@@ -42,7 +42,7 @@ module _ (w : List ℤ) (n m : ℕ) (q : Spot) where
     pub blank : drop got at ≡ replicate (16 - got) 0
 
   module _ (o : Opens w n m) where
-    pub giving-start : (ws₀ ws : List ℕ) (c : ℕ) → listed ws c ≡ rootWaits m → Past m ws₀ ws → Giving ws ws c (replicate 16 0) 0
+    pub giving-start : (ws₀ ws : List ℕ) (c : ℕ) → Rooted m ws c → Past m ws₀ ws → Giving ws ws c (replicate 16 0) 0
     giving-start ws₀ ws c e p =
         let g = going-start w n m q passes same gives o ws ws c [] e (past-same m ws) in
         record { going = subst (λ (r : List ℕ). Going w n m q passes same gives r ws ws c []) (order-is (o .n-is) (o .m-is)) g; full = refl; blank = refl }
@@ -57,7 +57,7 @@ module _ (w : List ℤ) (n m : ℕ) (q : Spot) where
           (λ j h l s′ a t z. absurd (true≢false (sym t)))
           (λ j h l s′ a t z. z)
           (λ i h l s′ a z. (z .0 ++ (i ∷ []), ap (λ (v : List ℕ). v ++ (i ∷ [])) (z .1) ∙ append-assoc s (z .0) (i ∷ [])))
-          (load w n m ws c) (listed ws c) s (x .going .kinds) (omega arith) ([], sym (append-nil s))
+          (load w n m q ws c) (listed w n m q ws c) s (x .going .kinds) (omega arith) ([], sym (append-nil s))
           in
           (y .0, sym (x .going .to-do) ∙ y .1)
 
@@ -93,25 +93,26 @@ module _ (w : List ℤ) (n m : ℕ) (q : Spot) where
             go true e u = giving-full (ltb-false got size u)
             go false e u = giving-end (ltb-false 0 c e)
 
-      module _ (h : 0 < c) where
-        pub giving-less : load w n m ws (c - 1) < load w n m ws c
-        giving-less = going-less w n m q passes same gives o _ ws₀ ws c _ (x .going) h
+      -- e is taken out
+      module _ (ws₁ : List ℕ) (e : ℕ) (taken : Taken w n m q ws ws₁ c e) where
+        pub giving-less : load w n m q ws₁ (c - 1) < load w n m q ws c
+        giving-less = going-less w n m q passes same gives o _ ws₀ ws c _ (x .going) ws₁ e taken
 
-        pub giving-meet : got < 16 → m + 1 ≤ getD ws (c - 1) 0 → Giving ws₀ ws (c - 1) (set at got (getD ws (c - 1) 0 - (m + 1))) (got + 1)
+        pub giving-meet : got < 16 → m + 1 ≤ e → Giving ws₀ ws₁ (c - 1) (set at got (e - (m + 1))) (got + 1)
         giving-meet b u =
-            let i = getD ws (c - 1) 0 - (m + 1) in
-            let e : take (got + 1) (set at got i) ≡ take got at ++ (i ∷ []) = ap (λ (k : ℕ). take k (set at got i)) (add-one got) ∙ take-suc-set at got i (omega (arith, x .full)) in
+            let i = e - (m + 1) in
+            let z : take (got + 1) (set at got i) ≡ take got at ++ (i ∷ []) = ap (λ (k : ℕ). take k (set at got i)) (add-one got) ∙ take-suc-set at got i (omega (arith, x .full)) in
             record {
-              going = subst (λ (s : List ℕ). Going w n m q passes same gives (nearOrder w q) ws₀ ws (c - 1) s) (sym e) (going-meet w n m q passes same gives o _ ws₀ ws c _ (x .going) h u);
+              going = subst (λ (s : List ℕ). Going w n m q passes same gives (nearOrder w q) ws₀ ws₁ (c - 1) s) (sym z) (going-meet w n m q passes same gives o _ ws₀ ws c _ (x .going) ws₁ e taken u);
               full = length-set at got i ∙ x .full;
               blank =
-                  let z : 16 - got ≡ suc (16 - (got + 1)) = omega arith in
-                  drop-set-lt (got + 1) at got i (omega arith) ∙ sym (drop-drop 1 got at) ∙ ap (drop 1) (x .blank ∙ ap (λ (k : ℕ). replicate k 0) z);
+                  let y : 16 - got ≡ suc (16 - (got + 1)) = omega arith in
+                  drop-set-lt (got + 1) at got i (omega arith) ∙ sym (drop-drop 1 got at) ∙ ap (drop 1) (x .blank ∙ ap (λ (k : ℕ). replicate k 0) y);
             }
 
-        module _ (u : getD ws (c - 1) 0 < m + 1) (ws′ : List ℕ) (c′ : ℕ) (y : listed ws′ c′ ≡ withCovered w n m q (getD ws (c - 1) 0 - 1) (listed ws (c - 1))) where
-          pub giving-under : load w n m ws′ c′ < load w n m ws c
-          giving-under = going-under w n m q passes same gives o _ ws₀ ws c _ (x .going) h u ws′ c′ y
+        module _ (u : e < m + 1) (ws′ : List ℕ) (c′ : ℕ) (y : listed w n m q ws′ c′ ≡ withCovered w n m q (e - 1) (listed w n m q ws₁ (c - 1))) where
+          pub giving-under : load w n m q ws′ c′ < load w n m q ws c
+          giving-under = going-under w n m q passes same gives o _ ws₀ ws c _ (x .going) ws₁ e taken u ws′ c′ y
 
-          pub giving-open : Past (n + m) ws ws′ → Giving ws₀ ws′ c′ at got
-          giving-open p = record { going = going-open w n m q passes same gives o _ ws₀ ws c _ (x .going) h u ws′ c′ y refl p; full = x .full; blank = x .blank }
+          pub giving-open : Heaped w n m q ws′ c′ → Past (n + m) ws₁ ws′ → Giving ws₀ ws′ c′ at got
+          giving-open g p = record { going = going-open w n m q passes same gives o _ ws₀ ws c _ (x .going) ws₁ e taken u ws′ c′ y refl g p; full = x .full; blank = x .blank }

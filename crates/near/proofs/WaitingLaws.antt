@@ -1,4 +1,4 @@
--- Laws for the code that keeps what waits in lent numbers: distances as words, what is put in by moving others up, the root, and the lent numbers wiped.
+-- Laws for the code that keeps what waits in lent numbers: distances as words, the heap in which they stand, a number on its way up or down in it, the root, and the lent numbers wiped.
 -- Assumes nothing.
 use mathlib.Core.Path.{_≡_, refl, sym, ap, subst, _∙_}
 use mathlib.Core.Bool.{Bool, true, false, cond, _&&_, _||_}
@@ -26,8 +26,9 @@ use Rattle.walk.specs.Walk.{inTurn}
 use Rattle.walk.proofs.TurnLaws.{Turn, turn-start, turn-step, turn-end}
 use Rattle.near.specs.Waiting.{boxEntry, away, distance, before, insert, covered, withCovered}
 use Rattle.near.specs.NearWalk.{rootWaits}
-use Rattle.near.specs.Room.{listed, Kind, box, point, InRun, Each, Past}
-use Rattle.near.proofs.ListLaws.{each-head, each-tail, insert-each}
+use Rattle.near.specs.Room.{listed, Heaped, Taken, Lesser, Rooted, Kind, Kinds, box, point, InRun, Each, Past}
+use Rattle.near.proofs.ListLaws.{Leads, before-leads, not-before, leads-before, leads-self, insert-each, insert-length}
+use Rattle.near.proofs.HeapLaws.{same-or, every, Swapped, picked, picked-same, picked-swap, picked-at, picked-first, Heap, heap-first, Rising, rising-step, rising-stop, rising-end, Sinking, Least, sinking-step, sinking-stop, sinking-end}
 use Rattle.near.proofs.EntryLaws.{covered-kind, run-small}
 use Rattle.bits.specs.Set.{wiped}
 
@@ -90,47 +91,94 @@ pub before-is : (w : List ℤ) (n m : ℕ) (q : Spot) (e f d g : ℕ) → d ≡ 
 unfolding before
 before-is w n m q e f d g x y = rw (x, y)
 
--- ---- what is put in
+-- ---- the lent numbers by their places
 
--- c numbers from a on, the last first, and then r
-pub part : List ℕ → ℕ → ℕ → List ℕ → List ℕ
-part ws a zero r = r
-part ws a (suc c) r = getD ws (a + c) 0 ∷ part ws a c r
+-- the number at a place
+abbrev standing : List ℕ → ℕ → ℕ
+standing ws k = getD ws k 0
 
-part-first : (ws : List ℕ) (a c : ℕ) (r : List ℕ) → part ws a (suc c) r ≡ part ws (a + 1) c (getD ws a 0 ∷ r)
-unfolding part
-part-first ws a zero r = let z : a + 0 ≡ a = omega arith in rw z
-part-first ws a (suc c) r =
-    let z : a + suc c ≡ a + 1 + c = omega arith in
-    ap (λ (k : ℕ). getD ws k 0 ∷ part ws a (suc c) r) z ∙ ap (λ (l : List ℕ). getD ws (a + 1 + c) 0 ∷ l) (part-first ws a c r)
+set-here : (ws : List ℕ) (k v : ℕ) → k < length ws → standing (set ws k v) k ≡ v
+set-here ws k v h = getD-set-same ws k v 0 h
 
-part-set : (ws : List ℕ) (a c i v : ℕ) (r : List ℕ) → i < a → part (set ws i v) a c r ≡ part ws a c r
-unfolding part
-part-set ws a zero i v r h = refl
-part-set ws a (suc c) i v r h =
-    ap (λ (x : ℕ). x ∷ part (set ws i v) a c r) (getD-set-other ws i (a + c) v 0 (λ z. omega arith)) ∙ ap (λ (l : List ℕ). getD ws (a + c) 0 ∷ l) (part-set ws a c i v r h)
+set-else : (ws : List ℕ) (k v i : ℕ) → (i ≡ k → ⊥) → standing (set ws k v) i ≡ standing ws i
+set-else ws k v i h = getD-set-other ws k i v 0 h
 
-part-listed : (ws : List ℕ) (a c : ℕ) → listed ws (a + c) ≡ part ws a c (listed ws a)
-unfolding part listed
-part-listed ws a zero = let z : a + 0 ≡ a = omega arith in rw z
-part-listed ws a (suc c) =
-    let z : a + suc c ≡ suc (a + c) = omega arith in
-    ap (listed ws) z ∙ ap (λ (l : List ℕ). getD ws (a + c) 0 ∷ l) (part-listed ws a c)
+kinds-set : (n m : ℕ) (ws : List ℕ) (c k v : ℕ) → k < length ws → Kind n m v → Kinds n m ws c → Kinds n m (set ws k v) c
+kinds-set n m ws c k v h p x =
+    record {
+      each = λ i u. same-or i k
+          (λ z. subst (Kind n m) (sym (ap (standing (set ws k v)) z ∙ set-here ws k v h)) p)
+          (λ z. subst (Kind n m) (sym (set-else ws k v i z)) (x .each i u));
+    }
 
-pub listed-set : (ws : List ℕ) (c i v : ℕ) → c ≤ i → listed (set ws i v) c ≡ listed ws c
-unfolding listed
-listed-set ws zero i v h = refl
-listed-set ws (suc c) i v h =
-    ap (λ (x : ℕ). x ∷ listed (set ws i v) c) (getD-set-other ws i c v 0 (λ z. omega arith)) ∙ ap (λ (l : List ℕ). getD ws c 0 ∷ l) (listed-set ws c i v (omega arith))
+module _ (w : List ℤ) (n m : ℕ) (q : Spot) where
+  listed-picked : (ws : List ℕ) (c : ℕ) → listed w n m q ws c ≡ picked w n m q every (standing ws) c
+  unfolding listed picked
+  listed-picked ws zero = refl
+  listed-picked ws (suc c) = ap (insert w n m q (getD ws c 0)) (listed-picked ws c)
 
-pub listed-more : (ws : List ℕ) (c : ℕ) → 0 < c → listed ws c ≡ getD ws (c - 1) 0 ∷ listed ws (c - 1)
-unfolding listed
-listed-more ws c h = let z : c ≡ suc (c - 1) = omega arith in ap (listed ws) z
+  pub listed-length : (ws : List ℕ) (c : ℕ) → length (listed w n m q ws c) ≡ c
+  unfolding listed
+  listed-length ws zero = refl
+  listed-length ws (suc c) = insert-length w n m q (getD ws c 0) (listed w n m q ws c) ∙ ap suc (listed-length ws c)
 
-pub listed-length : (ws : List ℕ) (c : ℕ) → length (listed ws c) ≡ c
-unfolding listed
-listed-length ws zero = refl
-listed-length ws (suc c) = ap suc (listed-length ws c)
+  pub listed-kinds : (ws : List ℕ) (c : ℕ) → Each (Kind n m) (listed w n m q ws c) → Kinds n m ws c
+  listed-kinds ws c a = record { each = λ k h. picked-at w n m q (standing ws) c k h (subst (Each (Kind n m)) (listed-picked ws c) a) }
+
+  heap-of : (ws : List ℕ) (c : ℕ) → Heaped w n m q ws c → Heap w n m q (standing ws) c
+  unfolding Heap
+  heap-of ws c h i k a b u = not-before w n m q (standing ws k) (standing ws i) (h .up i k a b u)
+
+  heaped-of : (ws : List ℕ) (c : ℕ) → Heap w n m q (standing ws) c → Heaped w n m q ws c
+  unfolding Heap
+  heaped-of ws c h = record { up = λ i k a b u. leads-before w n m q (standing ws i) (standing ws k) (h i k a b u) }
+
+  -- one number is a heap
+  pub heaped-one : (ws : List ℕ) (c : ℕ) → c ≤ 1 → Heaped w n m q ws c
+  heaped-one ws c h = record { up = λ i k a b u. absurd (omega arith) }
+
+  -- the nearest stands at place 0; once it goes, the last stands for it
+  module _ (ws : List ℕ) (c : ℕ) (some : 0 < c) (h : Heaped w n m q ws c) where
+    pub heaped-fewer : Heaped w n m q ws (c - 1)
+    heaped-fewer = record { up = λ i k a b u. h .up i k a b (omega arith) }
+
+    listed-first : c ≤ length ws → listed w n m q ws c ≡ getD ws 0 0 ∷ listed w n m q (set ws 0 (getD ws (c - 1) 0)) (c - 1)
+    listed-first l =
+        let ws′ = set ws 0 (getD ws (c - 1) 0) in
+        let z : c ≡ suc (c - 1) = omega arith in
+        listed-picked ws c ∙ ap (picked w n m q every (standing ws)) z
+        ∙ picked-first w n m q (standing ws) (standing ws′) (c - 1) (λ k u. heap-first w n m q (standing ws) c (heap-of ws c h) k (omega arith)) (set-here ws 0 (getD ws (c - 1) 0) (omega arith)) (λ k y. set-else ws 0 (getD ws (c - 1) 0) k y)
+        ∙ ap (λ (l : List ℕ). getD ws 0 0 ∷ l) (sym (listed-picked ws′ (c - 1)))
+
+    pub kinds-fewer : Kinds n m ws c → Kinds n m ws (c - 1)
+    kinds-fewer a = record { each = λ k u. a .each k (omega arith) }
+
+    pub taken-by : c ≤ length ws → (ws′ : List ℕ) → listed w n m q ws′ (c - 1) ≡ listed w n m q (set ws 0 (getD ws (c - 1) 0)) (c - 1) → Heaped w n m q ws′ (c - 1) → Past (n + m) ws ws′ → Taken w n m q ws ws′ c (getD ws 0 0)
+    taken-by l ws′ e g p = record { first = listed-first l ∙ ap (λ (y : List ℕ). getD ws 0 0 ∷ y) (sym e); heap = g; past = p }
+
+  -- the lesser of two
+  pub lesser-one : (ws : List ℕ) (c j : ℕ) → j < c → c ≤ j + 1 → Lesser w n m q ws c j j
+  lesser-one ws c j h g = record { low = omega arith; high = omega arith; few = h; least = λ k a b u. let z : k ≡ j = omega arith in ap (λ (i : ℕ). before w n m q (standing ws i) (standing ws j)) z ∙ leads-before w n m q (standing ws j) (standing ws j) (leads-self w n m q (standing ws j)) }
+
+  module _ (ws : List ℕ) (c j : ℕ) (h : j + 1 < c) where
+    either : (r : ℕ) → before w n m q (standing ws j) (standing ws r) ≡ false → before w n m q (standing ws (j + 1)) (standing ws r) ≡ false → (k : ℕ) → j ≤ k → k ≤ j + 1 → before w n m q (standing ws k) (standing ws r) ≡ false
+    either r x y k a b =
+        same-or k j
+        (λ z. ap (λ (i : ℕ). before w n m q (standing ws i) (standing ws r)) z ∙ x)
+        (λ z. let t : k ≡ j + 1 = omega arith in ap (λ (i : ℕ). before w n m q (standing ws i) (standing ws r)) t ∙ y)
+
+    self : (r : ℕ) → before w n m q (standing ws r) (standing ws r) ≡ false
+    self r = leads-before w n m q (standing ws r) (standing ws r) (leads-self w n m q (standing ws r))
+
+    pub lesser-second : before w n m q (getD ws (j + 1) 0) (getD ws j 0) ≡ true → Lesser w n m q ws c j (j + 1)
+    lesser-second t =
+        let x = leads-before w n m q (standing ws (j + 1)) (standing ws j) (before-leads w n m q (standing ws (j + 1)) (standing ws j) t) in
+        record { low = omega arith; high = omega arith; few = h; least = λ k a b u. either (j + 1) x (self (j + 1)) k a b }
+
+    pub lesser-first : before w n m q (getD ws (j + 1) 0) (getD ws j 0) ≡ false → Lesser w n m q ws c j j
+    lesser-first t = record { low = omega arith; high = omega arith; few = omega arith; least = λ k a b u. either j (self j) t k a b }
+
+-- ---- what is left as it was
 
 -- what is written below k leaves the rest as it was
 pub past-same : (k : ℕ) (ws : List ℕ) → Past k ws ws
@@ -147,89 +195,178 @@ past-wider k k′ a b h p =
 pub past-past : (k : ℕ) (a b c : List ℕ) → Past k a b → Past k b c → Past k a c
 past-past k a b c x y = record { long = y .long ∙ x .long; rest = y .rest ∙ x .rest }
 
+-- ---- one number on its way up or down: e is held, and is to be written at k
+
 module _ (w : List ℤ) (n m : ℕ) (q : Spot) (e : ℕ) where
-  -- e is to be put in at k or below; what stood from k on below count stands one higher
+  abbrev held : List ℕ → ℕ → ℕ → ℕ
+  held ws k = standing (set ws k e)
+
+  -- what stands at i is moved to k, and e is to be written at i
+  held-swap : (ws : List ℕ) (k i : ℕ) → k < length ws → i < length ws → (k ≡ i → ⊥) → Swapped (held ws k) (held (set ws k (getD ws i 0)) i) k i
+  held-swap ws k i h g d =
+      let f = getD ws i 0 in
+      let ws′ = set ws k f in
+      let d′ : i ≡ k → ⊥ = λ z. d (sym z) in
+      record {
+        at-i = set-else ws′ i e k d ∙ set-here ws k f h ∙ sym (set-else ws k e i d′);
+        at-j = set-here ws′ i e (omega (arith, length-set ws k f)) ∙ sym (set-here ws k e h);
+        else = λ x y z. set-else ws′ i e x z ∙ set-else ws k f x y ∙ sym (set-else ws k e x y);
+      }
+
+  -- on its way up, among the first count + 1
   pub record Moved (count : ℕ) (ws₀ ws : List ℕ) (k : ℕ) : Type 0 where
     pub most : k ≤ count
-    pub kinds : Each (Kind n m) (listed ws k)
-    pub left : part ws (k + 1) (count - k) (insert w n m q e (listed ws k)) ≡ insert w n m q e (listed ws₀ count)
+    pub kinds : Kinds n m ws count
+    pub left : picked w n m q every (held ws k) (count + 1) ≡ insert w n m q e (listed w n m q ws₀ count)
+    pub rising : Rising w n m q (held ws k) (count + 1) k
     pub past : Past (n + m) ws₀ ws
 
-  pub moved-start : (count : ℕ) (ws : List ℕ) → Each (Kind n m) (listed ws count) → Moved count ws ws count
-  unfolding part
-  moved-start count ws a =
-      let z : count - count ≡ 0 = omega arith in
-      record { most = omega arith; kinds = a; left = rw z; past = past-same (n + m) ws }
+  module _ (count : ℕ) (ws : List ℕ) (few : count < length ws) where
+    held-else : (k : ℕ) → (k ≡ count → ⊥) → held ws count k ≡ standing ws k
+    held-else k = set-else ws count e k
+
+    pub moved-start : Each (Kind n m) (listed w n m q ws count) → Heaped w n m q ws count → Moved count ws ws count
+    unfolding picked
+    moved-start a h =
+        record {
+          most = omega arith;
+          kinds = listed-kinds w n m q ws count a;
+          left =
+              ap (picked w n m q every (held ws count)) (add-one count)
+              ∙ ap (λ (x : ℕ). insert w n m q x (picked w n m q every (held ws count) count)) (set-here ws count e few)
+              ∙ ap (insert w n m q e) (picked-same w n m q every every (held ws count) (standing ws) count (λ k u. refl) (λ k u t. held-else k (λ z. omega arith)) ∙ sym (listed-picked w n m q ws count));
+          rising = record {
+            rest = λ i j x y u z. subst (λ (s : ℕ). Leads w n m q s (held ws count j)) (sym (held-else i (λ t. omega arith)))
+                (subst (λ (s : ℕ). Leads w n m q (standing ws i) s) (sym (held-else j z)) (not-before w n m q (standing ws j) (standing ws i) (h .up i j x y (omega arith))));
+            over = λ i j x y s t u. absurd (omega arith);
+          };
+          past = past-same (n + m) ws;
+        }
 
   module _ (count : ℕ) (ws₀ ws : List ℕ) (k : ℕ) (few : count < n + m) (long : n + m ≤ length ws₀) (x : Moved count ws₀ ws k) where
     pub moved-fits : k < length ws
     moved-fits = omega (arith, x .most, x .past .long)
 
-    pub moved-kind : 0 < k → Kind n m (getD ws (k - 1) 0)
-    moved-kind h = each-head (subst (Each (Kind n m)) (listed-more ws k h) (x .kinds))
+    pub moved-done : Heap w n m q (held ws k) (count + 1) → (listed w n m q (set ws k e) (count + 1) ≡ insert w n m q e (listed w n m q ws₀ count)) × Heaped w n m q (set ws k e) (count + 1) × Past (n + m) ws₀ (set ws k e)
+    moved-done h = (listed-picked w n m q (set ws k e) (count + 1) ∙ x .left, heaped-of w n m q (set ws k e) (count + 1) h, past-set (n + m) k e ws₀ ws (omega (arith, x .most)) (x .past))
 
-    pub moved-step : 0 < k → before w n m q e (getD ws (k - 1) 0) ≡ false → Moved count ws₀ (set ws k (getD ws (k - 1) 0)) (k - 1)
-    unfolding insert
-    moved-step h b =
-        let f = getD ws (k - 1) 0 in
-        let ws′ = set ws k f in
-        let c = count - k in
-        let same : listed ws′ (k - 1) ≡ listed ws (k - 1) = listed-set ws (k - 1) k f (omega arith) in
-        let u : k - 1 + 1 ≡ k = omega arith in
-        let v : count - (k - 1) ≡ suc c = omega (arith, x .most) in
-        let r = insert w n m q e (listed ws (k - 1)) in
-        let opened : insert w n m q e (listed ws k) ≡ f ∷ r = ap (insert w n m q e) (listed-more ws k h) ∙ (rw b) in
-        record {
-          most = omega (arith, x .most);
-          kinds = subst (Each (Kind n m)) (sym same) (each-tail (subst (Each (Kind n m)) (listed-more ws k h) (x .kinds)));
-          left =
-              ap (λ (l : List ℕ). part ws′ (k - 1 + 1) (count - (k - 1)) (insert w n m q e l)) same
-              ∙ ap (λ (a : ℕ). part ws′ a (count - (k - 1)) r) u
-              ∙ ap (λ (a : ℕ). part ws′ k a r) v
-              ∙ part-first ws′ k c r
-              ∙ ap (λ (a : ℕ). part ws′ (k + 1) c (a ∷ r)) (getD-set-same ws k f 0 moved-fits)
-              ∙ part-set ws (k + 1) c k f (f ∷ r) (omega arith)
-              ∙ ap (part ws (k + 1) c) (sym opened)
-              ∙ x .left;
-          past = past-set (n + m) k f ws₀ ws (omega (arith, x .most)) (x .past);
-        }
+    pub moved-end : k ≡ 0 → (listed w n m q (set ws k e) (count + 1) ≡ insert w n m q e (listed w n m q ws₀ count)) × Heaped w n m q (set ws k e) (count + 1) × Past (n + m) ws₀ (set ws k e)
+    moved-end z = moved-done (rising-end w n m q (held ws k) (count + 1) k z (x .rising))
 
-    -- where e belongs at k, it is written there
-    moved-put : insert w n m q e (listed ws k) ≡ e ∷ listed ws k → (listed (set ws k e) (count + 1) ≡ insert w n m q e (listed ws₀ count)) × Past (n + m) ws₀ (set ws k e)
-    unfolding listed
-    moved-put z =
-        let ws′ = set ws k e in
-        let c = count - k in
-        let u : count + 1 ≡ k + 1 + c = omega (arith, x .most) in
-        let v : listed ws′ (k + 1) ≡ e ∷ listed ws k =
-        ap (listed ws′) (add-one k) ∙ ap (λ (a : ℕ). a ∷ listed ws′ k) (getD-set-same ws k e 0 moved-fits) ∙ ap (λ (l : List ℕ). e ∷ l) (listed-set ws k k e (omega arith))
-        in (
-          ap (listed ws′) u ∙ part-listed ws′ (k + 1) c ∙ ap (part ws′ (k + 1) c) v ∙ part-set ws (k + 1) c k e (e ∷ listed ws k) (omega arith) ∙ ap (part ws (k + 1) c) (sym z) ∙ x .left,
-          past-set (n + m) k e ws₀ ws (omega (arith, x .most)) (x .past),
-        )
+    -- i is the place above k
+    module _ (i : ℕ) (a : i + i + 1 ≤ k) (b : k ≤ i + i + 2) where
+      pub moved-kind : Kind n m (getD ws i 0)
+      moved-kind = x .kinds .each i (omega (arith, x .most))
 
-    pub moved-stop : 0 < k → before w n m q e (getD ws (k - 1) 0) ≡ true → (listed (set ws k e) (count + 1) ≡ insert w n m q e (listed ws₀ count)) × Past (n + m) ws₀ (set ws k e)
-    unfolding insert
-    moved-stop h b =
-        moved-put (ap (insert w n m q e) (listed-more ws k h) ∙ (rw b) ∙ ap (λ (l : List ℕ). e ∷ l) (sym (listed-more ws k h)))
+      here : held ws k k ≡ e
+      here = set-here ws k e moved-fits
 
-    pub moved-end : k ≡ 0 → (listed (set ws k e) (count + 1) ≡ insert w n m q e (listed ws₀ count)) × Past (n + m) ws₀ (set ws k e)
-    unfolding insert listed
-    moved-end z = moved-put (rw z)
+      there : held ws k i ≡ getD ws i 0
+      there = set-else ws k e i (λ z. omega arith)
+
+      pub moved-step : before w n m q e (getD ws i 0) ≡ true → Moved count ws₀ (set ws k (getD ws i 0)) i
+      moved-step t =
+          let s = held-swap ws k i moved-fits (omega (arith, moved-fits)) (λ z. omega arith) in
+          let f = getD ws i 0 in
+          let lead : Leads w n m q (held ws k k) (held ws k i) = subst (λ (y : ℕ). Leads w n m q y (held ws k i)) (sym here) (subst (Leads w n m q e) (sym there) (before-leads w n m q e f t)) in
+          record {
+            most = omega (arith, x .most);
+            kinds = kinds-set n m ws count k f moved-fits moved-kind (x .kinds);
+            left = picked-swap w n m q (held ws k) (held (set ws k f) i) (count + 1) k i (omega (arith, x .most)) (omega (arith, x .most)) (λ z. omega arith) s ∙ x .left;
+            rising = rising-step w n m q (held ws k) (held (set ws k f) i) (count + 1) k i (omega (arith, x .most)) a b lead s (x .rising);
+            past = past-set (n + m) k f ws₀ ws (omega (arith, x .most)) (x .past);
+          }
+
+      pub moved-stop : before w n m q e (getD ws i 0) ≡ false → (listed w n m q (set ws k e) (count + 1) ≡ insert w n m q e (listed w n m q ws₀ count)) × Heaped w n m q (set ws k e) (count + 1) × Past (n + m) ws₀ (set ws k e)
+      moved-stop t =
+          let lead : Leads w n m q (held ws k i) (held ws k k) = subst (λ (y : ℕ). Leads w n m q y (held ws k k)) (sym there) (subst (Leads w n m q (getD ws i 0)) (sym here) (not-before w n m q e (getD ws i 0) t)) in
+          moved-done (rising-stop w n m q (held ws k) (count + 1) k i a b lead (x .rising))
+
+  -- on its way down, among the first count
+  pub record Sunk (count : ℕ) (ws₀ ws : List ℕ) (k : ℕ) : Type 0 where
+    pub most : k ≤ count
+    pub kinds : Kinds n m ws count
+    pub left : picked w n m q every (held ws k) count ≡ listed w n m q (set ws₀ 0 e) count
+    pub sinking : Sinking w n m q (held ws k) count k
+    pub past : Past (n + m) ws₀ ws
+
+  pub sunk-start : (count : ℕ) (ws : List ℕ) → Kinds n m ws count → Heaped w n m q ws count → Sunk count ws ws 0
+  sunk-start count ws a h =
+      let same : (k : ℕ) → (k ≡ 0 → ⊥) → held ws 0 k ≡ standing ws k = λ k. set-else ws 0 e k in
+      record {
+        most = omega arith;
+        kinds = a;
+        left = sym (listed-picked w n m q (set ws 0 e) count);
+        sinking = record {
+          rest = λ i j x y u z. subst (λ (s : ℕ). Leads w n m q s (held ws 0 j)) (sym (same i z))
+              (subst (λ (s : ℕ). Leads w n m q (standing ws i) s) (sym (same j (λ t. omega arith))) (not-before w n m q (standing ws j) (standing ws i) (h .up i j x y u)));
+          over = λ i j x y s t u. absurd (omega arith);
+        };
+        past = past-same (n + m) ws;
+      }
+
+  module _ (count : ℕ) (ws₀ ws : List ℕ) (k : ℕ) (few : count < n + m) (long : n + m ≤ length ws₀) (x : Sunk count ws₀ ws k) where
+    pub sunk-fits : k < length ws
+    sunk-fits = omega (arith, x .most, x .past .long)
+
+    pub sunk-long : n + m ≤ length ws
+    sunk-long = omega (arith, x .past .long)
+
+    sunk-done : Heap w n m q (held ws k) count → (listed w n m q (set ws k e) count ≡ listed w n m q (set ws₀ 0 e) count) × Heaped w n m q (set ws k e) count × Past (n + m) ws₀ (set ws k e)
+    sunk-done h = (listed-picked w n m q (set ws k e) count ∙ x .left, heaped-of w n m q (set ws k e) count h, past-set (n + m) k e ws₀ ws (omega (arith, x .most)) (x .past))
+
+    pub sunk-end : count ≤ k + k + 1 → (listed w n m q (set ws k e) count ≡ listed w n m q (set ws₀ 0 e) count) × Heaped w n m q (set ws k e) count × Past (n + m) ws₀ (set ws k e)
+    sunk-end h = sunk-done (sinking-end w n m q (held ws k) count k h (x .sinking))
+
+    -- r is the lesser of the two below k
+    module _ (r : ℕ) (y : Lesser w n m q ws count (k + k + 1) r) where
+      at-k : held ws k k ≡ e
+      at-k = set-here ws k e sunk-fits
+
+      at-r : held ws k r ≡ getD ws r 0
+      at-r = set-else ws k e r (λ z. omega (arith, y .low))
+
+      least : Least w n m q (held ws k) count k r
+      unfolding Least
+      least j a b u =
+          subst (λ (s : ℕ). Leads w n m q s (held ws k j)) (sym at-r)
+          (subst (λ (s : ℕ). Leads w n m q (standing ws r) s) (sym (set-else ws k e j (λ z. omega arith))) (not-before w n m q (standing ws j) (standing ws r) (y .least j a (omega arith) u)))
+
+      pub sunk-kind : Kind n m (getD ws r 0)
+      sunk-kind = x .kinds .each r (y .few)
+
+      pub sunk-step : before w n m q e (getD ws r 0) ≡ false → Sunk count ws₀ (set ws k (getD ws r 0)) r
+      sunk-step t =
+          let f = getD ws r 0 in
+          let s = held-swap ws k r sunk-fits (omega (arith, y .few, sunk-long)) (λ z. omega (arith, y .low)) in
+          let lead : Leads w n m q (held ws k r) (held ws k k) = subst (λ (z : ℕ). Leads w n m q z (held ws k k)) (sym at-r) (subst (Leads w n m q f) (sym at-k) (not-before w n m q e f t)) in
+          record {
+            most = omega (arith, y .few);
+            kinds = kinds-set n m ws count k f sunk-fits sunk-kind (x .kinds);
+            left = picked-swap w n m q (held ws k) (held (set ws k f) r) count k r (omega (arith, y .low, y .few)) (y .few) (λ z. omega (arith, y .low)) s ∙ x .left;
+            sinking = sinking-step w n m q (held ws k) (held (set ws k f) r) count k r (y .few) (y .low) (omega (arith, y .high)) lead least s (x .sinking);
+            past = past-set (n + m) k f ws₀ ws (omega (arith, x .most)) (x .past);
+          }
+
+      pub sunk-stop : before w n m q e (getD ws r 0) ≡ true → (listed w n m q (set ws k e) count ≡ listed w n m q (set ws₀ 0 e) count) × Heaped w n m q (set ws k e) count × Past (n + m) ws₀ (set ws k e)
+      sunk-stop t =
+          let lead : Leads w n m q (held ws k k) (held ws k r) = subst (λ (z : ℕ). Leads w n m q z (held ws k r)) (sym at-k) (subst (Leads w n m q e) (sym at-r) (before-leads w n m q e (getD ws r 0) t)) in
+          sunk-done (sinking-stop w n m q (held ws k) count k r lead least (x .sinking))
 
 -- ---- what a node covers, put in one after the other
 
 module _ (w : List ℤ) (n m : ℕ) (q : Spot) (j : ℕ) where
   -- i of what node j covers are in
   pub record Filled (count first more : ℕ) (ws₀ ws : List ℕ) (i : ℕ) : Type 0 where
-    pub turn : Turn (λ k. insert w n m q (covered w n m j k)) first more (listed ws₀ count) (listed ws (count + i)) i
-    pub kinds : Each (Kind n m) (listed ws (count + i))
+    pub turn : Turn (λ k. insert w n m q (covered w n m j k)) first more (listed w n m q ws₀ count) (listed w n m q ws (count + i)) i
+    pub kinds : Each (Kind n m) (listed w n m q ws (count + i))
+    pub heap : Heaped w n m q ws (count + i)
     pub past : Past (n + m) ws₀ ws
 
-  pub filled-start : (count first more : ℕ) (ws : List ℕ) → Each (Kind n m) (listed ws count) → Filled count first more ws ws 0
-  filled-start count first more ws a =
+  pub filled-start : (count first more : ℕ) (ws : List ℕ) → Each (Kind n m) (listed w n m q ws count) → Heaped w n m q ws count → Filled count first more ws ws 0
+  filled-start count first more ws a h =
       let z : count + 0 ≡ count = omega arith in
-      record { turn = rw z (turn-start _ first more (listed ws count)); kinds = rw z a; past = past-same (n + m) ws }
+      record { turn = rw z (turn-start _ first more (listed w n m q ws count)); kinds = rw z a; heap = rw z h; past = past-same (n + m) ws }
 
   module _ (o : Opens w n m) (h : j < m) (count first more : ℕ) (ws₀ ws : List ℕ) (i : ℕ) (is-first : first ≡ firstOf w n j) (is-count : more ≡ countOf w n j) (x : Filled count first more ws₀ ws i) where
     pub filled-run : i < more → InRun w n j (first + i)
@@ -241,36 +378,38 @@ module _ (w : List ℤ) (n m : ℕ) (q : Spot) (j : ℕ) where
     pub filled-kind : i < more → (e : ℕ) → e ≡ covered w n m j (first + i) → Kind n m e
     filled-kind u e z = subst (Kind n m) (sym z) (covered-kind w n m o j (first + i) h (filled-run u))
 
-    pub filled-step : (ws′ : List ℕ) (e : ℕ) → i < more → e ≡ covered w n m j (first + i) → listed ws′ (count + i + 1) ≡ insert w n m q e (listed ws (count + i)) → Past (n + m) ws ws′ → Filled count first more ws₀ ws′ (i + 1)
-    filled-step ws′ e u z y p =
+    pub filled-step : (ws′ : List ℕ) (e : ℕ) → i < more → e ≡ covered w n m j (first + i) → listed w n m q ws′ (count + i + 1) ≡ insert w n m q e (listed w n m q ws (count + i)) → Heaped w n m q ws′ (count + i + 1) → Past (n + m) ws ws′ → Filled count first more ws₀ ws′ (i + 1)
+    filled-step ws′ e u z y g p =
         let v : count + i + 1 ≡ count + (i + 1) = omega arith in
-        let l : listed ws′ (count + (i + 1)) ≡ insert w n m q (covered w n m j (first + i)) (listed ws (count + i)) = ap (listed ws′) (sym v) ∙ y ∙ ap (λ (k : ℕ). insert w n m q k (listed ws (count + i))) z in
+        let l : listed w n m q ws′ (count + (i + 1)) ≡ insert w n m q (covered w n m j (first + i)) (listed w n m q ws (count + i)) = ap (listed w n m q ws′) (sym v) ∙ y ∙ ap (λ (k : ℕ). insert w n m q k (listed w n m q ws (count + i))) z in
         record {
-          turn = turn-step _ first more (listed ws₀ count) (listed ws (count + i)) (listed ws′ (count + (i + 1))) i u (x .turn) l;
-          kinds = subst (Each (Kind n m)) (sym l) (insert-each w n m q (covered w n m j (first + i)) (covered-kind w n m o j (first + i) h (filled-run u)) (listed ws (count + i)) (x .kinds));
+          turn = turn-step _ first more (listed w n m q ws₀ count) (listed w n m q ws (count + i)) (listed w n m q ws′ (count + (i + 1))) i u (x .turn) l;
+          kinds = subst (Each (Kind n m)) (sym l) (insert-each w n m q (covered w n m j (first + i)) (covered-kind w n m o j (first + i) h (filled-run u)) (listed w n m q ws (count + i)) (x .kinds));
+          heap = subst (Heaped w n m q ws′) v g;
           past = past-past (n + m) ws₀ ws ws′ (x .past) p;
         }
 
-    pub filled-end : more ≤ i → (listed ws (count + more) ≡ withCovered w n m q j (listed ws₀ count)) × (count + more ≡ count + countOf w n j) × Past (n + m) ws₀ ws
+    pub filled-end : more ≤ i → (listed w n m q ws (count + more) ≡ withCovered w n m q j (listed w n m q ws₀ count)) × Heaped w n m q ws (count + more) × (count + more ≡ count + countOf w n j) × Past (n + m) ws₀ ws
     unfolding withCovered
     filled-end u =
         let z : i ≡ more = omega (arith, x .turn .most) in
         let f : ℕ → List ℕ → List ℕ = λ k. insert w n m q (covered w n m j k) in (
-          ap (λ (k : ℕ). listed ws (count + k)) (sym z) ∙ turn-end f first more (listed ws₀ count) (listed ws (count + i)) i u (x .turn)
-              ∙ ap (λ (a : ℕ). inTurn f more a (listed ws₀ count)) is-first ∙ ap (λ (a : ℕ). inTurn f a (firstOf w n j) (listed ws₀ count)) is-count,
+          ap (λ (k : ℕ). listed w n m q ws (count + k)) (sym z) ∙ turn-end f first more (listed w n m q ws₀ count) (listed w n m q ws (count + i)) i u (x .turn)
+              ∙ ap (λ (a : ℕ). inTurn f more a (listed w n m q ws₀ count)) is-first ∙ ap (λ (a : ℕ). inTurn f a (firstOf w n j) (listed w n m q ws₀ count)) is-count,
+          subst (λ (k : ℕ). Heaped w n m q ws (count + k)) z (x .heap),
           omega arith,
           x .past,
         )
 
 -- ---- the root
 
-pub root-none : (m : ℕ) (ws : List ℕ) → m ≡ 0 → listed ws 0 ≡ rootWaits m
+pub root-none : (m : ℕ) (ws : List ℕ) → m ≡ 0 → Rooted m ws 0
 unfolding rootWaits listed
-root-none m ws z = rw z
+root-none m ws z = record { few = omega arith; is = λ w n q. rw z }
 
-pub root-some : (m : ℕ) (ws : List ℕ) → (m ≡ 0 → ⊥) → 0 < length ws → listed (set ws 0 m) 1 ≡ rootWaits m
-unfolding rootWaits listed
-root-some m ws z h = go (eqb m 0) refl
+pub root-some : (m : ℕ) (ws : List ℕ) → (m ≡ 0 → ⊥) → 0 < length ws → Rooted m (set ws 0 m) 1
+unfolding rootWaits listed insert
+root-some m ws z h = record { few = omega arith; is = λ w n q. go (eqb m 0) refl }
   where
     go : (t : Bool) → eqb m 0 ≡ t → (getD (set ws 0 m) 0 0 ∷ []) ≡ cond t [] (boxEntry (m - 1) ∷ [])
     go true e = absurd (z (eqb-true m 0 e))

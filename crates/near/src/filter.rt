@@ -46,8 +46,8 @@ pub fn near_kept(
     let mut count = crate::waiting::put_root(m, waiting);
     let mut opened: u64 = 0;
     while count > 0 {
+        let e = crate::waiting::take_out(w, n, m, q, waiting, count) as usize;
         count -= 1;
-        let e = waiting[count] as usize;
         if e < m + 1 {
             if is_shut(w, n, m, q, e - 1, bits) {
                 continue;

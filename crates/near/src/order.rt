@@ -31,8 +31,8 @@ pub fn first_points(
     let mut got: usize = 0;
     let mut count = crate::waiting::put_root(m, waiting);
     while (count > 0) & (got < size) {
+        let e = crate::waiting::take_out(w, n, m, q, waiting, count) as usize;
         count -= 1;
-        let e = waiting[count] as usize;
         if e < m + 1 {
             count = crate::waiting::put_covered(w, n, m, q, e - 1, waiting, count);
             continue;

@@ -1,6 +1,5 @@
 -- `near::filter::near_kept` meets its contract. The loop's invariant is `Sifting`: what is left to do of the walk. Assumes nothing.
 use mathlib.Core.Path.{_≡_, sym, _∙_}
-use Prim.Native.Nat.{_≤_}
 use native.Mathlib.Omega.{arith}
 use lib.ListN.{length}
 use Rattle.walk.proofs.FilterCode.{still-holds}
@@ -14,7 +13,7 @@ abbrev Inv-loop : tie.InvT-loop
 Inv-loop w n m q bits₀ waiting₀ count₀ opened₀ bits waiting count opened = Sifting w n m q bits₀ waiting₀ bits waiting count opened
 
 abbrev μ-loop : tie.MeasureT-loop
-μ-loop w n m q bits₀ waiting₀ count₀ opened₀ bits waiting count opened = load w n m waiting count
+μ-loop w n m q bits₀ waiting₀ count₀ opened₀ bits waiting count opened = load w n m q waiting count
 
 abbrev At : Type 0
 At = tie.At-loop Inv-loop μ-loop
@@ -32,9 +31,6 @@ same-bits l = l .loop .inv .long ∙ cleared l
 root-long : (l : At) → length (l .before .before .before .put-root .last .1 .0) ≡ length (start l .args .waiting .now)
 root-long l = l .before .before .before .put-root .ensures .1 .long
 
-fits : (l : At) → l .loop .count ≤ length (l .loop .waiting)
-fits l = let p = start l .pre in omega (arith, p .3, l .loop .inv .going .past .long, root-long l, going-fits _ _ _ _ _ _ _ (p .0) _ _ _ _ _ (l .loop .inv .going))
-
 clear-requires : tie.Need-clear-requires Inv-loop μ-loop
 clear-requires c κs = tt
 
@@ -47,99 +43,102 @@ loop-holds c =
     let k = c .before .before .before .before .before .before in
     sifting-start _ _ _ _ (c .before .before .before .before .before .before .before .before .before .before .pre .0) _ _ _ _ _ (k .clear .ensures) (k .clear .kept .0) (r .put-root .ensures .0) (r .put-root .ensures .1)
 
+take-out-requires : tie.Need-take-out-requires Inv-loop μ-loop
+take-out-requires c κs =
+    let l = c .before .before in
+    let p = start l .pre in
+    let g = l .loop .inv .going in
+    (p .0, p .1, g .kinds, g .heap, c .before .loop-test .taken, going-fits _ _ _ _ _ _ _ (p .0) _ _ _ _ _ g, omega (arith, p .3, g .past .long, root-long l))
+
 sub-count : tie.Need-sub-count Inv-loop μ-loop
-sub-count c = c .loop-test .taken
-
-mul-e : tie.Need-mul-e Inv-loop μ-loop
-mul-e c = omega (arith, fits (c .before))
-
-slice-read-e : tie.Need-slice-read-e Inv-loop μ-loop
-slice-read-e c = omega (arith, fits (c .before .before), c .before .loop-test .taken)
+sub-count c = c .before .before .before .before .loop-test .taken
 
 add-if1 : tie.Need-add-if1 Inv-loop μ-loop
-add-if1 c = omega (arith, start (c .before .before) .pre .0 .m-le)
+add-if1 c = omega (arith, start (c .before .before .before .before .before) .pre .0 .m-le)
 
 sub-is-shut : tie.Need-sub-is-shut Inv-loop μ-loop
 sub-is-shut c =
-    let l = c .before .before .before in
+    let l = c .before .before .before .before .before .before in
     let p = start l .pre in
-    going-node _ _ _ _ _ _ _ (p .0) _ _ _ _ _ (l .loop .inv .going) (c .before .before .loop-test .taken) (c .if1 .taken) .0
+    going-node _ _ _ _ _ _ _ (p .0) _ _ _ _ _ (l .loop .inv .going) _ _ (c .before .before .before .take-out .ensures) (c .if1 .taken) .0
 
 is-shut-requires : tie.Need-is-shut-requires Inv-loop μ-loop
 is-shut-requires c κs =
-    let l = c .before .before .before .before in
+    let l = c .before .before .before .before .before .before .before in
     let p = start l .pre in
-    (p .0, p .1, going-node _ _ _ _ _ _ _ (p .0) _ _ _ _ _ (l .loop .inv .going) (c .before .before .before .loop-test .taken) (c .before .if1 .taken) .1, still-holds _ _ _ (same-bits l) (p .2))
+    (p .0, p .1, going-node _ _ _ _ _ _ _ (p .0) _ _ _ _ _ (l .loop .inv .going) _ _ (c .before .before .before .before .take-out .ensures) (c .before .if1 .taken) .1, still-holds _ _ _ (same-bits l) (p .2))
 
 loop-less : tie.Need-loop-less Inv-loop μ-loop
 loop-less c =
-    let l = c .before .before .before .before .before .before in
-    sifting-less _ _ _ _ (start l .pre .0) _ _ _ _ _ _ (l .loop .inv) (c .before .before .before .before .before .loop-test .taken)
+    let l = c .before .before .before .before .before .before .before .before .before in
+    sifting-less _ _ _ _ (start l .pre .0) _ _ _ _ _ _ (l .loop .inv) _ _ (c .before .before .before .before .before .before .take-out .ensures)
 
 loop-again : tie.Need-loop-again Inv-loop μ-loop
 loop-again c =
-    let l = c .before .before .before .before .before .before in
-    sifting-skip _ _ _ _ (start l .pre .0) _ _ _ _ _ _ (l .loop .inv) (c .before .before .before .before .before .loop-test .taken) (c .before .before .before .if1 .taken) (sym (c .before .is-shut .ensures) ∙ c .if2 .taken)
+    let l = c .before .before .before .before .before .before .before .before .before in
+    sifting-skip _ _ _ _ (start l .pre .0) _ _ _ _ _ _ (l .loop .inv) _ _ (c .before .before .before .before .before .before .take-out .ensures) (c .before .before .before .if1 .taken) (sym (c .before .is-shut .ensures) ∙ c .if2 .taken)
 
 add-opened : tie.Need-add-opened Inv-loop μ-loop
 add-opened c =
-    let l = c .before .before .before .before .before .before in
+    let l = c .before .before .before .before .before .before .before .before .before in
     let p = start l .pre in
     omega (arith, l .loop .inv .count, p .0 .n-le, p .0 .m-le)
 
 sub-put-covered : tie.Need-sub-put-covered Inv-loop μ-loop
 sub-put-covered c =
-    let l = c .before .before .before .before .before .before in
+    let l = c .before .before .before .before .before .before .before .before .before in
     let p = start l .pre in
-    going-node _ _ _ _ _ _ _ (p .0) _ _ _ _ _ (l .loop .inv .going) (c .before .before .before .before .before .loop-test .taken) (c .before .before .before .if1 .taken) .0
+    going-node _ _ _ _ _ _ _ (p .0) _ _ _ _ _ (l .loop .inv .going) _ _ (c .before .before .before .before .before .before .take-out .ensures) (c .before .before .before .if1 .taken) .0
 
 put-covered-requires : tie.Need-put-covered-requires Inv-loop μ-loop
 put-covered-requires c κs =
-    let l = c .before .before .before .before .before .before .before in
+    let l = c .before .before .before .before .before .before .before .before .before .before in
     let p = start l .pre in
-    let h = c .before .before .before .before .before .before .loop-test .taken in
+    let t = c .before .before .before .before .before .before .before .take-out .ensures in
     let u = c .before .before .before .before .if1 .taken in (
       p .0,
       p .1,
-      going-node _ _ _ _ _ _ _ (p .0) _ _ _ _ _ (l .loop .inv .going) h u .1,
-      going-rest _ _ _ _ _ _ _ (p .0) _ _ _ _ _ (l .loop .inv .going) h,
-      going-room _ _ _ _ _ _ _ (p .0) _ _ _ _ _ (l .loop .inv .going) h u,
-      omega (arith, p .3, l .loop .inv .going .past .long, root-long l),
+      going-node _ _ _ _ _ _ _ (p .0) _ _ _ _ _ (l .loop .inv .going) _ _ t u .1,
+      going-rest _ _ _ _ _ _ _ (p .0) _ _ _ _ _ (l .loop .inv .going) _ _ t,
+      t .heap,
+      going-room _ _ _ _ _ _ _ (p .0) _ _ _ _ _ (l .loop .inv .going) _ _ t u,
+      omega (arith, p .3, l .loop .inv .going .past .long, root-long l, t .past .long),
     )
 
 loop-less-2 : tie.Need-loop-less-2 Inv-loop μ-loop
 loop-less-2 c =
-    let l = c .before .before .before .before .before .before .before .before .before .before in
-    sifting-under _ _ _ _ (start l .pre .0) _ _ _ _ _ _ (l .loop .inv) (c .before .before .before .before .before .before .before .before .before .loop-test .taken) (c .before .before .before .before .before .before .before .if1 .taken) _ _ (c .before .before .put-covered .ensures .0)
+    let l = c .before .before .before .before .before .before .before .before .before .before .before .before .before in
+    sifting-under _ _ _ _ (start l .pre .0) _ _ _ _ _ _ (l .loop .inv) _ _ (c .before .before .before .before .before .before .before .before .before .before .take-out .ensures) (c .before .before .before .before .before .before .before .if1 .taken) _ _ (c .before .before .put-covered .ensures .0)
 
 loop-again-2 : tie.Need-loop-again-2 Inv-loop μ-loop
 loop-again-2 c =
-    let l = c .before .before .before .before .before .before .before .before .before .before in
+    let l = c .before .before .before .before .before .before .before .before .before .before .before .before .before in
     let e = c .before .before .before .before in
-    sifting-open _ _ _ _ (start l .pre .0) _ _ _ _ _ _ (l .loop .inv) (c .before .before .before .before .before .before .before .before .before .loop-test .taken) (c .before .before .before .before .before .before .before .if1 .taken) _ _ (c .before .before .put-covered .ensures .0) (sym (e .before .is-shut .ensures) ∙ e .if2 .left) (c .before .before .put-covered .ensures .2)
+    let y = c .before .before .put-covered .ensures in
+    sifting-open _ _ _ _ (start l .pre .0) _ _ _ _ _ _ (l .loop .inv) _ _ (c .before .before .before .before .before .before .before .before .before .before .take-out .ensures) (c .before .before .before .before .before .before .before .if1 .taken) _ _ (y .0) (sym (e .before .is-shut .ensures) ∙ e .if2 .left) (y .1) (y .3)
 
 add-consider-at : tie.Need-add-consider-at Inv-loop μ-loop
-add-consider-at c = omega (arith, start (c .before .before .before) .pre .0 .m-le)
+add-consider-at c = omega (arith, start (c .before .before .before .before .before .before) .pre .0 .m-le)
 
 sub-consider-at : tie.Need-sub-consider-at Inv-loop μ-loop
 sub-consider-at c = c .if1 .left
 
 consider-at-requires : tie.Need-consider-at-requires Inv-loop μ-loop
 consider-at-requires c κs =
-    let l = c .before .before .before .before in
+    let l = c .before .before .before .before .before .before .before in
     let p = start l .pre in
-    (p .0, p .1, kind-point (going-kind _ _ _ _ _ _ _ (p .0) _ _ _ _ _ (l .loop .inv .going) (c .before .before .before .loop-test .taken)) (c .before .if1 .left), still-holds _ _ _ (same-bits l) (p .2))
+    (p .0, p .1, kind-point (going-kind _ _ _ _ _ _ _ (p .0) _ _ _ _ _ (l .loop .inv .going) _ _ (c .before .before .before .before .take-out .ensures)) (c .before .if1 .left), still-holds _ _ _ (same-bits l) (p .2))
 
 loop-less-3 : tie.Need-loop-less-3 Inv-loop μ-loop
 loop-less-3 c =
-    let l = c .before .before .before .before .before .before .before in
-    sifting-less _ _ _ _ (start l .pre .0) _ _ _ _ _ _ (l .loop .inv) (c .before .before .before .before .before .before .loop-test .taken)
+    let l = c .before .before .before .before .before .before .before .before .before .before in
+    sifting-less _ _ _ _ (start l .pre .0) _ _ _ _ _ _ (l .loop .inv) _ _ (c .before .before .before .before .before .before .before .take-out .ensures)
 
 loop-again-3 : tie.Need-loop-again-3 Inv-loop μ-loop
 loop-again-3 c =
-    let l = c .before .before .before .before .before .before .before in
+    let l = c .before .before .before .before .before .before .before .before .before .before in
     let t = c .before .before in
-    sifting-meet _ _ _ _ (start l .pre .0) _ _ _ _ _ _ (l .loop .inv) (c .before .before .before .before .before .before .loop-test .taken) (c .before .before .before .before .if1 .left) _ (t .consider-at .kept .1 .1 .1 .1 .1 .0) (t .consider-at .ensures)
+    sifting-meet _ _ _ _ (start l .pre .0) _ _ _ _ _ _ (l .loop .inv) _ _ (c .before .before .before .before .before .before .before .take-out .ensures) (c .before .before .before .before .if1 .left) _ (t .consider-at .kept .1 .1 .1 .1 .1 .0) (t .consider-at .ensures)
 
 add-wipe : tie.Need-add-wipe Inv-loop μ-loop
 add-wipe c = let p = start (c .before .before) .pre in omega (arith, p .0 .n-le, p .0 .m-le)
@@ -169,9 +168,8 @@ near-kept-spec =
     clear-requires
     put-root-requires
     loop-holds
+    take-out-requires
     sub-count
-    mul-e
-    slice-read-e
     add-if1
     sub-is-shut
     is-shut-requires

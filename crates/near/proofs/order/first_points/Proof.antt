@@ -16,7 +16,7 @@ abbrev Inv-loop : tie.InvT-loop
 Inv-loop w n m q size waiting₀ at₀ got₀ count₀ waiting at got count = Giving w n m q waiting₀ waiting count at got × (got ≤ size)
 
 abbrev μ-loop : tie.MeasureT-loop
-μ-loop w n m q size waiting₀ at₀ got₀ count₀ waiting at got count = load w n m waiting count
+μ-loop w n m q size waiting₀ at₀ got₀ count₀ waiting at got count = load w n m q waiting count
 
 abbrev At : Type 0
 At = tie.At-loop Inv-loop μ-loop
@@ -27,9 +27,6 @@ start l = l .before .before .before .before .before .before
 -- as many numbers as were lent
 root-long : (l : At) → length (l .before .before .before .put-root .last .1 .0) ≡ length (start l .args .waiting .now)
 root-long l = l .before .before .before .put-root .ensures .1 .long
-
-fits : (l : At) → l .loop .count ≤ length (l .loop .waiting)
-fits l = let p = start l .pre in omega (arith, p .3, l .loop .inv .0 .going .past .long, root-long l, going-fits _ _ _ _ _ _ _ (p .0) _ _ _ _ _ (l .loop .inv .0 .going))
 
 -- something waits, and more are wanted
 waits : (c : tie.In-loop Inv-loop μ-loop) → 0 < c .before .loop .count
@@ -46,72 +43,75 @@ loop-holds c =
     let r = c .before .before in
     (giving-start _ _ _ _ (c .before .before .before .before .before .pre .0) _ _ _ (r .put-root .ensures .0) (r .put-root .ensures .1), omega arith)
 
+take-out-requires : tie.Need-take-out-requires Inv-loop μ-loop
+take-out-requires c κs =
+    let l = c .before .before in
+    let p = start l .pre in
+    let g = l .loop .inv .0 .going in
+    (p .0, p .1, g .kinds, g .heap, waits (c .before), going-fits _ _ _ _ _ _ _ (p .0) _ _ _ _ _ g, omega (arith, p .3, g .past .long, root-long l))
+
 sub-count : tie.Need-sub-count Inv-loop μ-loop
-sub-count c = waits c
-
-mul-e : tie.Need-mul-e Inv-loop μ-loop
-mul-e c = omega (arith, fits (c .before))
-
-slice-read-e : tie.Need-slice-read-e Inv-loop μ-loop
-slice-read-e c = omega (arith, fits (c .before .before), waits (c .before))
+sub-count c = waits (c .before .before .before .before)
 
 add-if1 : tie.Need-add-if1 Inv-loop μ-loop
-add-if1 c = omega (arith, start (c .before .before) .pre .0 .m-le)
+add-if1 c = omega (arith, start (c .before .before .before .before .before) .pre .0 .m-le)
 
 sub-put-covered : tie.Need-sub-put-covered Inv-loop μ-loop
 sub-put-covered c =
-    let l = c .before .before .before in
+    let l = c .before .before .before .before .before .before in
     let p = start l .pre in
-    going-node _ _ _ _ _ _ _ (p .0) _ _ _ _ _ (l .loop .inv .0 .going) (waits (c .before .before)) (c .if1 .taken) .0
+    going-node _ _ _ _ _ _ _ (p .0) _ _ _ _ _ (l .loop .inv .0 .going) _ _ (c .before .before .before .take-out .ensures) (c .if1 .taken) .0
 
 put-covered-requires : tie.Need-put-covered-requires Inv-loop μ-loop
 put-covered-requires c κs =
-    let l = c .before .before .before .before in
+    let l = c .before .before .before .before .before .before .before in
     let p = start l .pre in
-    let h = waits (c .before .before .before) in
+    let t = c .before .before .before .before .take-out .ensures in
     let u = c .before .if1 .taken in (
       p .0,
       p .1,
-      going-node _ _ _ _ _ _ _ (p .0) _ _ _ _ _ (l .loop .inv .0 .going) h u .1,
-      going-rest _ _ _ _ _ _ _ (p .0) _ _ _ _ _ (l .loop .inv .0 .going) h,
-      going-room _ _ _ _ _ _ _ (p .0) _ _ _ _ _ (l .loop .inv .0 .going) h u,
-      omega (arith, p .3, l .loop .inv .0 .going .past .long, root-long l),
+      going-node _ _ _ _ _ _ _ (p .0) _ _ _ _ _ (l .loop .inv .0 .going) _ _ t u .1,
+      going-rest _ _ _ _ _ _ _ (p .0) _ _ _ _ _ (l .loop .inv .0 .going) _ _ t,
+      t .heap,
+      going-room _ _ _ _ _ _ _ (p .0) _ _ _ _ _ (l .loop .inv .0 .going) _ _ t u,
+      omega (arith, p .3, l .loop .inv .0 .going .past .long, root-long l, t .past .long),
     )
 
 loop-less : tie.Need-loop-less Inv-loop μ-loop
 loop-less c =
-    let l = c .before .before .before .before .before .before .before in
-    giving-under _ _ _ _ (start l .pre .0) _ _ _ _ _ (l .loop .inv .0) (waits (c .before .before .before .before .before .before)) (c .before .before .before .before .if1 .taken) _ _ (c .before .before .put-covered .ensures .0)
+    let l = c .before .before .before .before .before .before .before .before .before .before in
+    giving-under _ _ _ _ (start l .pre .0) _ _ _ _ _ (l .loop .inv .0) _ _ (c .before .before .before .before .before .before .before .take-out .ensures) (c .before .before .before .before .if1 .taken) _ _ (c .before .before .put-covered .ensures .0)
 
 loop-again : tie.Need-loop-again Inv-loop μ-loop
 loop-again c =
-    let l = c .before .before .before .before .before .before .before in (
-      giving-open _ _ _ _ (start l .pre .0) _ _ _ _ _ (l .loop .inv .0) (waits (c .before .before .before .before .before .before)) (c .before .before .before .before .if1 .taken) _ _ (c .before .before .put-covered .ensures .0) (c .before .before .put-covered .ensures .2),
-      l .loop .inv .1,
-    )
+    let l = c .before .before .before .before .before .before .before .before .before .before in
+    let y = c .before .before .put-covered .ensures in
+    (giving-open _ _ _ _ (start l .pre .0) _ _ _ _ _ (l .loop .inv .0) _ _ (c .before .before .before .before .before .before .before .take-out .ensures) (c .before .before .before .before .if1 .taken) _ _ (y .0) (y .1) (y .3), l .loop .inv .1)
 
 add-at : tie.Need-add-at Inv-loop μ-loop
-add-at c = omega (arith, start (c .before .before .before) .pre .0 .m-le)
+add-at c = omega (arith, start (c .before .before .before .before .before .before) .pre .0 .m-le)
 
 sub-at : tie.Need-sub-at Inv-loop μ-loop
 sub-at c = c .if1 .left
 
 mul-at : tie.Need-mul-at Inv-loop μ-loop
-mul-at c = omega (arith, wanted (c .before .before), start (c .before .before .before) .pre .2)
+mul-at c = omega (arith, wanted (c .before .before .before .before .before), start (c .before .before .before .before .before .before) .pre .2)
 
 array-write-at : tie.Need-array-write-at Inv-loop μ-loop
-array-write-at c = omega (arith, wanted (c .before .before), start (c .before .before .before) .pre .2)
+array-write-at c = omega (arith, wanted (c .before .before .before .before .before), start (c .before .before .before .before .before .before) .pre .2)
 
 add-got : tie.Need-add-got Inv-loop μ-loop
-add-got c = omega (arith, wanted (c .before .before), start (c .before .before .before) .pre .2)
+add-got c = omega (arith, wanted (c .before .before .before .before .before), start (c .before .before .before .before .before .before) .pre .2)
 
 loop-less-2 : tie.Need-loop-less-2 Inv-loop μ-loop
-loop-less-2 c = let l = c .before .before .before in giving-less _ _ _ _ (start l .pre .0) _ _ _ _ _ (l .loop .inv .0) (waits (c .before .before))
+loop-less-2 c =
+    let l = c .before .before .before .before .before .before in
+    giving-less _ _ _ _ (start l .pre .0) _ _ _ _ _ (l .loop .inv .0) _ _ (c .before .before .before .take-out .ensures)
 
 loop-again-2 : tie.Need-loop-again-2 Inv-loop μ-loop
 loop-again-2 c =
-    let l = c .before .before .before in
-    (giving-meet _ _ _ _ (start l .pre .0) _ _ _ _ _ (l .loop .inv .0) (waits (c .before .before)) (omega (arith, wanted (c .before .before), start l .pre .2)) (c .if1 .left), omega (arith, wanted (c .before .before)))
+    let l = c .before .before .before .before .before .before in
+    (giving-meet _ _ _ _ (start l .pre .0) _ _ _ _ _ (l .loop .inv .0) _ _ (c .before .before .before .take-out .ensures) (omega (arith, wanted (c .before .before .before .before .before), start l .pre .2)) (c .if1 .left), omega (arith, wanted (c .before .before .before .before .before)))
 
 add-wipe : tie.Need-add-wipe Inv-loop μ-loop
 add-wipe c = let p = start (c .before .before) .pre in omega (arith, p .0 .n-le, p .0 .m-le)
@@ -136,9 +136,8 @@ first-points-spec =
     μ-loop
     put-root-requires
     loop-holds
+    take-out-requires
     sub-count
-    mul-e
-    slice-read-e
     add-if1
     sub-put-covered
     put-covered-requires
