@@ -1,6 +1,6 @@
 -- What the first k of a list in an order are, from the definitions alone.
 --     first-long      as many as k, or as the list has
---     first-only      of the list
+--     ranked-only      of the list
 --     first-rises     in order: each stands before all that are listed behind it, so that none is there twice
 --     first-ahead     and before each of the list that is not among them
 -- Assumes nothing.
@@ -13,7 +13,7 @@ use native.Mathlib.Omega.{arith}
 use lib.ListN.{length, take, drop, getD, length-take, take-append-drop}
 use Rattle.integers.proofs.Bools.{clash}
 use Rattle.ranked.specs.Ranking.{putBy, sortedBy, firstBy, Apart, Sorted, Order}
-use Rattle.ranked.proofs.RankingLaws.{put-long, put-only, put-has, put-sorted, take-member, drop-member}
+use Rattle.ranked.proofs.RankingLaws.{ranked-put-long, put-only, put-has, put-sorted, take-member, drop-member}
 
 module _ {A : Type 0} (before : A → A → Bool) where
   sorted-only : (v : A) (l : List A) → List·Memᴰ v (sortedBy before l) → List·Memᴰ v l
@@ -29,7 +29,7 @@ module _ {A : Type 0} (before : A → A → Bool) where
   sorted-long : (l : List A) → length (sortedBy before l) ≡ length l
   unfolding sortedBy
   sorted-long [] = refl
-  sorted-long (v ∷ l) = put-long before v (sortedBy before l) ∙ ap suc (sorted-long l)
+  sorted-long (v ∷ l) = ranked-put-long before v (sortedBy before l) ∙ ap suc (sorted-long l)
 
   -- any two of a list that the order tells apart
   pub two-apart : (l : List A) → Apart before l → (v w : A) → List·Memᴰ v l → List·Memᴰ w l → (v ≡ w) ⊎ ((before v w ≡ true) ⊎ (before w v ≡ true))
@@ -85,9 +85,9 @@ module _ {A : Type 0} (before : A → A → Bool) where
     unfolding firstBy
     first-long = length-take k (sortedBy before l) ∙ ap (min k) (sorted-long l)
 
-    pub first-only : (v : A) → List·Memᴰ v (firstBy before k l) → List·Memᴰ v l
+    pub ranked-only : (v : A) → List·Memᴰ v (firstBy before k l) → List·Memᴰ v l
     unfolding firstBy
-    first-only v m = sorted-only v l (take-member before k v (sortedBy before l) m)
+    ranked-only v m = sorted-only v l (take-member before k v (sortedBy before l) m)
 
   module _ (o : Order before) where
     put-rises : (v : A) (l : List A) → ((w : A) → List·Memᴰ w l → (before v w ≡ true) ⊎ (before w v ≡ true)) → Rises l → Rises (putBy before v l)

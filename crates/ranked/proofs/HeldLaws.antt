@@ -1,6 +1,6 @@
 -- Those held, in an array of sixteen: one put in its place among the first n, from the n-th place down, where those that it stands before move up by one.
 -- B is the array before, A as it stands at place i.
---     ranked-start, ranked-on, ranked-stop, ranked-end     what is left to do, before the loop, after a turn, and where it is stored
+--     shift-start, shift-on, shift-stop, shift-end     what is left to do, before the loop, after a turn, and where it is stored
 --     held-put, held-over, held-same     those held after one more is offered
 -- Assumes nothing.
 use mathlib.Core.Path.{_≡_, refl, sym, ap, subst, _∙_}
@@ -13,7 +13,7 @@ use native.Mathlib.Nat.{eq-or-lt-of-le}
 use lib.ListN.{length, take, drop, set, getD, replicate, length-set, length-take, drop-of-length-le, List·getD-append}
 use lib.Seq.{length-take-le, take-suc, drop-cons, take-take, take-append-le, take-append-seam, drop-append-le, drop-append-add, set-split, getD-set-same, take-set-le, drop-set-lt, getD-take, append-snoc}
 use Rattle.ranked.specs.Ranking.{putBy, sixteen, Sorted, Held, Order}
-use Rattle.ranked.proofs.RankingLaws.{put-long, put-none, put-before, put-last, take-sorted, sorted-last, ranked-keeps, ranked-enters, ranked-stays}
+use Rattle.ranked.proofs.RankingLaws.{ranked-put-long, put-none, put-before, put-last, take-sorted, sorted-last, ranked-keeps, ranked-enters, ranked-stays}
 
 module _ {A : Type 0} (before : A → A → Bool) (z : A) where
   pub record Shifted (v : A) (B : List A) (n : ℕ) (C : List A) (i : ℕ) : Type 0 where
@@ -23,8 +23,8 @@ module _ {A : Type 0} (before : A → A → Bool) (z : A) where
     pub left : putBy before v (take n B) ++ drop (suc n) B ≡ putBy before v (take i B) ++ drop (suc i) C
 
   module _ (v : A) (B : List A) (n : ℕ) where
-    pub ranked-start : Shifted v B n B n
-    ranked-start = record { upto = omega arith; long = refl; same = refl; left = refl }
+    pub shift-start : Shifted v B n B n
+    shift-start = record { upto = omega arith; long = refl; same = refl; left = refl }
 
     module _ (C : List A) (i j : ℕ) (above : i ≡ suc j) (m : Shifted v B n C i) (w : A) (is : w ≡ getD C j z) (inside : i < length B) where
       in-c : i < length C
@@ -38,8 +38,8 @@ module _ {A : Type 0} (before : A → A → Bool) (z : A) where
       cut = ap (λ (k : ℕ). take k B) above ∙ take-suc B j z (omega arith) ∙ ap (λ (x : A). take j B ++ (x ∷ [])) (sym below)
 
       -- one that it stands before moves up
-      pub ranked-on : before v w ≡ true → Shifted v B n (set C i w) j
-      ranked-on e =
+      pub shift-on : before v w ≡ true → Shifted v B n (set C i w) j
+      shift-on e =
           let stays : take j C ≡ take j B = sym (take-take j i C (omega arith)) ∙ ap (take j) (m .same) ∙ take-take j i B (omega arith) in
           let up : w ∷ drop (suc i) C ≡ drop (suc j) (set C i w) =
           sym (ap (λ (k : ℕ). drop k (set C i w)) (sym above)
@@ -58,8 +58,8 @@ module _ {A : Type 0} (before : A → A → Bool) (z : A) where
           }
 
       -- it is stored after the first that it does not stand before
-      pub ranked-stop : Order before → Sorted before (take n B) → before v w ≡ false → set C i v ≡ putBy before v (take n B) ++ drop (suc n) B
-      ranked-stop o s e =
+      pub shift-stop : Order before → Sorted before (take n B) → before v w ≡ false → set C i v ≡ putBy before v (take n B) ++ drop (suc n) B
+      shift-stop o s e =
           let part : Sorted before (take j B ++ (w ∷ [])) = subst (Sorted before) (take-take i n B (m .upto) ∙ cut) (take-sorted before i (take n B) s) in
           let last = sorted-last before o v w (take j B) part e in
           set-split C i v in-c
@@ -69,8 +69,8 @@ module _ {A : Type 0} (before : A → A → Bool) (z : A) where
           ∙ sym (m .left)
 
     -- or ahead of all
-    pub ranked-end : (C : List A) (i : ℕ) → i ≡ 0 → Shifted v B n C i → 0 < length B → set C 0 v ≡ putBy before v (take n B) ++ drop (suc n) B
-    ranked-end C i e m h =
+    pub shift-end : (C : List A) (i : ℕ) → i ≡ 0 → Shifted v B n C i → 0 < length B → set C 0 v ≡ putBy before v (take n B) ++ drop (suc n) B
+    shift-end C i e m h =
         set-split C 0 v (omega (arith, m .long))
         ∙ ap (λ (t : List A). t ++ drop 1 C) (sym (put-none before v))
         ∙ ap (λ (k : ℕ). putBy before v (take k B) ++ drop (suc k) C) (sym e)
@@ -97,7 +97,7 @@ module _ {A : Type 0} (before : A → A → Bool) (z : A) where
   unfolding sixteen
   put-sixteen v n s h g f =
       let rest = replicate (16 - length s) z in
-      let long : length (putBy before v (take n s)) ≡ suc n = put-long before v (take n s) ∙ ap suc (length-take-le n s h) in
+      let long : length (putBy before v (take n s)) ≡ suc n = ranked-put-long before v (take n s) ∙ ap suc (length-take-le n s h) in
       ap (λ (t : List A). putBy before v t ++ drop (suc n) (s ++ rest)) (take-append-le n s rest h)
       ∙ ap (λ (t : List A). putBy before v (take n s) ++ t) (unused n s h g f)
       ∙ ap (λ (k : ℕ). putBy before v (take n s) ++ replicate (16 - k) z) (sym long)
@@ -135,7 +135,7 @@ module _ {A : Type 0} (before : A → A → Bool) (z : A) where
     held-put f rows′ e =
         let all : take k (putBy before v held) ≡ putBy before v (take (length held) held) = ranked-keeps before k v held (omega (arith, h .long)) in
         let n : take count held ≡ take (length held) held = ap (λ (x : ℕ). take x held) (sym (h .long)) in
-        (put-among count (omega arith) (omega arith) f rows′ e ∙ ap (λ (t : List A). sixteen z (putBy before v t)) n ∙ ap (sixteen z) (sym all), omega (arith, length-take k (putBy before v held), put-long before v held, h .long))
+        (put-among count (omega arith) (omega arith) f rows′ e ∙ ap (λ (t : List A). sixteen z (putBy before v t)) n ∙ ap (sixteen z) (sym all), omega (arith, length-take k (putBy before v held), ranked-put-long before v held, h .long))
 
     module _ (full : k ≤ count) where
       as-many : length held ≡ suc (k - 1)
@@ -145,14 +145,14 @@ module _ {A : Type 0} (before : A → A → Bool) (z : A) where
       last-is = ap (λ (t : List A). getD t (k - 1) z) (h .whole) ∙ at-sixteen held (k - 1) (omega (arith, as-many))
 
       -- the last of k is held
-      pub last-held : getD rows (k - 1) z ≡ getD held (k - 1) z
-      last-held = last-is
+      pub ranked-last : getD rows (k - 1) z ≡ getD held (k - 1) z
+      ranked-last = last-is
 
       -- k are held, and it stands before the last
       pub held-over : before v (getD rows (k - 1) z) ≡ true → (rows′ : List A) → rows′ ≡ putBy before v (take (k - 1) rows) ++ drop (suc (k - 1)) rows → (rows′ ≡ sixteen z (take k (putBy before v held))) × (k ≡ length (take k (putBy before v held)))
       held-over e rows′ f =
           let over = ranked-enters before k v held z (k - 1) as-many (omega arith) (ap (before v) (sym last-is) ∙ e) in
-          (put-among (k - 1) (omega arith) (omega (arith, h .few)) (omega arith) rows′ f ∙ ap (sixteen z) (sym over), omega (arith, length-take k (putBy before v held), put-long before v held, h .long))
+          (put-among (k - 1) (omega arith) (omega (arith, h .few)) (omega arith) rows′ f ∙ ap (sixteen z) (sym over), omega (arith, length-take k (putBy before v held), ranked-put-long before v held, h .long))
 
       -- k are held, and it does not
       pub held-same : Order before → before v (getD rows (k - 1) z) ≡ false → take k (putBy before v held) ≡ held

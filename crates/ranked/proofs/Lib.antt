@@ -5,6 +5,8 @@
 --     RanksLaws      the ranks of chambers one after the other, and the k busiest of them
 --     AskedLaws      the calls' numbers
 --     BusyLaws       what the code counts is what the list has; the ends of a pair change places
+--     ScoresLaws     the test of scores, and the greatest
+--     VisitsLaws     the visits of chambers one after the other, and the k most urgent of them
 --     FirstMeaning   what the first k of a list in an order are
 pub mod RankingLaws
 pub mod HeldLaws
@@ -12,4 +14,6 @@ pub mod LexLaws
 pub mod RanksLaws
 pub mod AskedLaws
 pub mod BusyLaws
+pub mod ScoresLaws
+pub mod VisitsLaws
 pub mod FirstMeaning

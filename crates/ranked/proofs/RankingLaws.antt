@@ -28,10 +28,10 @@ module _ {A : Type 0} (before : A → A → Bool) where
   unfolding putBy
   on v w l e = rw e
 
-  pub put-long : (v : A) (l : List A) → length (putBy before v l) ≡ suc (length l)
+  pub ranked-put-long : (v : A) (l : List A) → length (putBy before v l) ≡ suc (length l)
   unfolding putBy
-  put-long v [] = refl
-  put-long v (w ∷ l) = ⊎-elim (λ (e : before v w ≡ true). rw e) (λ (e : before v w ≡ false). rw e (ap suc (put-long v l))) (decide (before v w))
+  ranked-put-long v [] = refl
+  ranked-put-long v (w ∷ l) = ⊎-elim (λ (e : before v w ≡ true). rw e) (λ (e : before v w ≡ false). rw e (ap suc (ranked-put-long v l))) (decide (before v w))
 
   cons-take : (k : ℕ) (x : A) (l : List A) → take k (x ∷ l) ≡ take k (x ∷ take k l)
   cons-take zero x l = refl
@@ -241,7 +241,7 @@ module _ {A : Type 0} (before : A → A → Bool) where
 
   module _ (k : ℕ) (v : A) (s : List A) where
     pub ranked-keeps : length s < k → take k (putBy before v s) ≡ putBy before v (take (length s) s)
-    ranked-keeps h = take-all k (putBy before v s) (omega (arith, put-long v s)) ∙ ap (putBy before v) (sym (take-length s))
+    ranked-keeps h = take-all k (putBy before v s) (omega (arith, ranked-put-long v s)) ∙ ap (putBy before v) (sym (take-length s))
 
     module _ (d : A) (m : ℕ) (full : length s ≡ suc m) (least : k ≡ suc m) where
       pub ranked-enters : before v (getD s m d) ≡ true → take k (putBy before v s) ≡ putBy before v (take m s)

@@ -40,7 +40,7 @@ use Rattle.ranked.specs.Ranking.{putBy, firstBy, gathered, Sorted, Apart
 use Rattle.ranked.specs.Busiest.{busier, Busier, noRank, ranksFrom, busyGiven}
 use Rattle.ranked.specs.Ranks.{ranksOf, heldRanks, HeldRanks, rankPut, Below, Idle, rowRank}
 use Rattle.ranked.proofs.RankingLaws.{gathered-first, gathered-two, gathered-short, gathered-sorted, gathered-only}
-use Rattle.ranked.proofs.HeldLaws.{of-sixteen, held-of, held-put, held-over, held-same, last-held, put-asks}
+use Rattle.ranked.proofs.HeldLaws.{of-sixteen, held-of, held-put, held-over, held-same, ranked-last, put-asks}
 use Rattle.ranked.proofs.LexLaws.{or-first, or-second, or-and, and-none, less-order, more-order, more-total, above, number-order, lex-order}
 
 -- ---- the order
@@ -267,7 +267,7 @@ module _ (has : ℕ → Bool) (rank : ℕ → Rank) (k : ℕ) (j : ℕ) (g : Ran
     chamber-idle some most below t idle f =
         let full = idle .full f in
         let last = getD (g .rows) (k - 1) noRank in
-        let is : last ≡ getD (heldRanks g) (k - 1) noRank = last-held busier noRank k some most (g .rows) (g .count) h (rank j) full in
+        let is : last ≡ getD (heldRanks g) (k - 1) noRank = ranked-last busier noRank k some most (g .rows) (g .count) h (rank j) full in
         let there : List·Memᴰ (getD (heldRanks g) (k - 1) noRank) (heldRanks g) = member-at noRank (heldRanks g) (k - 1) (omega (arith, h .long)) in
         let id : getD (heldRanks g) (k - 1) noRank .id < rank j .id = below .below _ there in
         let later : last .id ≤ rank j .id = omega (arith, ap (λ (x : Rank). x .id) is) in
@@ -308,8 +308,8 @@ module _ (has : ℕ → Bool) (rank : ℕ → Rank) (k n : ℕ) where
         }
 
     module _ (g : Ranks) (j : ℕ) (s : Going g j) (h : j < n) where
-      pub rank-below : Below (rank j .id) (heldRanks g)
-      rank-below = record { below = λ v m. let z = s .passed v m in rw (z .2) (rises (z .0) j (z .1) h) }
+      pub ranks-below : Below (rank j .id) (heldRanks g)
+      ranks-below = record { below = λ v m. let z = s .passed v m in rw (z .2) (rises (z .0) j (z .1) h) }
 
       pub rank-turn : (r : Ranks) → r ≡ ranksOf (gathered busier k (ranksFrom has rank 1 j) (heldRanks g)) → Going r (j + 1)
       rank-turn r e =

@@ -8,7 +8,7 @@ use Rattle.list.specs.Contractor.{mine}
 use Rattle.walk.proofs.FilterCode.{still-holds}
 use Rattle.ranked.specs.Ranking.{sixteen}
 use Rattle.ranked.specs.Ranks.{rowRank}
-use Rattle.ranked.proofs.RanksLaws.{Going, rank-start, rank-below, rank-turn, rank-done, rank-rises}
+use Rattle.ranked.proofs.RanksLaws.{Going, rank-start, ranks-below, rank-turn, rank-done, rank-rises}
 use Rattle.ranked.proofs.busiest.of_all.Statement.{statement}
 use Rattle.ranked.proofs.busiest.of_all.Tie as tie
 
@@ -31,7 +31,7 @@ of-chamber-requires c κs =
     let l = c .before .before .loop in
     let s = c .before .before .before .before .before in
     let p = s .pre in
-    (p .0, p .1, p .2, c .before .loop-test .taken, still-holds _ _ _ (l .inv .1) (p .3), p .4, p .5, l .inv .0 .held, rank-below _ _ _ _ (rank-rises (s .args .largest) (s .args .terms) (s .args .p .now) _ _ _ (p .1)) (l .g) (l .j) (l .inv .0) (c .before .loop-test .taken))
+    (p .0, p .1, p .2, c .before .loop-test .taken, still-holds _ _ _ (l .inv .1) (p .3), p .4, p .5, l .inv .0 .held, ranks-below _ _ _ _ (rank-rises (s .args .largest) (s .args .terms) (s .args .p .now) _ _ _ (p .1)) (l .g) (l .j) (l .inv .0) (c .before .loop-test .taken))
 
 add-j : tie.Need-add-j Inv-loop μ-loop
 add-j c = omega (arith, c .before .before .before .before .loop-test .taken, c .before .before .before .before .before .before .before .before .pre .1 .n-le)

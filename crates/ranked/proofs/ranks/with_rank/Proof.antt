@@ -13,7 +13,7 @@ use Rattle.ranked.specs.declared.ranks.Ranks.{Ranks}
 use Rattle.ranked.specs.Busiest.{busier, noRank}
 use Rattle.ranked.specs.Ranks.{rankPut}
 use Rattle.ranked.proofs.RanksLaws.{busier-order}
-use Rattle.ranked.proofs.HeldLaws.{Shifted, ranked-start, ranked-on, ranked-stop, ranked-end}
+use Rattle.ranked.proofs.HeldLaws.{Shifted, shift-start, shift-on, shift-stop, shift-end}
 use Rattle.ranked.proofs.ranks.with_rank.Statement.{statement}
 use Rattle.ranked.proofs.ranks.with_rank.Tie as tie
 
@@ -37,7 +37,7 @@ add-r : tie.Need-add-r Inv-loop μ-loop
 add-r c = search needs
 
 loop-holds : tie.Need-loop-holds Inv-loop μ-loop
-loop-holds c = (ranked-start busier noRank _ _ _, refl)
+loop-holds c = (shift-start busier noRank _ _ _, refl)
 
 sub-w : tie.Need-sub-w Inv-loop μ-loop
 sub-w c = search needs
@@ -63,7 +63,7 @@ returns c =
     let l = c .before .before .before .before in
     let a = l .before .args in
     let inside : l .loop .i < length (a .g .rows) = omega (arith, long (l .before), l .loop .inv .0 .upto, l .before .pre .0) in
-    let put = ranked-stop busier noRank (a .v) (a .g .rows) (a .n) (l .loop .r .rows) (l .loop .i) (l .loop .i - 1) (omega arith) (l .loop .inv .0) _ refl inside busier-order (l .before .pre .1) (failed (c .before .is-busier .ensures) (c .if1 .taken)) in
+    let put = shift-stop busier noRank (a .v) (a .g .rows) (a .n) (l .loop .r .rows) (l .loop .i) (l .loop .i - 1) (omega arith) (l .loop .inv .0) _ refl inside busier-order (l .before .pre .1) (failed (c .before .is-busier .ensures) (c .if1 .taken)) in
     with-rest (l .loop .r) (a .n) (l .loop .inv .1) _ _ put
 
 mul-w-2 : tie.Need-mul-w-2 Inv-loop μ-loop
@@ -83,7 +83,7 @@ loop-again c =
     let l = c .before .before .before .before in
     let a = l .before .args in
     let inside : l .loop .i < length (a .g .rows) = omega (arith, long (l .before), l .loop .inv .0 .upto, l .before .pre .0) in (
-      ranked-on busier noRank (a .v) (a .g .rows) (a .n) (l .loop .r .rows) (l .loop .i) (l .loop .i - 1) (omega arith) (l .loop .inv .0) _ refl inside (passed (c .before .is-busier .ensures) (c .if1 .left)),
+      shift-on busier noRank (a .v) (a .g .rows) (a .n) (l .loop .r .rows) (l .loop .i) (l .loop .i - 1) (omega arith) (l .loop .inv .0) _ refl inside (passed (c .before .is-busier .ensures) (c .if1 .left)),
       ap (λ (g : Ranks). record { rows = set (l .loop .r .rows) (l .loop .i) (getD (l .loop .r .rows) (l .loop .i - 1) noRank); count = g .count }) (l .loop .inv .1),
     )
 
@@ -95,7 +95,7 @@ unfolding rankPut
 returns-2 c =
     let l = c .before in
     let a = l .before .args in
-    let put = ranked-end busier noRank (a .v) (a .g .rows) (a .n) (l .loop .r .rows) (l .loop .i) (omega arith) (l .loop .inv .0) (omega (arith, long (l .before))) in
+    let put = shift-end busier noRank (a .v) (a .g .rows) (a .n) (l .loop .r .rows) (l .loop .i) (omega arith) (l .loop .inv .0) (omega (arith, long (l .before))) in
     with-rest (l .loop .r) (a .n) (l .loop .inv .1) _ _ put
 
 pub with-rank-spec : {M : Type 1} → statement M
