@@ -4,7 +4,7 @@
 --
 --     many-served        what is in range is served.  pairs-given: it stores the first so many pairs after the key as there are slots, says how many these are, and whether more follow
 --     pairs-exact        a pair is one of those after the key exactly if it is in the list of these terms, its size is at most the largest, its chamber has at least t such pairs, and it is after the key.
---                        pairs-only: so is each that is stored.  pairs-order, pairs-each: they stand in the list's order, each once, by ids
+--                        pairs-listed: so it is one of the list of t.  pairs-only: each that is stored is one of these.  pairs-order, pairs-each: they stand in the list's order, each once, by ids
 --     pairs-size         each pair has the size of the places of its two records, and that is at most the largest
 --     pairs-untouched    the slots past those stored are as they were; where refused all are: `pairs-no` and `own-pairs-no` of Demand1
 --     pairs-whole        to the greatest size it is the list of the terms.  pairs-list: so with a slot for each pair, from (0, 0) on, the whole list is stored and nothing follows
@@ -60,7 +60,7 @@ use Rattle.demands.specs.Promises.{OwnPairsAnswers, OwnCountAnswers, wan
 use Rattle.demands.specs.Many.{atMost, anyNumber, Follow, calls, again}
 use Rattle.demands.proofs.Demand1.{pairs-no, own-pairs-no}
 use Rattle.demands.proofs.Demand2.{WellFormed, Whose}
-use Rattle.demands.proofs.SizedLaws.{at-most-iff, to-ascends, to-keys, to-size, sized-iff}
+use Rattle.demands.proofs.SizedLaws.{at-most-iff, at-most-more, to-ascends, to-keys, to-size, sized-iff}
 
 -- a key with ids 0 to 2,000,000,000, a t 0 to 60,000, and a largest size to 8,000,000,000,000,000,000
 pub record Fair (key : Key) (t big : ℕ) : Type 0 where
@@ -171,6 +171,14 @@ module _ (P Q : List ℤ) (p-opens : WellFormed P) (q-opens : WellFormed Q) (a :
   pairs-whole e forms =
       let z = forms-reach (a .grid) P Q p-opens q-opens forms in
       ap (λ (n : ℕ). listTo n a o (pointsOf P) (pointsOf Q)) e ∙ list-whole a o (pointsOf P) (pointsOf Q) (z .0) (z .1)
+
+  -- and each of these pairs is one of the list of the terms, with their t: its chamber has at least t pairs of whatever size [MP1, MP2]
+  pub pairs-listed : big ≤ lastLargest → gridNo (a .grid) P Q ≡ 0 → (key : Key) (v : Pair) → Asked key v → List·Memᴰ v (listFor a o (pointsOf P) (pointsOf Q))
+  pairs-listed fits forms key v x =
+      let z = forms-reach (a .grid) P Q p-opens q-opens forms in
+      let s = sized-iff lastLargest a o (pointsOf P) (pointsOf Q) p-rises q-rises v in
+      subst (List·Memᴰ v) (list-whole a o (pointsOf P) (pointsOf Q) (z .0) (z .1))
+      (s .1 (at-most-iff lastLargest Whole v .1 (x .listed, omega (arith, x .small, fits)), omega (arith, x .many, at-most-more (v .q) big lastLargest fits Whole)))
 
   module _ (key : Key) (slots : List Pair) (w : List ℕ) (r : Many) (slots′ : List Pair) (w′ : List ℕ) (answers : ManyAnswers a o P Q key big slots w r slots′ w′) where
     -- what is answered with 0 is the first so many pairs after the key, in slots of which the rest is as it was

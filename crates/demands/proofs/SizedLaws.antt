@@ -2,6 +2,7 @@
 --
 --     to-ascends, to-only, to-keys, to-size     as of the list of the terms
 --     sized-iff      a pair stands in it exactly if it stands among those of the list, however many a chamber has, that are no larger, and its chamber has at least t of these
+--     at-most-more   of larger sizes a chamber has no fewer
 --     sized-blind    two runs that differ in the ids of the other's chambers alone give a contractor one list
 -- Assumes nothing.
 use mathlib.Core.Path.{_≡_, refl, sym, ap, subst, _∙_}
@@ -10,7 +11,7 @@ use mathlib.Core.Logic.{_↔_, ⊎-elim}
 use mathlib.Core.List.{List, [], _∷_, _++_, List·Memᴰ, List·Memᴰ·head, List·Memᴰ·tail, List·Memᴰ·not-nil, List·Memᴰ·cases-cons}
 use Prim.Native.Nat.{ℕ, zero, suc, _+_, _≤_, _<_}
 use native.Mathlib.Omega.{arith}
-use lib.Dec.{leb}
+use lib.Dec.{eqb, leb}
 use lib.ListN.{length}
 use borrow.Author.Tests.{le-leb, leb-true}
 use Rattle.integers.proofs.Bools.{decide, clash}
@@ -48,6 +49,27 @@ at-most-iff big (w ∷ l) v =
       λ x. ⊎-elim (λ (y : v ≡ w). clash (le-leb (w .size) big (subst (λ (u : Pair). u .size ≤ big) y (x .1))) e) (λ (y : List·Memᴰ v l). z .1 (y, x .1)) (List·Memᴰ·cases-cons (x .0)),
     ))
     (decide (leb (w .size) big))
+
+-- the larger the size, the more a chamber has
+pub at-most-more : (id b c : ℕ) → b ≤ c → (l : List Pair) → length (chamberPairs id (atMost b l)) ≤ length (chamberPairs id (atMost c l))
+unfolding atMost chamberPairs
+at-most-more id b c h [] = omega arith
+at-most-more id b c h (v ∷ l) = go (leb (v .size) b) (leb (v .size) c) refl refl (at-most-more id b c h l)
+  where
+    both : (t : Bool) (m n : List Pair) → length m ≤ length n → length (cond t (v ∷ m) m) ≤ length (cond t (v ∷ n) n)
+    both true m n e = omega arith
+    both false m n e = e
+
+    one : (t : Bool) (m n : List Pair) → length m ≤ length n → length m ≤ length (cond t (v ∷ n) n)
+    one true m n e = omega arith
+    one false m n e = e
+
+    go : (x y : Bool) → leb (v .size) b ≡ x → leb (v .size) c ≡ y → length (chamberPairs id (atMost b l)) ≤ length (chamberPairs id (atMost c l))
+        → length (chamberPairs id (cond x (v ∷ atMost b l) (atMost b l))) ≤ length (chamberPairs id (cond y (v ∷ atMost c l) (atMost c l)))
+    go true true e f z = both (eqb (v .q) id) (chamberPairs id (atMost b l)) (chamberPairs id (atMost c l)) z
+    go true false e f z = clash (le-leb (v .size) c (omega (arith, leb-true (v .size) b e, h))) f
+    go false true e f z = one (eqb (v .q) id) (chamberPairs id (atMost b l)) (chamberPairs id (atMost c l)) z
+    go false false e f z = z
 
 most-append : (big : ℕ) (l m : List Pair) → atMost big (l ++ m) ≡ atMost big l ++ atMost big m
 unfolding atMost
