@@ -20,7 +20,7 @@ use Rattle.ring.specs.Numbers.{gridNo}
 use Rattle.ring.proofs.HeadLaws.{headed, head-number}
 use Rattle.ring.proofs.LentLaws.{bits-short, bits-enough}
 use Rattle.many.specs.Many.{largestNo}
-use Rattle.many.proofs.CheckLaws.{first-without, undivided, no-bytes}
+use Rattle.many.proofs.CheckLaws.{first-without, many-undivided, no-bytes}
 use Rattle.ranked.specs.declared.Asked.{Asked}
 use Rattle.ranked.specs.Busiest.{askedNo, busyNo, pumpNo}
 use Rattle.ranked.specs.Ranks.{Ready}
@@ -72,7 +72,7 @@ pump-number P Q k big g len =
     let three = gridNo g P Q ∷ sizeNo k ∷ largestNo big ∷ [] in
     first-front (sheetNo P ∷ sheetNo Q ∷ gridNo g P Q ∷ sizeNo k ∷ largestNo big ∷ []) (bitsNo (need Q) len ∷ [])
     ∙ ap (λ (n : ℕ). first (n ∷ bitsNo (need Q) len ∷ []))
-    (sym (first-without two (ownersNo 2 [] (points Q) ∷ three) (contractorNo false 2) undivided ∙ first-without two three (ownersNo 2 [] (points Q)) (no-bytes (points Q))))
+    (sym (first-without two (ownersNo 2 [] (points Q) ∷ three) (contractorNo false 2) many-undivided ∙ first-without two three (ownersNo 2 [] (points Q)) (no-bytes (points Q))))
 
 pub busy-is : (P Q : List ℤ) (o : List ℕ) (a : Asked) (len n : ℕ) → n ≡ askedNo P Q o a → busyNo P Q o a len ≡ first (n ∷ bitsNo (need P) len ∷ [])
 busy-is P Q o a len n e = busy-number P Q o a len ∙ ap (λ (x : ℕ). first (x ∷ bitsNo (need P) len ∷ [])) (sym e)

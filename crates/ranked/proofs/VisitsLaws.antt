@@ -41,7 +41,7 @@ use Rattle.walk.proofs.Meaning.{pair-clear}
 use Rattle.join.proofs.Meaning.{points-rise}
 use Rattle.seeds.specs.Covers.{Covers}
 use Rattle.chamber.specs.Sized.{smallFor, listedTo, listTo}
-use Rattle.chamber.proofs.KeepLaws.{row-nil, row-yes, row-no, rest, rest-yes, rest-no, rest-end, rest-skip, small-covered}
+use Rattle.chamber.proofs.KeepLaws.{row-nil, row-yes, row-no, rest, rest-yes, rest-no, chamber-rest-end, rest-skip, small-covered}
 use Rattle.chamber.proofs.ListedLaws.{points-many, row-empty, rows-next, rows-end, list-of-sheets}
 use Rattle.ranked.specs.declared.Visit.{Visit}
 use Rattle.ranked.specs.declared.Urgent.{Urgent}
@@ -317,7 +317,7 @@ module _ (rule : ℕ → ℕ → Bool) (pair : ℕ → ℕ → Pair) (f : Pair �
 
   pub pick-end : (r : Tops) (i : ℕ) → Picking r i → n ≤ i → r ≡ topsOf (gathered ahead k (map f (row rule pair j n 0)) (heldVisits g))
   unfolding gathered
-  pick-end r i s h = tops-whole k r (s .held) ∙ ap topsOf (sym (s .left ∙ ap (λ (l : List Pair). gathered ahead k (map f l) (heldVisits r)) (rest-end rule pair j n i h)))
+  pick-end r i s h = tops-whole k r (s .held) ∙ ap topsOf (sym (s .left ∙ ap (λ (l : List Pair). gathered ahead k (map f l) (heldVisits r)) (chamber-rest-end rule pair j n i h)))
 
 -- the candidates of a chamber have all its pairs
 pub pick-sure : (big : ℕ) (t : Terms) (P Q : List ℤ) (np mp : ℕ) → Opens P np mp → (j : ℕ) (b : List ℕ) → Covers (t .grid) P Q j b → (y : ℕ) → y < np → smallFor big t (pointsOf P) (pointsOf Q) j y ≡ true → kept b y ≡ true
