@@ -814,7 +814,8 @@ class Itself(Commands):
         return printed, said
 
     def test_what_takes_long_is_said(self):
-        printed, said = self.hurried("page", "list", *TOWN_SHEETS)
+        with mock.patch.multiple("ring.api", FEW=16, MOST=16):
+            printed, said = self.hurried("many", "list", *TOWN_SHEETS)
         self.assertEqual(printed, stored("listing.txt").decode())
         self.assertIn("ring: 0 of 120 chambers, 0 pairs, 0 seconds so far\n", said)
         self.assertRegex(said, "ring: [1-9][0-9]* of 120 chambers, 16 pairs, ")
