@@ -401,6 +401,26 @@ class Lists(Commands):
         self.assertEqual(self.served("list", *TOWN_SHEETS, "--threshold", 3), self.text(want))
         self.refused("refused by 21", "list", *TOWN_SHEETS, "--threshold", 60_001)
 
+    def test_nothing_farther(self):
+        """--largest: the pairs of at most this squared distance, one whose size it is among them; with a threshold of the chambers that have so many of these."""
+        sizes = sorted(pair[2] for pair in self.pairs[False])
+        for largest in (0, sizes[0] - 1, sizes[0], sizes[len(sizes) // 2], sizes[-1] - 1, sizes[-1], 8 * 10 ** 18):
+            want = reading.up_to(self.pairs[False], largest)
+            self.assertEqual(self.served("list", *TOWN_SHEETS, "--largest", largest), self.text(want))
+        half = sizes[len(sizes) // 2]
+        found = self.json("list", *TOWN_SHEETS, "--largest", half, "--threshold", 2, "--grid")
+        self.assertEqual([(one["q"], one["p"], one["size"]) for one in found["pairs"]], reading.list_up_to(self.pairs[True], half, 2))
+        self.assertEqual(found["terms"], {"grid": True, "threshold": 2, "largest": half})
+        points = reading.Sheet(list(self.pumps.words)).points
+        for grid in (False, True):
+            whole = reading.self_list(points, grid)
+            want = reading.up_to(whole, whole[0][2])
+            self.assertEqual([(one["q"], one["p"], one["size"]) for one in self.json("self", TOWN_SHEETS[0], "--largest", whole[0][2], *["--grid"] * grid)["pairs"]], want)
+        self.refused("refused by 40", "list", *TOWN_SHEETS, "--largest", 8 * 10 ** 18 + 1)
+        self.refused("refused by 40", "self", TOWN_SHEETS[0], "--largest", 2 ** 64 - 1)
+        for wrong in (-1, 2 ** 64, "x", "1.5"):
+            self.assertEqual(self.call("list", *TOWN_SHEETS, "--largest=%s" % wrong)[:2], (2, ""))
+
     def test_a_contractor_with_an_owner_column(self):
         owners = self.file("owners.csv", self.csv)
         words = ("--owners", owners, "--id", "ASSET", "--owner", "WHO")
@@ -794,7 +814,8 @@ class Itself(Commands):
         return printed, said
 
     def test_what_takes_long_is_said(self):
-        printed, said = self.hurried("page", "list", *TOWN_SHEETS)
+        with mock.patch.multiple("ring.api", FEW=16, MOST=16):
+            printed, said = self.hurried("many", "list", *TOWN_SHEETS)
         self.assertEqual(printed, stored("listing.txt").decode())
         self.assertIn("ring: 0 of 120 chambers, 0 pairs, 0 seconds so far\n", said)
         self.assertRegex(said, "ring: [1-9][0-9]* of 120 chambers, 16 pairs, ")

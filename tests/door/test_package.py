@@ -266,7 +266,8 @@ class Examples(unittest.TestCase):
                 with open(os.path.join(TOP, "python", "ring", name), encoding="utf-8") as f:
                     for node in ast.walk(ast.parse(f.read())):
                         modules = [one.name for one in node.names] if isinstance(node, ast.Import) else [node.module] if isinstance(node, ast.ImportFrom) and not node.level else []
-                        self.assertLessEqual({one.split(".")[0] for one in modules}, allowed, name)
+                        # a cluster's list alone needs `distributed`
+                        self.assertLessEqual({one.split(".")[0] for one in modules}, allowed | ({"distributed"} if name == "cluster.py" else set()), name)
 
 
 if __name__ == "__main__":

@@ -33,7 +33,7 @@ use denote.Laws.{Is, shows}
 use denote.Memory.{mem as memOf, pointee}
 use denote.Array.{Array, array-vals, array-tells, array-lawful, array-makes}
 use denote.Plain.{uint-makes, uint-vals, uint-tells, uint-lawful, bool-makes, bool-vals, bool-tells, bool-lawful}
-use denote.Builtin.{i32, u8, u64, usize, bool}
+use denote.Builtin.{i32, u64, usize, bool}
 use denote.Ref.{RefT, now}
 use denote.Signature.{plain}
 use denote.Slice.{sliceTy, sliceVal, slice-vals, mut-slice-tells, shr-slice-tells, shr-slice-lawful, shr-slice-copy, MutSlice, ShrSlice, Room, finally}
