@@ -412,8 +412,7 @@ class Faults(unittest.TestCase):
     def test_wrong_stores_are_seen(self):
         """A transaction split in two, and a worker that keeps an older state: the others are kept commands."""
         for wrong, told in (("split", r".*\d+ slots beside a state of \d+ held"), ("older", r".* was altered: UNIQUE constraint failed: slots.book, slots.at")):
-            # as many kills as it needs, which are few
-            status, printed, said = self.ran("--wrong", wrong, "--kills", "200")
+            status, printed, said = self.ran("--wrong", wrong)
             self.assertEqual((status, said), (0, ""), printed)
             self.assertRegex(printed.decode(), r"^store: wrong \(%s\), it fails after \d+ kills, \d+ times a second process: %s\n$" % (wrong, told))
 
