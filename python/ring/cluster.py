@@ -149,27 +149,18 @@ def opened(name):
     return (CALLS[thread], *OPENED[name, thread])
 
 
-def following(ring, p, q, key, slots, terms):
-    """The pairs after a key, some so many, and whether more follow. The one place that asks for many pairs: by pages, until a call gives them at once."""
-    pairs = []
-    for page in ring.pages(p, q, key=key, **terms):
-        pairs += page.pairs
-        if page.end or len(pairs) >= slots:
-            return pairs, not page.end
-
-
 def ranged(ring, p, q, a, b, terms):
     """The pairs of the chambers at the positions from a on, up to b, in list order."""
     ids = [point.id for point in q.points]
     key, last = START if a == 0 else Key(ids[a] - 1, sheets.ID), ids[b - 1] if b else 0
-    if terms.get("threshold"):
-        # few chambers may have so many pairs: those after the range are not looked at
+    if terms.get("threshold") or terms.get("largest") is not None:
+        # few chambers may have such pairs: those after the range are not looked at
         terms = kept_by(q, terms, lambda at: a <= at < b)
     contractor = terms.get("contractor", UNDIVIDED)
     while True:
         # as many as such chambers have on average, so that little is asked for that is not of the range
         left = bytes(terms["owners"][a:b]).count(contractor) if contractor in (0, 1) else b - a
-        pairs, more = following(ring, p, q, key, EACH * left + FEW, terms)
+        pairs, more = ring.many(p, q, key, EACH * left + FEW, **terms)
         for pair in pairs:
             if pair.q > last:
                 return

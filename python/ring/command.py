@@ -217,13 +217,13 @@ def list_(ring, args):
 
 
 def cluster_list(ring, args):
-    if args.by == "leaves" and (args.grid or args.threshold or args.contractor is not None):
-        raise door.Wrong("leaf runs are of the whole list: no --grid, --threshold or --contractor with --by leaves")
+    if args.by == "leaves" and (args.grid or args.threshold or args.contractor is not None or args.largest is not None):
+        raise door.Wrong("leaf runs are of the whole list: no --grid, --threshold, --contractor or --largest with --by leaves")
     # it alone needs `distributed`; where this Python has none, the command runs again here under another
     from . import cluster
     cluster.here(args.words)
     p, q = for_list(ring, args, args.p), for_list(ring, args, args.q)
-    terms = terms_of(args, q)
+    terms = {**terms_of(args, q), **largest_of(args)}
     pairs = cluster.listed(ring, p, q, terms, args.by, args.scheduler, args.workers, args.batch, not args.uncounted, say)
     give_list(args, p, q, pairs, terms)
 
@@ -704,6 +704,7 @@ def parser():
     one.add_argument("--by", choices=("chambers", "leaves"), default="chambers", help="tasks are ranges of chambers, or runs of leaves, which take longer")
     one.add_argument("--batch", type=some, metavar="N", help="so many chambers or leaves a task")
     one.add_argument("--uncounted", action="store_true", help="do not hold the number of the pairs to `count`, which takes about as long as the list")
+    with_largest(one)
     with_columns(one)
     with_terms(one)
     with_list(one)

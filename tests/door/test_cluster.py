@@ -114,10 +114,12 @@ def twice(client, calls, p, q):
 def terms(client, calls, p, q):
     """Lists of all kinds, with their numbers by `count`; ranges of one chamber and of all; leaf runs; a sheet of no chambers; refusals."""
     owners = [int(k % 3 == 0) for k in range(q.n)]
-    seen = []
+    seen, sizes = [], sorted(pair.size for pair in calls.pairs(p, q))
+    far = sizes[len(sizes) // 2]
     empty = calls.pack([], 9)
     for of, given, by, batch in ((q, {}, "chambers", 1), (q, {}, "chambers", 1000), (q, {}, "leaves", 2), (q, {"threshold": 3}, "chambers", 20), (q, {"grid": True}, "chambers", 20),
                                  (q, {"contractor": 0, "owners": owners}, "chambers", 20), (q, {"contractor": 1, "owners": owners, "threshold": 2}, "chambers", 20),
+                                 (q, {"largest": far, "threshold": 2}, "chambers", 20), (q, {"largest": far}, "chambers", 20),
                                  (empty, {}, "chambers", 20)):
         work = cluster.work_of(calls, p, of, given, by)
         much = cluster.much_of(work, of)
@@ -211,7 +213,7 @@ class Clusters(WithRing):
         self.assertEqual((seen["pairs"], seen["tasks"], seen["kept"]), (self.pairs, 18, 12))
 
     def test_lists_of_all_kinds_and_their_numbers(self):
-        self.assertEqual([same for _, same, _ in self.seen["terms"]["seen"]], [True] * 8, self.seen["terms"])
+        self.assertEqual([same for _, same, _ in self.seen["terms"]["seen"]], [True] * 10, self.seen["terms"])
         self.assertEqual([number for _, _, number in self.seen["terms"]["seen"]][:3], [len(self.pairs)] * 3)
         self.assertEqual(self.seen["terms"]["refusals"], [21, 27, 21])
 
@@ -276,14 +278,14 @@ class Together(WithRing):
 
     def test_the_numbers_of_the_parts_are_the_number_of_the_list(self):
         owners = [int(k % 3 == 0) for k in range(self.chambers.n)]
-        for terms in ({}, {"threshold": 3}, {"contractor": 0, "owners": owners}, {"contractor": 1, "owners": owners}):
+        for terms in ({}, {"threshold": 3}, {"largest": 4_000_000}, {"contractor": 0, "owners": owners}, {"contractor": 1, "owners": owners}):
             whole = self.ring.count(self.pumps, self.chambers, **terms)
             for parts in (2, 3):
                 kept = [cluster.kept_by(self.chambers, terms, lambda at, k=k: at % parts == k) for k in range(parts)]
                 self.assertEqual(sum(self.ring.count(self.pumps, self.chambers, **one) for one in kept), whole)
 
     def test_wrong_use(self):
-        for words in (["--by", "leaves", "--threshold", "2"], ["--batch", "0"], ["--workers", "0"], ["--by", "boxes"]):
+        for words in (["--by", "leaves", "--threshold", "2"], ["--by", "leaves", "--largest", "900"], ["--batch", "0"], ["--workers", "0"], ["--by", "boxes"]):
             status, printed, _ = ran([COMMAND, "cluster", "list", *SHEETS, *words])
             self.assertEqual((status, printed), (2, b""), words)
 
