@@ -33,12 +33,12 @@
  *   - false, the circle: a record blocks a pair when it stands in or on the smallest circle around the two; a pair's size is the squared distance of the two.
  *   - true, the street grid: distances are along the streets, |dx| + |dy|. A record x blocks a, b when the distance of 2x and a+b is at most that of a and b; a
  *     pair's size is the square of the latter, at most 16,000,000,000,000. Sheets of form 1 only: 29 else.
- *   In both a record at exactly the place of either end doesn't block. Pages, books, ring_pair_walk, ring_pairs, ring_count and those of self joins are of either
- *   profile, every other call of the circle. Along the streets two sheets that hold assets may give no pair at all.
+ *   In both a record at exactly the place of either end doesn't block. Pages, books, ring_pair_walk, ring_pairs, ring_count and those of self joins, ring_busiest,
+ *   ring_busiest_pumps and ring_urgent are of either profile, every other call of the circle. Along the streets two sheets that hold assets may give no pair at all.
  *
  * Words lent for kept sets: `bits`
  *   - A call that filters, or looks for many pairs, works on 64-bit words that the caller lends: at least RING_WORDS(n), where n is P's number of points
- *     (ring_open says it), of a self join its sheet's; ring_leaf_run 16 times as many. Where n is 0 none is needed.
+ *     (ring_open says it), of a self join its sheet's, of ring_busiest_pumps Q's; ring_leaf_run 16 times as many. Where n is 0 none is needed.
  *   - What they hold before does not matter.
  *   - After an answer of ring_filter_walk and ring_near_filter the first RING_WORDS(n) words are the kept set; after one of any other call so many as it
  *     needs are 0. Words past these are never written.
@@ -58,9 +58,9 @@ extern "C" {
 /* The version of this header and of the archive. The first number goes up where a struct, a call's arguments or the lists themselves change, so that callers are
  * compiled anew; the second where something is added. docs/GUIDE.md says what each changed for a caller. */
 #define RING_VERSION_MAJOR 10
-#define RING_VERSION_MINOR 1
+#define RING_VERSION_MINOR 2
 #define RING_VERSION_PATCH 0
-#define RING_VERSION "10.1.0"
+#define RING_VERSION "10.2.0"
 
 /* The numbers of refusal: X(number, name, reason in words). The reason says what may be wrong whichever call gave the number; the list at the end of this file
  * says it call by call. 23 and 32 to 39 are given by no call. */
@@ -96,10 +96,12 @@ extern "C" {
     X(29, RING_WIDE_GRID, "the street grid is asked for, and a sheet is of form 2") \
     X(30, RING_OTHER_PROFILE, "the page is of the other profile: the circle, or the street grid") \
     X(31, RING_OTHER_THRESHOLD, "the page is of another threshold") \
-    X(40, RING_BAD_LARGEST, "the largest size is over 8,000,000,000,000,000,000")
+    X(40, RING_BAD_LARGEST, "the largest size is over 8,000,000,000,000,000,000") \
+    X(41, RING_BAD_P_SCORES, "the scores of P are not one of 0 to 1,000,000,000 for each of its points") \
+    X(42, RING_BAD_Q_SCORES, "the scores of Q are not one of 0 to 1,000,000,000 for each of its points")
 
 #define RING_NAMED(number, name, reason) name = number,
-enum { RING_SERVED = 0, RING_REFUSALS(RING_NAMED) RING_LAST_REFUSAL = 40 };
+enum { RING_SERVED = 0, RING_REFUSALS(RING_NAMED) RING_LAST_REFUSAL = 42 };
 #undef RING_NAMED
 
 /* The reason of a number of refusal, in words; of 0 "served", of a number that no call gives "no number of refusal". */
@@ -352,6 +354,41 @@ typedef struct RingMany {
     bool more;
 } RingMany;
 
+/* What is asked of ring_busiest and ring_urgent: how many rows, 1 to 16; `largest`, the greatest size of the pairs, to 8,000,000,000,000,000,000, which means all;
+ * the contractor, 0 or 1, or 2 for an undivided list; the profile. */
+typedef struct RingAsked {
+    size_t k;
+    uint64_t largest;
+    uint32_t contractor;
+    bool grid;
+} RingAsked;
+
+/* A chamber or a pump house by its id, and how many pairs of the list it is in. */
+typedef struct RingRank {
+    uint32_t id;
+    uint32_t pairs;
+} RingRank;
+
+/* The answer of ring_busiest and ring_busiest_pumps: how many rows, and the rows; the unused ones are zeros. */
+typedef struct RingBusy {
+    uint32_t number;
+    size_t count;
+    RingRank rows[16];
+} RingBusy;
+
+/* A pair of the list, and the sum of the scores of its two ends. */
+typedef struct RingVisit {
+    RingPair pair;
+    uint64_t score;
+} RingVisit;
+
+/* The answer of ring_urgent: how many rows, and the rows; the unused ones are zeros. */
+typedef struct RingUrgent {
+    uint32_t number;
+    size_t count;
+    RingVisit rows[16];
+} RingUrgent;
+
 /* The answer of ring_marker. */
 typedef struct RingMarker {
     uint32_t number;
@@ -564,6 +601,34 @@ RingCounted ring_count(const int32_t *p, size_t p_len, const int32_t *q, size_t 
  * Refused  1 to 8, then 29, then 40, then 24, each as by ring_own_pairs; no lent word is written. */
 RingCounted ring_own_count(const int32_t *words, size_t words_len, uint64_t largest, bool grid, uint64_t *bits, size_t bits_len);
 
+/* The busiest chambers: of the contractor's chambers the k that are in the most pairs of the list to the largest size, in order, more pairs first, ties by the lower
+ * id; each with its number of pairs, those with none too.
+ * Input    both sheets, the owner bytes as for ring_page, and what is asked. The sheets' words and the bytes are only read.
+ * Lent     bits: RING_WORDS(P's n) words or more. After an answer the first so many are 0; those past them are not written.
+ * Answer   k rows, or one for each of the contractor's chambers where they are fewer.
+ * Refused  1 to 8 for P, then 1 to 8 for Q, then 27, then 26, then 29, each as by ring_pairs, then 10 where k is not 1 to 16, then 40, then 24; no lent word is
+ *          written. */
+RingBusy ring_busiest(const int32_t *p, size_t p_len, const int32_t *q, size_t q_len, const uint8_t *owners, size_t owners_len, RingAsked asked, uint64_t *bits,
+                      size_t bits_len);
+
+/* The busiest pump houses: the same of the records of P, of the undivided list: how many chambers each is listed with.
+ * Input    both sheets, k, the largest size, and the profile. The sheets' words are only read.
+ * Lent     bits: RING_WORDS(Q's n) words or more, since here the kept sets are of chambers. After an answer the first so many are 0; those past them are not written.
+ * Answer   k rows, or one for each point of P where they are fewer.
+ * Refused  1 to 8 for P, then 1 to 8 for Q, then 29, then 10, then 40, then 24, each as by ring_busiest; no lent word is written. */
+RingBusy ring_busiest_pumps(const int32_t *p, size_t p_len, const int32_t *q, size_t q_len, size_t k, uint64_t largest, bool grid, uint64_t *bits, size_t bits_len);
+
+/* The most urgent visits: of the contractor's list to the largest size the k pairs with the highest sum of the scores of their two ends, in order, ties by q id and
+ * then p id.
+ * Input    both sheets, the owner bytes as for ring_page, a score of 0 to 1,000,000,000 for each record of P, by position, the same of Q, and what is asked. All is
+ *          only read.
+ * Lent     bits: RING_WORDS(P's n) words or more. After an answer the first so many are 0; those past them are not written.
+ * Answer   k rows, or all pairs of the list where they are fewer, each with its score.
+ * Refused  1 to 8 for P, then 1 to 8 for Q, then 27, then 26, then 29, then 10, then 40, each as by ring_busiest, then 41 where the scores of P are not one of 0 to
+ *          1,000,000,000 for each of its points, then 42 for those of Q, then 24; no lent word is written. */
+RingUrgent ring_urgent(const int32_t *p, size_t p_len, const int32_t *q, size_t q_len, const uint8_t *owners, size_t owners_len, const uint32_t *p_scores,
+                       size_t p_scores_len, const uint32_t *q_scores, size_t q_scores_len, RingAsked asked, uint64_t *bits, size_t bits_len);
+
 /*
  * The numbers of refusal, and the calls that give them; `a sheet`: every call that is given one
  *    1  under 6 words (a sheet)
@@ -575,7 +640,7 @@ RingCounted ring_own_count(const int32_t *words, size_t words_len, uint64_t larg
  *    7  level, first or count wrong, or n and m disagree on zero (a sheet)
  *    8  a box is not tightest (a sheet)
  *    9  key out of range (ring_page, ring_own_page, ring_pairs, ring_own_pairs); a position not below its sheet's n (ring_point, ring_filter_walk, ring_pair_walk)
- *   10  size out of range (ring_page, ring_own_page, ring_nearest); k out of range (ring_shortest)
+ *   10  size out of range (ring_page, ring_own_page, ring_nearest); k out of range (ring_shortest, ring_busiest, ring_busiest_pumps, ring_urgent)
  *   11  held exceeds the slots (ring_book_next_key, ring_book_take, ring_forms, ring_depot_take)
  *   12  book closed (ring_book_take)
  *   13  page of other editions (ring_book_take)
@@ -592,15 +657,18 @@ RingCounted ring_own_count(const int32_t *words, size_t words_len, uint64_t larg
  *       (ring_book_begin)
  *   22  page of the other kind (ring_book_take)
  *   24  fewer words lent than the points need (ring_filter_walk, ring_page, ring_own_page, ring_partners, ring_shortest, ring_near_filter, ring_pairs,
- *       ring_own_pairs, ring_count, ring_own_count), or than 16 times so many (ring_leaf_run)
+ *       ring_own_pairs, ring_count, ring_own_count, ring_busiest, ring_busiest_pumps, ring_urgent), or than 16 times so many (ring_leaf_run)
  *   25  fewer numbers lent than P has points and nodes (ring_nearest, ring_near_filter)
- *   26  owner bytes not one 0 or 1 a chamber, or any for contractor 2 (ring_page, ring_pairs, ring_count)
- *   27  contractor outside 0 to 2 (ring_page, ring_pairs, ring_count, ring_book_begin), or not 2 for a self join (ring_book_begin)
+ *   26  owner bytes not one 0 or 1 a chamber, or any for contractor 2 (ring_page, ring_pairs, ring_count, ring_busiest, ring_urgent)
+ *   27  contractor outside 0 to 2 (ring_page, ring_pairs, ring_count, ring_busiest, ring_urgent, ring_book_begin), or not 2 for a self join (ring_book_begin)
  *   28  page of another contractor (ring_book_take)
- *   29  form 2 with `grid` set (ring_pair_walk, ring_page, ring_own_page, ring_pairs, ring_own_pairs, ring_count, ring_own_count)
+ *   29  form 2 with `grid` set (ring_pair_walk, ring_page, ring_own_page, ring_pairs, ring_own_pairs, ring_count, ring_own_count, ring_busiest, ring_busiest_pumps,
+ *       ring_urgent)
  *   30  page of the other profile (ring_book_take)
  *   31  page of another threshold (ring_book_take)
- *   40  largest size over 8,000,000,000,000,000,000 (ring_pairs, ring_own_pairs, ring_count, ring_own_count)
+ *   40  largest size over 8,000,000,000,000,000,000 (ring_pairs, ring_own_pairs, ring_count, ring_own_count, ring_busiest, ring_busiest_pumps, ring_urgent)
+ *   41  scores of P not one of 0 to 1,000,000,000 for each of its points (ring_urgent)
+ *   42  scores of Q not one of 0 to 1,000,000,000 for each of its points (ring_urgent)
  */
 
 #ifdef __cplusplus

@@ -16,6 +16,9 @@ use many::Many;
 use many::Wanted;
 use many::Which;
 use nearest::Found;
+use ranked::Asked;
+use ranked::Busy;
+use ranked::Urgent;
 use ring::Filtered;
 use ring::Paged;
 use ring::Partnered;
@@ -36,6 +39,8 @@ ghost use Rattle.depot.specs.Forms.{formsAnswer, formsOut};
 ghost use Rattle.depot.specs.Depot.{begunDepot, stored, storedSlots};
 ghost use Rattle.runs.specs.Run.{runAnswer, runSlots, runBits};
 ghost use Rattle.many.specs.Many.{pairsAnswer, pairsSlots, pairsBits, ownPairsAnswer, ownPairsSlots, ownPairsBits, countAnswer, countBits, ownCountAnswer, ownCountBits};
+ghost use Rattle.ranked.specs.Busiest.{busyAnswer, busyBits, pumpAnswer, pumpBits};
+ghost use Rattle.ranked.specs.Urgent.{urgentAnswer, urgentBits};
 ghost use Rattle.nearest.specs.Nearest.{nearestNo, nearFilterNo, nearestAnswer, nearFiltered, nearFilteredBits, waitedBy};
 ghost use Rattle.ffi.specs.Over.{headOver, pointOver, hitOver, walkOver, bookOver, nextOver, keyOver, outcomeOver, storeOver, markOver, markedAt};
 
@@ -556,4 +561,51 @@ pub extern "C" fn ring_own_count(
     ensures { λ r. ⌜ (r ≡ ownCountAnswer (now (words .entry)) largest grid (length (now (bits .entry)))) × (now (bits .exit) ≡ ownCountBits (now (words .entry)) largest grid (now (bits .entry))) ⌝ }
 {
     many::count::own_count(words, largest, grid, bits)
+}
+
+// Of the contractor's chambers the k that are in the most pairs of the list to a size, in order, ties by the lower id: 0, or 1 to 8 of P, of Q, 27, 26, 29, 10, 40, 24 with the words as they
+// were.
+#[no_mangle]
+pub extern "C" fn ring_busiest(
+    p: &[i32],
+    q: &[i32],
+    owners: &[u8],
+    asked: Asked,
+    bits: &mut [u64],
+) -> Busy
+    ensures { λ r. ⌜ (r ≡ busyAnswer (now (p .entry)) (now (q .entry)) (now (owners .entry)) asked (length (now (bits .entry)))) × (now (bits .exit) ≡ busyBits (now (p .entry)) (now (q .entry)) (now (owners .entry)) asked (now (bits .entry))) ⌝ }
+{
+    ranked::busiest::busiest(p, q, owners, asked, bits)
+}
+
+// The same of pump houses, of the undivided list, with as many words as the points of Q need: 0, or 1 to 8 of P, of Q, 29, 10, 40, 24 with the words as they were.
+#[no_mangle]
+pub extern "C" fn ring_busiest_pumps(
+    p: &[i32],
+    q: &[i32],
+    k: usize,
+    largest: u64,
+    grid: bool,
+    bits: &mut [u64],
+) -> Busy
+    ensures { λ r. ⌜ (r ≡ pumpAnswer (now (p .entry)) (now (q .entry)) k largest grid (length (now (bits .entry)))) × (now (bits .exit) ≡ pumpBits (now (p .entry)) (now (q .entry)) k largest grid (now (bits .entry))) ⌝ }
+{
+    ranked::busiest::busiest_pumps(p, q, k, largest, grid, bits)
+}
+
+// The k pairs of the contractor's list to a size with the highest sum of the scores of their two ends, in order, ties by q id and then p id: 0, or 1 to 8 of P, of Q, 27, 26, 29, 10, 40, 41,
+// 42, 24 with the words as they were.
+#[no_mangle]
+pub extern "C" fn ring_urgent(
+    p: &[i32],
+    q: &[i32],
+    owners: &[u8],
+    p_scores: &[u32],
+    q_scores: &[u32],
+    asked: Asked,
+    bits: &mut [u64],
+) -> Urgent
+    ensures { λ r. ⌜ (r ≡ urgentAnswer (now (p .entry)) (now (q .entry)) (now (owners .entry)) (now («p_scores» .entry)) (now («q_scores» .entry)) asked (length (now (bits .entry)))) × (now (bits .exit) ≡ urgentBits (now (p .entry)) (now (q .entry)) (now (owners .entry)) (now («p_scores» .entry)) (now («q_scores» .entry)) asked (now (bits .entry))) ⌝ }
+{
+    ranked::visits::urgent(p, q, owners, p_scores, q_scores, asked, bits)
 }

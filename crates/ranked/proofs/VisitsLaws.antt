@@ -120,8 +120,7 @@ pub visits-apart : (f : Pair → Visit) → ((v : Pair) → f v .pair ≡ v) →
 unfolding ascends Apart
 visits-apart f is key [] e = tt
 visits-apart f is key (v ∷ l) e =
-    let a = and-second (follows key (keyOf v)) (ascends (keyOf v) l) e in
-    (
+    let a = and-second (follows key (keyOf v)) (ascends (keyOf v) l) e in (
       λ w m.
           let z = map-only f w l m in
           let h : follows (keyOf (f v .pair)) (keyOf (f (z .0) .pair)) ≡ true = ap₂ (λ (x y : Pair). follows (keyOf x) (keyOf y)) (is v) (is (z .0)) ∙ asc-member (keyOf v) (z .0) l a (z .1) in

@@ -203,7 +203,20 @@ fn of_all(
     let mut j: usize = 0;
     while j < n {
         g = of_next(
-            p, hp, q, hq, owners, p_scores, q_scores, terms, largest, k, top, j, g, bits,
+            p,
+            hp,
+            q,
+            hq,
+            owners,
+            p_scores,
+            q_scores,
+            terms,
+            largest,
+            k,
+            top,
+            j,
+            g,
+            bits,
         );
         j += 1;
     }
@@ -228,7 +241,17 @@ fn given(
     ensures { λ r. ⌜ (r ≡ urgentGiven (firstBy ahead k (map (visitOf (pointsOf (now (p .entry))) (pointsOf (now (q .entry))) (now («p_scores» .entry)) (now («q_scores» .entry))) (listTo largest terms (now (owners .entry)) (pointsOf (now (p .entry))) (pointsOf (now (q .entry))))))) × (now (bits .exit) ≡ none (length (now (bits .entry)))) ⌝ }
 {
     let g = of_all(
-        p, hp, q, hq, owners, p_scores, q_scores, terms, largest, k, bits,
+        p,
+        hp,
+        q,
+        hq,
+        owners,
+        p_scores,
+        q_scores,
+        terms,
+        largest,
+        k,
+        bits,
     );
     bits::clear(bits);
     let rows = g.rows;

@@ -12,6 +12,7 @@
 --     Nearest        nearest first: the order, the filter, the lent numbers
 --     Shortest       the shortest circles
 --     Many           many pairs at once, to a size, and how many there are
+--     Ranked         the busiest chambers and pump houses, the most urgent visits
 --     Streets        the street grid: what blocks, boxes, sizes, numbers
 --     Contractors    two contractors: whose a chamber is, what each is handed, numbers
 --     Border         a province's box: which circles lie in it, its margin, its records
@@ -28,6 +29,7 @@ pub mod Runs
 pub mod Nearest
 pub mod Shortest
 pub mod Many
+pub mod Ranked
 pub mod Streets
 pub mod Contractors
 pub mod Border
