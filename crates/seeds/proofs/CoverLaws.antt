@@ -37,7 +37,7 @@ use Rattle.walk.proofs.NodeLaws.{Node, kid}
 use Rattle.walk.proofs.PairLaws.{unblocked-free, pair-rule}
 use Rattle.seeds.specs.Line.{Lined, Among, Known, DroppedBy}
 use Rattle.seeds.specs.Covers.{Covers, On, OnEither, Settled, Deals, Retries}
-use Rattle.seeds.proofs.LineLaws.{known-in, among-in}
+use Rattle.seeds.proofs.LineLaws.{known-in, among-in, lined-same, lined-count}
 
 -- a record of a sheet that opens stands in range
 pub on-in : (w : List ℤ) (n m : ℕ) → Opens w n m → (z : Spot) → On w n z → SpotIn z
@@ -111,13 +111,18 @@ module _ (K : Spot → Type 0) (w : List ℤ) (n : ℕ) (q : Spot) where
       go r l u (no e) = inl (l, omega arith)
 
   -- one node, of the level below, after those before it
-  pub deals-node : (J : Spot → Type 0) (l first i : ℕ) (b₀ b b′ : List ℕ) → ((z : Spot) → J z → K z) → Deals K w n q (λ k. (v : ℕ) × (first ≤ v) × (v < first + i) × Below w n l v k) b₀ b → Deals J w n q (Below w n l (first + i)) b b′
+  deals-node : (J : Spot → Type 0) (l first i : ℕ) (b₀ b b′ : List ℕ) → ((z : Spot) → J z → K z) → Deals K w n q (λ k. (v : ℕ) × (first ≤ v) × (v < first + i) × Below w n l v k) b₀ b → Deals J w n q (Below w n l (first + i)) b b′
       → Deals K w n q (λ k. (v : ℕ) × (first ≤ v) × (v < first + (i + 1)) × Below w n l v k) b₀ b′
   deals-node J l first i b₀ b b′ f x y = deals-after J _ _ _ b₀ b b′ f (λ r e. go r (e .0) (e .1) (e .2) (e .3) (ℕ-discrete (e .0) (first + i))) x y
     where
       go : (r v : ℕ) → first ≤ v → v < first + (i + 1) → Below w n l v r → Dec (v ≡ first + i) → ((v : ℕ) × (first ≤ v) × (v < first + i) × Below w n l v r) ⊎ Below w n l (first + i) r
       go r v a u d (yes e) = inr (subst (λ (t : ℕ). Below w n l t r) e d)
       go r v a u d (no e) = inl (v, a, omega arith, d)
+
+  -- the same, of a node whose level was read
+  pub deals-kid : (J : Spot → Type 0) (l first i : ℕ) (b₀ b b′ : List ℕ) → levelOf w n (first + i) ≡ l → ((z : Spot) → J z → K z) → Deals K w n q (λ k. (v : ℕ) × (first ≤ v) × (v < first + i) × Below w n l v k) b₀ b
+      → Deals J w n q (Below w n (levelOf w n (first + i)) (first + i)) b b′ → Deals K w n q (λ k. (v : ℕ) × (first ≤ v) × (v < first + (i + 1)) × Below w n l v k) b₀ b′
+  deals-kid J l first i b₀ b b′ e f x y = deals-node J l first i b₀ b b′ f x (subst (λ (t : ℕ). Deals J w n q (Below w n t (first + i)) b b′) e y)
 
   -- the same places, said in another way
   pub deals-as : (C D : ℕ → Type 0) (b b′ : List ℕ) → ((r : ℕ) → D r → C r) → Deals K w n q C b b′ → Deals K w n q D b b′
@@ -149,6 +154,15 @@ module _ (K : Spot → Type 0) (w : List ℤ) (n : ℕ) (q : Spot) where
         done = λ r x. inr (z, k, box-drops q z (boxOf w n j) (spotOf w (orderOf w n r)) (ap (dropsBox q z) (sym e) ∙ d) (in-box w n m (op .table) (op .tight) (levelOf w n j) j h refl r x));
       }
 
+-- the droppers and what is dealt with, of values said in another way
+pub turn-as : (K : Spot → Type 0) (w : List ℤ) (n : ℕ) (q : Spot) (C : ℕ → Type 0) (b₀ b b′ : List ℕ) (xs xs′ ys ys′ : List ℤ) (c c′ : ℕ) → b′ ≡ b → xs′ ≡ xs → ys′ ≡ ys → c′ ≡ c
+    → Lined K xs ys c → Deals K w n q C b₀ b → length b ≡ length b₀ → Lined K xs′ ys′ c′ × Deals K w n q C b₀ b′ × (length b′ ≡ length b₀)
+turn-as K w n q C b₀ b b′ xs xs′ ys ys′ c c′ eb ex ey ec l d h = (
+  lined-count K xs′ ys′ c (lined-same K xs ys c l xs′ ys′ ex ey) c′ ec,
+  subst (Deals K w n q C b₀) (sym eb) d,
+  ap length eb ∙ h,
+)
+
 -- ---- the candidates tried again
 
 module _ (K : Spot → Type 0) (w : List ℤ) (q : Spot) where
@@ -157,6 +171,11 @@ module _ (K : Spot → Type 0) (w : List ℤ) (q : Spot) where
 
   pub retries-as : (b₀ b b′ : List ℕ) → b′ ≡ b → Retries K w q b₀ b → Retries K w q b₀ b′
   retries-as b₀ b b′ e x = subst (Retries K w q b₀) (sym e) x
+
+  -- once, and then once more
+  pub retries-after : (b₀ b b′ : List ℕ) → Retries K w q b₀ b → Retries K w q b b′ → Retries K w q b₀ b′
+  retries-after b₀ b b′ x y =
+      record { settled = λ i e. ⊎-elim (λ (t : kept b i ≡ true). y .settled i t) (λ (d : DroppedBy K q (spotOf w i)). inr d) (x .settled i e) }
 
   -- position i is taken out, since a place of K drops it
   pub retries-gone : (b₀ b b′ : List ℕ) (i : ℕ) (z : Spot) → i < 64 * length b → b′ ≡ without b i → z ≡ spotOf w i → DroppedBy K q z → Retries K w q b₀ b → Retries K w q b₀ b′

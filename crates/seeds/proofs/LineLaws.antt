@@ -11,7 +11,8 @@ use lib.IntN.{ℤ, pos}
 use lib.ListN.{length, getD, set, length-set}
 use lib.Seq.{getD-set-same, getD-set-other}
 use Rattle.plane.specs.declared.Spot.{Spot}
-use Rattle.plane.specs.Rule.{spot, drops}
+use Rattle.plane.specs.declared.Boxed.{Boxed}
+use Rattle.plane.specs.Rule.{spot, drops, dropsBox}
 use Rattle.seeds.specs.Line.{placeAt, Lined, Among, Known, Drops, DroppedBy}
 
 module _ (K : Spot → Type 0) (xs ys : List ℤ) (c : ℕ) (l : Lined K xs ys c) where
@@ -26,6 +27,10 @@ module _ (K : Spot → Type 0) (xs ys : List ℤ) (c : ℕ) (l : Lined K xs ys c
   -- fewer of them
   pub lined-few : (d : ℕ) → d ≤ c → Lined K xs ys d
   lined-few d h = record { x-long = l .x-long; y-long = l .y-long; few = omega (arith, l .few); each = λ k b. l .each k (omega arith) }
+
+  -- their number said in another way
+  pub lined-count : (d : ℕ) → d ≡ c → Lined K xs ys d
+  lined-count d e = subst (λ (x : ℕ). Lined K xs ys x) (sym e) l
 
   -- each is one of them
   pub lined-self : Lined (Among xs ys c) xs ys c
@@ -96,6 +101,10 @@ line-after New Newer xs ys c xs′ ys′ c′ xs″ ys″ c″ f a b = line-hold
 -- a test that was made of the place of dropper k, and held
 pub drops-at : (test : Spot → Bool) (xs ys : List ℤ) (c k : ℕ) (z : Spot) (t : Bool) → z ≡ placeAt xs ys k → t ≡ test z → t ≡ true → Drops test xs ys c k
 drops-at test xs ys c k z t e f y = record { holds = λ h. ap test (sym e) ∙ sym f ∙ y }
+
+-- of a box said in another way
+pub drops-box-as : (q : Spot) (o o′ : Boxed) → o ≡ o′ → (xs ys : List ℤ) (c r : ℕ) → Drops (λ z. dropsBox q z o) xs ys c r → Drops (λ z. dropsBox q z o′) xs ys c r
+drops-box-as q o o′ e xs ys c r d = subst (λ (v : Boxed). Drops (λ z. dropsBox q z v) xs ys c r) e d
 
 -- there is none
 pub drops-none : (test : Spot → Bool) (xs ys : List ℤ) (c : ℕ) → Drops test xs ys c c

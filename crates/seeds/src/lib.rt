@@ -55,6 +55,12 @@ pub fn candidates(p: &[i32], hp: Size, q: &[i32], hq: Size, j: usize, bits: &mut
     let mut xs = [0i64; 24];
     let mut ys = [0i64; 24];
     let line = first_line(p, hp, q, hq, j, z, &mut xs, &mut ys);
-    let all = walks::walk_node(p, hp.n, hp.m, z, hp.m - 1, bits, &mut xs, &mut ys, line);
-    walks::try_again(p, hp.n, hp.m, z, bits, &xs, &ys, all);
+    let mut found = [0usize; 64];
+    let none = walks::Course {
+        line: line,
+        noted: 0,
+    };
+    let root = hp.m - 1;
+    let all = walks::walk_node(p, hp.n, hp.m, z, root, bits, &mut found, &mut xs, &mut ys, none);
+    walks::try_again(p, hp.n, hp.m, z, bits, &found, &xs, &ys, all);
 }

@@ -2,22 +2,15 @@
 use plane::Boxed;
 use plane::Spot;
 ghost use mathlib.Core.Path.{_≡_};
-ghost use mathlib.Core.Bool.{true};
 ghost use Prim.Native.Nat.{_<_};
 ghost use lib.ListN.{set};
 ghost use Rattle.plane.specs.Rule.{SpotIn, BoxIn, dropsBox, drops};
-ghost use Rattle.seeds.specs.Line.{placeAt, Lined, Among, Known, At, Drops, DroppedBy};
+ghost use Rattle.seeds.specs.Line.{placeAt, Lined, Among, Known, At, Drops};
 
 // How many there are, and the number of the one that dropped last.
 pub struct Line {
     pub count: usize,
     pub last: usize,
-}
-
-// What trying a place gave: whether a dropper drops it, and the line after it.
-pub struct Tried {
-    pub dropped: bool,
-    pub line: Line,
 }
 
 // The place of dropper k.
@@ -132,7 +125,7 @@ fn farthest(q: Spot, xs: &[i64; 24], ys: &[i64; 24]) -> usize
 }
 
 // z is a dropper from now on, and those that it drops are none any more; where there are 24 the farthest goes. At q's own place nothing drops, and z is passed over.
-fn joined(q: Spot, z: Spot, xs: &mut [i64; 24], ys: &mut [i64; 24], count: usize) -> usize
+pub(crate) fn joined(q: Spot, z: Spot, xs: &mut [i64; 24], ys: &mut [i64; 24], count: usize) -> usize
     requires { ⌜ SpotIn q × SpotIn z × Lined SpotIn (now xs) (now ys) count ⌝ }
     ensures { λ r. ⌜ Lined (Known (At z) (now (xs .entry)) (now (ys .entry)) count) (now (xs .exit)) (now (ys .exit)) r ⌝ }
 {
@@ -150,34 +143,4 @@ fn joined(q: Spot, z: Spot, xs: &mut [i64; 24], ys: &mut [i64; 24], count: usize
         put(xs, ys, far, z);
     }
     c
-}
-
-// The place z is tried: a dropper drops it, or it is one from now on.
-pub(crate) fn try_place(
-    q: Spot,
-    z: Spot,
-    xs: &mut [i64; 24],
-    ys: &mut [i64; 24],
-    line: Line,
-) -> Tried
-    requires { ⌜ SpotIn q × SpotIn z × Lined SpotIn (now xs) (now ys) (line .count) ⌝ }
-    ensures { λ r. ⌜ Lined (Known (At z) (now (xs .entry)) (now (ys .entry)) (line .count)) (now (xs .exit)) (now (ys .exit)) (r .line .count) × (r .dropped ≡ true → DroppedBy (Among (now (xs .entry)) (now (ys .entry)) (line .count)) q z) ⌝ }
-{
-    let by = spot_dropper(q, z, xs, ys, line);
-    if by < line.count {
-        return Tried {
-            dropped: true,
-            line: Line {
-                count: line.count,
-                last: by,
-            },
-        };
-    }
-    Tried {
-        dropped: false,
-        line: Line {
-            count: joined(q, z, xs, ys, line.count),
-            last: line.last,
-        },
-    }
 }

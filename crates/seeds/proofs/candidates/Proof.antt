@@ -44,12 +44,12 @@ first-line-requires c κs =
     let p = z .before .before .before .before .before .before .before .before .before .pre in
     (p .0, p .1, pos-of-ne-zero (z .before .if2 .left), p .2, spot-fits _ _ _ (p .1) _ _ (p .2) (z .spot-at .ensures), refl, refl)
 
-sub-walk-node : tie.Need-sub-walk-node
-sub-walk-node c = search needs
+sub-root : tie.Need-sub-root
+sub-root c = search needs
 
 walk-node-requires : tie.Need-walk-node-requires
 walk-node-requires c κs =
-    let f = c .before .before .before .before in
+    let f = c .before .before .before .before .before in
     let z = f .before .before .before in
     let e = z .before in
     let s = e .before .before .before .before .before .before .before .before in
@@ -58,8 +58,8 @@ walk-node-requires c κs =
 
 try-again-requires : tie.Need-try-again-requires
 try-again-requires c κs =
-    let w = c .before .before .before .before .before in
-    let f = w .before .before .before .before .before in
+    let w = c .before .before .before .before .before .before in
+    let f = w .before .before .before .before .before .before in
     let z = f .before .before .before in
     let e = z .before in
     let s = e .before .before .before .before .before .before .before .before in
@@ -70,15 +70,15 @@ try-again-requires c κs =
 same-length-3 : tie.Need-same-length-3
 same-length-3 c =
     let t = c .before .before in
-    let w = t .before .before .before .before .before .before in
-    let e = w .before .before .before .before .before .before .before .before .before in
+    let w = t .before .before .before .before .before .before .before in
+    let e = w .before .before .before .before .before .before .before .before .before .before in
     t .try-again .kept .1 .1 .1 .1 .0 ∙ w .walk-node .kept .1 .1 .1 .1 .1 .0 ∙ e .before .before .before .before .clear .kept .0
 
 returns-3 : tie.Need-returns-3
 returns-3 c =
     let t = c .before .before in
-    let w = t .before .before .before .before .before .before in
-    let f = w .before .before .before .before .before in
+    let w = t .before .before .before .before .before .before .before in
+    let f = w .before .before .before .before .before .before in
     let z = f .before .before .before in
     let e = z .before in
     let s = e .before .before .before .before .before .before .before .before in
@@ -87,4 +87,4 @@ returns-3 c =
     (covers-walk _ _ _ (p .0) _ _ _ (p .1) _ (p .2) _ (z .spot-at .ensures) _ _ _ (f .first-line .ensures) _ _ _ (e .if2 .left) (w .walk-node .ensures .1) _ _ _ (w .walk-node .ensures .0) (t .try-again .ensures))
 
 pub candidates-spec : {M : Type 1} → statement M
-candidates-spec = tie.close (tie.spec fill-requires same-length returns clear-requires same-length-2 returns-2 spot-at-requires first-line-requires sub-walk-node walk-node-requires try-again-requires same-length-3 returns-3)
+candidates-spec = tie.close (tie.spec fill-requires same-length returns clear-requires same-length-2 returns-2 spot-at-requires first-line-requires sub-root walk-node-requires try-again-requires same-length-3 returns-3)

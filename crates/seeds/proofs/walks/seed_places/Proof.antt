@@ -35,8 +35,8 @@ there c =
 spot-at-requires : tie.Need-spot-at-requires Inv-loop μ-loop
 spot-at-requires c κs = (c .before .before .before .pre .0, there c)
 
-try-place-requires : tie.Need-try-place-requires Inv-loop μ-loop
-try-place-requires c κs =
+seed-place-requires : tie.Need-seed-place-requires Inv-loop μ-loop
+seed-place-requires c κs =
     let z = c .before .before in
     let l = z .before .before .before in
     let p = l .before .pre in
@@ -44,21 +44,20 @@ try-place-requires c κs =
 
 add-i : tie.Need-add-i Inv-loop μ-loop
 add-i c =
-    let i = c .before .before .before .before .before .before in
+    let i = c .before .before .before .before .before in
     let p = i .before .before .pre in
     omega (arith, i .loop-test .taken, p .2, p .0 .n-le)
 
 loop-less : tie.Need-loop-less Inv-loop μ-loop
-loop-less c = omega (arith, c .before .before .before .before .before .before .loop-test .taken)
+loop-less c = omega (arith, c .before .before .before .before .before .loop-test .taken)
 
 loop-again : tie.Need-loop-again Inv-loop μ-loop
 loop-again c =
-    let t = c .before in
-    let z = t .before .before .before in
-    line-after _ _ _ _ _ _ _ _ _ _ _ (λ y e. (z .before .order-at .result, there (z .before), e ∙ z .spot-at .ensures)) (z .before .before .before .loop .inv) (t .try-place .ensures .0)
+    let z = c .before .before .before in
+    line-after _ _ _ _ _ _ _ _ _ _ _ (λ y e. (z .before .order-at .result, there (z .before), e ∙ z .spot-at .ensures)) (z .before .before .before .loop .inv) (c .seed-place .ensures)
 
 returns : tie.Need-returns Inv-loop μ-loop
 returns c = c .before .loop .inv
 
 pub seed-places-spec : {M : Type 1} → statement M
-seed-places-spec = tie.close (tie.spec Inv-loop μ-loop loop-holds add-order-at order-at-requires spot-at-requires try-place-requires add-i loop-less loop-again returns)
+seed-places-spec = tie.close (tie.spec Inv-loop μ-loop loop-holds add-order-at order-at-requires spot-at-requires seed-place-requires add-i loop-less loop-again returns)
