@@ -782,35 +782,36 @@ def own_call(s_words, key, size, pairs=None, words=ENOUGH, grid=False):
 
 # ---------------------------------------------------------------- many pairs at once
 
-# "8*10^18 means all"
+# "To the largest size that is taken, 8,000,000,000,000,000,000, they are the pairs of the list, for none is larger."
 ANY_SIZE = 8_000_000_000_000_000_000
 
 
-# "those pairs [..] whose size is at most `largest`"
+# "whose size is at most a largest one"
 def up_to(pairs, largest):
     return [pair for pair in pairs if pair[2] <= largest]
 
 
-# "with t above 0 the chambers that have at least t such pairs, whatever the key"
+# "With t above 0 they are those of the chambers that have at least t pairs no larger than that, whatever the key."
 def list_up_to(pairs, largest, t):
     """Of the full list: those to a size, of the chambers that have at least t of these."""
     return list_of(up_to(pairs, largest), t)
 
 
-# "strictly after the key"
+# "the pairs strictly after a key"
 def pairs_after(pairs, key):
     return [pair for pair in pairs if key_of(pair) > key]
 
 
-# "the first so many as the lent slice has slots, their number, whether more follow (with no slots: 0, and whether any follow)"; "the rest of the slots
-# untouched"
+# "the first so many as there are slots lent"; "The pairs stand from the first slot on"; "The slots past them are as they were." "The answer says how many pairs
+# were stored, and whether more follow; with no slots 0, and whether any follow the key."
 def stored_in(slots, pairs):
     """How many are stored, whether more follow, the slots from now on."""
     count = min(len(slots), len(pairs))
     return count, len(pairs) > count, pairs[:count] + slots[count:]
 
 
-# "Numbers: 1-8 P, 1-8 Q, 27, 26, 29, 9, 21, a number of our own for `largest` (ours start at 40 [..]), 24"; of a count "those of `pairs` without 9"
+# "They give 1 to 8 for P, then for Q, then 27, 26, 29, 9, 21, 40 or 24, looked for in this order; for the number of pairs the same without 9"; "40 is for a
+# largest size over 8,000,000,000,000,000,000."
 def many_number(p_words, q_words, key, largest, t, words, grid, contractor, owners):
     """The number of the first refusal that applies, or 0; `key` is None for a count."""
     number = open_number(p_words) or open_number(q_words)
@@ -834,7 +835,7 @@ def many_number(p_words, q_words, key, largest, t, words, grid, contractor, owne
     return 0
 
 
-# "`own_pairs` likewise for a self join", which is undivided and has no threshold
+# "of a self join 1 to 8, 29, 9, 40 or 24, and for its number the same without 9"
 def own_many_number(s_words, key, largest, words, grid):
     """The same of a self join."""
     number = open_number(s_words)
@@ -864,7 +865,8 @@ def own_lists_pairs(s_words, pairs, largest, grid):
     return list_up_to(self_list(Sheet(s_words).points, grid) if pairs is None else pairs, largest, 0)
 
 
-# "the bits zero after an answer"; a refusal "leaves lent memory [..] as they stood"
+# "One call gives, of the list of any terms of two sheets, the pairs [..]" "These calls are lent words as those that filter are": zeros after an answer. "A refusal
+# leaves the slots and the words as they were."
 def pairs_call(p_words, q_words, key, largest, slots, t=0, pairs=None, words=ENOUGH, grid=False, contractor=UNDIVIDED, owners=()):
     """(number, how many pairs, whether more follow, the slots and the lent words from now on) of a request for many pairs. `pairs` as above."""
     number = many_number(p_words, q_words, key, largest, t, words, grid, contractor, owners)
@@ -874,6 +876,7 @@ def pairs_call(p_words, q_words, key, largest, slots, t=0, pairs=None, words=ENO
     return (0,) + stored_in(slots, pairs_after(listed, key)) + (with_zeros(words, Sheet(p_words)),)
 
 
+# "A self join has both calls too, of its one sheet, with no t and undivided."
 def own_pairs_call(s_words, key, largest, slots, pairs=None, words=ENOUGH, grid=False):
     """The same of a self join."""
     number = own_many_number(s_words, key, largest, words, grid)
@@ -883,7 +886,7 @@ def own_pairs_call(s_words, key, largest, slots, pairs=None, words=ENOUGH, grid=
     return (0,) + stored_in(slots, pairs_after(listed, key)) + (with_zeros(words, Sheet(s_words)),)
 
 
-# "`count`: the number of pairs of such a list, 64-bit, so that a caller can lend enough"
+# "One call says how many pairs such a list has"
 def count_call(p_words, q_words, largest, t=0, pairs=None, words=ENOUGH, grid=False, contractor=UNDIVIDED, owners=()):
     """(number, how many pairs the list has, the lent words from now on). `pairs` as above."""
     number = many_number(p_words, q_words, None, largest, t, words, grid, contractor, owners)
