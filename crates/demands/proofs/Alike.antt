@@ -37,11 +37,14 @@ use Rattle.depot.specs.Forms.{formsOut, madeArray}
 use Rattle.depot.specs.Depot.{storedSlots, storedArray}
 use Rattle.runs.specs.declared.RunArray.{RunArray}
 use Rattle.runs.specs.Run as runs
+use Rattle.ranked.specs.declared.Asked.{Asked as RankAsked}
+use Rattle.ranked.specs.declared.Busy.{Busy}
+use Rattle.ranked.specs.declared.Urgent.{Urgent}
 use Rattle.many.specs.declared.Which.{Which}
 use Rattle.many.specs.declared.Wanted.{Wanted}
 use Rattle.many.specs.declared.Counted.{Counted}
 use Rattle.many.specs.declared.Many.{Many}
-use Rattle.demands.specs.Promises.{FormsAnswers, StoreAnswers, FormsArrayAnswers, StoreArrayAnswers, Place, HeadAnswers, PointAnswers, FilterAnswers, RingAnswers, PageAnswers, PartnersAnswers, ShortAnswers, NextAnswers, TakeAnswers, NextArrayAnswers, TakeArrayAnswers, RunAnswers, RunArrayAnswers, ViewPoints, ViewFilters, ViewRings, ViewPages, ViewPartners, ViewRuns, ViewShortest, OpenHead, PointOpened, OwnAnswers, ViewOwnPages, NearestAnswers, NearFilterAnswers, ViewNearest, ViewNearFilters, PairsAnswers, OwnPairsAnswers, CountAnswers, OwnCountAnswers, ViewMany, ViewOwnMany, ViewCounts, ViewOwnCounts}
+use Rattle.demands.specs.Promises.{FormsAnswers, StoreAnswers, FormsArrayAnswers, StoreArrayAnswers, Place, HeadAnswers, PointAnswers, FilterAnswers, RingAnswers, PageAnswers, PartnersAnswers, ShortAnswers, NextAnswers, TakeAnswers, NextArrayAnswers, TakeArrayAnswers, RunAnswers, RunArrayAnswers, ViewPoints, ViewFilters, ViewRings, ViewPages, ViewPartners, ViewRuns, ViewShortest, OpenHead, PointOpened, OwnAnswers, ViewOwnPages, NearestAnswers, NearFilterAnswers, ViewNearest, ViewNearFilters, PairsAnswers, OwnPairsAnswers, CountAnswers, OwnCountAnswers, ViewMany, ViewOwnMany, ViewCounts, ViewOwnCounts, BusyAnswers, PumpAnswers, UrgentAnswers, ViewBusiest, ViewPumps, ViewUrgent}
 
 -- ---- through a view
 
@@ -90,6 +93,15 @@ view-count l b p q o which w r w′ a = record { κs = ([], ([], ([], ([], tt)))
 
 pub view-own-count : (b : Place) (d : Sheet) (big : ℕ) (g : Bool) (w : List ℕ) (r : Counted) (w′ : List ℕ) → ViewOwnCounts d big g w r w′ → OwnCountAnswers (now (d .words)) big g w r w′
 view-own-count b d big g w r w′ a = record { κs = ([], ([], tt)); w-at = place (d .words); b-at = b; promised = a }
+
+pub view-busiest : (l b : Place) (p q : Sheet) (o : List ℕ) (ask : RankAsked) (w : List ℕ) (r : Busy) (w′ : List ℕ) → ViewBusiest p q o ask w r w′ → BusyAnswers (now (p .words)) (now (q .words)) o ask w r w′
+view-busiest l b p q o ask w r w′ a = record { κs = ([], ([], ([], ([], tt)))); p-at = place (p .words); q-at = place (q .words); o-at = l; b-at = b; promised = a }
+
+pub view-busiest-pumps : (b : Place) (p q : Sheet) (k big : ℕ) (g : Bool) (w : List ℕ) (r : Busy) (w′ : List ℕ) → ViewPumps p q k big g w r w′ → PumpAnswers (now (p .words)) (now (q .words)) k big g w r w′
+view-busiest-pumps b p q k big g w r w′ a = record { κs = ([], ([], ([], tt))); p-at = place (p .words); q-at = place (q .words); b-at = b; promised = a }
+
+pub view-urgent : (l m n b : Place) (p q : Sheet) (o ps qs : List ℕ) (ask : RankAsked) (w : List ℕ) (r : Urgent) (w′ : List ℕ) → ViewUrgent p q o ps qs ask w r w′ → UrgentAnswers (now (p .words)) (now (q .words)) o ps qs ask w r w′
+view-urgent l m n b p q o ps qs ask w r w′ a = record { κs = ([], ([], ([], ([], ([], ([], tt)))))); p-at = place (p .words); q-at = place (q .words); o-at = l; ps-at = m; qs-at = n; b-at = b; promised = a }
 
 -- ---- for callers that hold no view
 

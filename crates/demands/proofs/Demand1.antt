@@ -95,6 +95,12 @@ use Rattle.nearest.proofs.Meaning as of-nearest
 use Rattle.runs.specs.declared.Run.{Run}
 use Rattle.runs.specs.declared.RunArray.{RunArray}
 use Rattle.runs.specs.Run.{runNo, runRefused, runAnswer, runSlots}
+use Rattle.ranked.specs.declared.Asked.{Asked as RankAsked}
+use Rattle.ranked.specs.declared.Rank.{Rank}
+use Rattle.ranked.specs.declared.Busy.{Busy}
+use Rattle.ranked.specs.declared.Urgent.{Urgent}
+use Rattle.ranked.specs.Busiest.{busyNo, pumpNo, busyGiven, busyRefused, busiestOf, busiestPumps, busyAnswer, busyBits, pumpAnswer, pumpBits}
+use Rattle.ranked.specs.Urgent.{urgentNo, urgentGiven, urgentRefused, urgentOf, urgentAnswer, urgentBits}
 use Rattle.many.specs.declared.Which.{Which}
 use Rattle.many.specs.declared.Wanted.{Wanted}
 use Rattle.many.specs.declared.Counted.{Counted}
@@ -102,7 +108,7 @@ use Rattle.many.specs.declared.Many.{Many}
 use Rattle.many.specs.Many.{pairsNo, ownPairsNo, countNo, ownCountNo, pairsList, ownList, manyGiven, manyRefused, stored, pairsAnswer, pairsSlots, pairsBits, ownPairsAnswer, ownPairsSlots, ownPairsBits, countGiven, countRefused, whichTerms, countAnswer, countBits, ownCountAnswer, ownCountBits}
 use Rattle.runs.proofs.Once as of-runs
 use Rattle.runs.proofs.Meaning as of-run
-use Rattle.demands.specs.Promises.{FormsAnswers, StoreAnswers, OpenAnswers, HeadAnswers, PointAnswers, FilterAnswers, RingAnswers, PageAnswers, ShortAnswers, PackAnswers, MarkAnswers, BeginAnswers, NextAnswers, TakeAnswers, TakeArrayAnswers, RunAnswers, RunArrayAnswers, ViewOpens, PartnersAnswers, NearestAnswers, NearFilterAnswers, OwnAnswers, PairsAnswers, OwnPairsAnswers, CountAnswers, OwnCountAnswers}
+use Rattle.demands.specs.Promises.{FormsAnswers, StoreAnswers, OpenAnswers, HeadAnswers, PointAnswers, FilterAnswers, RingAnswers, PageAnswers, ShortAnswers, PackAnswers, MarkAnswers, BeginAnswers, NextAnswers, TakeAnswers, TakeArrayAnswers, RunAnswers, RunArrayAnswers, ViewOpens, PartnersAnswers, NearestAnswers, NearFilterAnswers, OwnAnswers, PairsAnswers, OwnPairsAnswers, CountAnswers, OwnCountAnswers, BusyAnswers, PumpAnswers, UrgentAnswers}
 use Rattle.demands.proofs.Alike.{take-array, take-array-slots, run-array, run-array-slots}
 
 -- the number k is one of refusal
@@ -292,6 +298,36 @@ pub own-count-no : (S : List ℤ) (big : ℕ) (g : Bool) (w : List ℕ) (r : Cou
     → (r .number ≡ ownCountNo S big g (length w)) × (Refuses (ownCountNo S big g (length w)) → (r ≡ countRefused (ownCountNo S big g (length w))) × (w′ ≡ w))
 unfolding ownCountAnswer ownCountBits countGiven
 own-count-no S big g w r w′ a = count-by (ownCountNo S big g (length w)) (need S) (countGiven big (aloneBy g) [] S S) refl w r w′ (a .promised)
+
+-- ---- the busiest, 1 to 8 for P, then for Q, then 27, then 26, then 29, then 10, then 40, then 24, of pump houses without 27 and 26; the most urgent, as the busiest, and before 24 41 and 42:
+-- refused, the rows are zeros, and so is their count, and the lent words are as they were
+
+busy-by : (nr n : ℕ) (l : List Rank) (w : List ℕ) (r : Busy) (w′ : List ℕ) → (r ≡ answer nr (busyGiven l) busyRefused) × (w′ ≡ wipedBy nr n w) → (r .number ≡ nr) × (Refuses nr → (r ≡ busyRefused nr) × (w′ ≡ w))
+unfolding busyGiven busyRefused
+busy-by nr n l w r w′ a = (
+  ap (λ (x : Busy). x .number) (a .0) ∙ answer-number (busyGiven l) busyRefused (λ (x : Busy). x .number) refl (λ k. refl) nr,
+  λ ne. (a .0 ∙ answer-refused (busyGiven l) busyRefused nr nr refl ne, a .1 ∙ sym (wiped-refused w n nr nr refl ne)),
+)
+
+pub busy-no : (P Q : List ℤ) (o : List ℕ) (ask : RankAsked) (w : List ℕ) (r : Busy) (w′ : List ℕ) → BusyAnswers P Q o ask w r w′
+    → (r .number ≡ busyNo P Q o ask (length w)) × (Refuses (busyNo P Q o ask (length w)) → (r ≡ busyRefused (busyNo P Q o ask (length w))) × (w′ ≡ w))
+unfolding busyAnswer busyBits
+busy-no P Q o ask w r w′ a = busy-by (busyNo P Q o ask (length w)) (need P) (busiestOf P Q o ask) w r w′ (a .promised)
+
+pub pump-no : (P Q : List ℤ) (k big : ℕ) (g : Bool) (w : List ℕ) (r : Busy) (w′ : List ℕ) → PumpAnswers P Q k big g w r w′
+    → (r .number ≡ pumpNo P Q k big g (length w)) × (Refuses (pumpNo P Q k big g (length w)) → (r ≡ busyRefused (pumpNo P Q k big g (length w))) × (w′ ≡ w))
+unfolding pumpAnswer pumpBits
+pump-no P Q k big g w r w′ a = busy-by (pumpNo P Q k big g (length w)) (need Q) (busiestPumps P Q k big g) w r w′ (a .promised)
+
+pub urgent-no : (P Q : List ℤ) (o ps qs : List ℕ) (ask : RankAsked) (w : List ℕ) (r : Urgent) (w′ : List ℕ) → UrgentAnswers P Q o ps qs ask w r w′
+    → (r .number ≡ urgentNo P Q o ps qs ask (length w)) × (Refuses (urgentNo P Q o ps qs ask (length w)) → (r ≡ urgentRefused (urgentNo P Q o ps qs ask (length w))) × (w′ ≡ w))
+unfolding urgentAnswer urgentBits urgentGiven urgentRefused
+urgent-no P Q o ps qs ask w r w′ a =
+    let nr = urgentNo P Q o ps qs ask (length w) in
+    let good = urgentGiven (urgentOf P Q o ps qs ask) in (
+      ap (λ (x : Urgent). x .number) (a .promised .0) ∙ answer-number good urgentRefused (λ (x : Urgent). x .number) refl (λ k. refl) nr,
+      λ ne. (a .promised .0 ∙ answer-refused good urgentRefused nr nr refl ne, a .promised .1 ∙ sym (wiped-refused w (need P) nr nr refl ne)),
+    )
 
 -- ---- begin, 3, then 21
 

@@ -37,11 +37,13 @@ use Rattle.shortest.specs.Answer.{shortBits}
 use Rattle.nearest.specs.Nearest.{standsAt, nearFilterNo, nearKeptFor}
 use Rattle.nearest.proofs.Meaning.{near-filter-words-given}
 use Rattle.runs.specs.Run.{runNeed, runBits}
+use Rattle.ranked.specs.Busiest.{busyBits, pumpBits}
+use Rattle.ranked.specs.Urgent.{urgentBits}
 use Rattle.many.specs.Many.{pairsBits, ownPairsBits, countBits, ownCountBits}
 use Rattle.demands.specs.Promises.{FilterAnswers, NearFilterAnswers}
-use Rattle.demands.specs.Lent.{Filters, filters-walk, filters-near, Works, works-page, works-own, works-partners, works-short, works-run, works-array, works-pairs, works-own-pairs, works-count, works-own-count, Lends, lends-filter, lends-work}
+use Rattle.demands.specs.Lent.{Filters, filters-walk, filters-near, Works, works-page, works-own, works-partners, works-short, works-run, works-array, works-pairs, works-own-pairs, works-count, works-own-count, works-busy, works-pumps, works-urgent, Lends, lends-filter, lends-work}
 use Rattle.demands.proofs.Alike.{run-array}
-use Rattle.demands.proofs.Demand1.{filter-no, near-filter-no, page-no, own-no, partners-no, short-no, run-no, run-array-no, pairs-no, own-pairs-no, count-no, own-count-no}
+use Rattle.demands.proofs.Demand1.{filter-no, near-filter-no, page-no, own-no, partners-no, short-no, run-no, run-array-no, pairs-no, own-pairs-no, count-no, own-count-no, busy-no, pump-no, urgent-no}
 
 -- ---- words that start with a set of n, and go on as others did
 
@@ -108,7 +110,7 @@ filter-refuses (filters-near P Q id ws w r ws′ w′ a) ne = let z = near-filte
 
 -- the words by its number
 works-by : {n k : ℕ} {w w′ : List ℕ} → Works n k w w′ → w′ ≡ wipedBy k n w
-unfolding pageBits ownBits partnersBits shortBits runBits pairsBits ownPairsBits countBits ownCountBits
+unfolding pageBits ownBits partnersBits shortBits runBits pairsBits ownPairsBits countBits ownCountBits busyBits pumpBits urgentBits
 works-by (works-page P Q o ask w r w′ a) = a .promised .1 ∙ ap (λ (m : ℕ). wipedBy m (need P) w) (sym (page-no P Q o ask w r w′ a .0))
 works-by (works-own S key size g w r w′ a) = a .promised .1 ∙ ap (λ (m : ℕ). wipedBy m (need S) w) (sym (own-no S key size g w r w′ a .0))
 works-by (works-partners P Q id t w r w′ a) = a .promised .1 ∙ ap (λ (m : ℕ). wipedBy m (need P) w) (sym (partners-no P Q id t w r w′ a .0))
@@ -120,6 +122,9 @@ works-by (works-pairs P Q o ask slots w r slots′ w′ a) = a .2 ∙ ap (λ (m 
 works-by (works-own-pairs S key big g slots w r slots′ w′ a) = a .2 ∙ ap (λ (m : ℕ). wipedBy m (need S) w) (sym (own-pairs-no S key big g slots w r slots′ w′ a .0))
 works-by (works-count P Q o which w r w′ a) = a .promised .1 ∙ ap (λ (m : ℕ). wipedBy m (need P) w) (sym (count-no P Q o which w r w′ a .0))
 works-by (works-own-count S big g w r w′ a) = a .promised .1 ∙ ap (λ (m : ℕ). wipedBy m (need S) w) (sym (own-count-no S big g w r w′ a .0))
+works-by (works-busy P Q o ask w r w′ a) = a .promised .1 ∙ ap (λ (m : ℕ). wipedBy m (need P) w) (sym (busy-no P Q o ask w r w′ a .0))
+works-by (works-pumps P Q k big g w r w′ a) = a .promised .1 ∙ ap (λ (m : ℕ). wipedBy m (need Q) w) (sym (pump-no P Q k big g w r w′ a .0))
+works-by (works-urgent P Q o ps qs ask w r w′ a) = a .promised .1 ∙ ap (λ (m : ℕ). wipedBy m (need P) w) (sym (urgent-no P Q o ps qs ask w r w′ a .0))
 
 zeros-left : {n k : ℕ} {w w′ : List ℕ} → Works n k w w′ → k ≡ 0 → w′ ≡ replicate n 0 ++ drop n w
 unfolding wiped

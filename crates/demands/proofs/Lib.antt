@@ -8,6 +8,7 @@
 --     Nearest     the pump houses nearest first, and the filter that goes so
 --     SizedLaws   the list to a size, as a list of points makes it
 --     Many        many pairs at once, to a size, and how many there are
+--     Ranked      the busiest chambers and pump houses, the most urgent visits
 --     Found       how many words a sheet of n points has, and where the record with an id stands
 --     Demand3     the book's story, with the pages that the shipped page request answers
 --     Blind       what one contractor is handed does not depend on the ids of the other's chambers
@@ -30,6 +31,7 @@ pub mod Nearest
 pub mod Found
 pub mod SizedLaws
 pub mod Many
+pub mod Ranked
 pub mod Demand3
 pub mod Blind
 pub mod OverC

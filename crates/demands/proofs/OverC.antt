@@ -59,6 +59,9 @@ use Rattle.depot.proofs.TakeLaws as of-depot
 use Rattle.shortest.specs.declared.Shortlist.{Shortlist}
 use Rattle.nearest.specs.declared.Found.{Found}
 use Rattle.runs.specs.declared.Run.{Run}
+use Rattle.ranked.specs.declared.Asked.{Asked as RankAsked}
+use Rattle.ranked.specs.declared.Busy.{Busy}
+use Rattle.ranked.specs.declared.Urgent.{Urgent}
 use Rattle.many.specs.declared.Which.{Which}
 use Rattle.many.specs.declared.Wanted.{Wanted}
 use Rattle.many.specs.declared.Counted.{Counted}
@@ -90,6 +93,9 @@ use Rattle.ffi.proofs.ring_nearest.Reads as nearest-c
 use Rattle.ffi.proofs.ring_near_filter.Reads as near-filter-c
 use Rattle.ffi.proofs.ring_count.Reads as count-c
 use Rattle.ffi.proofs.ring_own_count.Reads as own-count-c
+use Rattle.ffi.proofs.ring_busiest.Reads as busiest-c
+use Rattle.ffi.proofs.ring_busiest_pumps.Reads as busiest-pumps-c
+use Rattle.ffi.proofs.ring_urgent.Reads as urgent-c
 use Rattle.ffi.proofs.ring_book_begin.Reads as begin-c
 use Rattle.ffi.proofs.ring_depot_begin.Reads as depot-begin-c
 use Rattle.ffi.proofs.ring_marker.Reads as mark-c
@@ -100,8 +106,8 @@ use Rattle.ffi.proofs.ring_depot_take as store-c
 use Rattle.ffi.proofs.ring_leaf_run as run-c
 use Rattle.ffi.proofs.ring_pairs as pairs-c
 use Rattle.ffi.proofs.ring_own_pairs as own-pairs-c
-use Rattle.demands.specs.Promises.{LengthAnswers, PlaceAnswers, FormsAnswers, DepotBegins, StoreAnswers, Place, slice, HeadAnswers, PointAnswers, FilterAnswers, RingAnswers, PageAnswers, ShortAnswers, PackAnswers, MarkAnswers, BeginAnswers, NextAnswers, TakeAnswers, RunAnswers, PartnersAnswers, NearestAnswers, NearFilterAnswers, OwnAnswers, PairsAnswers, OwnPairsAnswers, CountAnswers, OwnCountAnswers}
-use Rattle.demands.specs.OverC.{LengthC, PlaceC, DepotBeginC, StoreC, OpenC, PackC, PointC, FilterC, WalkC, PageC, ShortC, BeginC, MarkC, NextC, PartnersC, NearestC, NearFilterC, OwnC, CountC, OwnCountC}
+use Rattle.demands.specs.Promises.{LengthAnswers, PlaceAnswers, FormsAnswers, DepotBegins, StoreAnswers, Place, slice, HeadAnswers, PointAnswers, FilterAnswers, RingAnswers, PageAnswers, ShortAnswers, PackAnswers, MarkAnswers, BeginAnswers, NextAnswers, TakeAnswers, RunAnswers, PartnersAnswers, NearestAnswers, NearFilterAnswers, OwnAnswers, PairsAnswers, OwnPairsAnswers, CountAnswers, OwnCountAnswers, BusyAnswers, PumpAnswers, UrgentAnswers}
+use Rattle.demands.specs.OverC.{LengthC, PlaceC, DepotBeginC, StoreC, OpenC, PackC, PointC, FilterC, WalkC, PageC, ShortC, BeginC, MarkC, NextC, PartnersC, NearestC, NearFilterC, OwnC, CountC, OwnCountC, BusyC, PumpC, UrgentC}
 use Rattle.demands.proofs.Once as once
 
 -- ---- every input is taken
@@ -150,6 +156,15 @@ count-c-takes κs a = tt
 
 pub own-count-c-takes : (κs : Lfts 2) (a : _) → own-count-c.Asked κs a
 own-count-c-takes κs a = tt
+
+pub busiest-c-takes : (κs : Lfts 4) (a : _) → busiest-c.Asked κs a
+busiest-c-takes κs a = tt
+
+pub busiest-pumps-c-takes : (κs : Lfts 3) (a : _) → busiest-pumps-c.Asked κs a
+busiest-pumps-c-takes κs a = tt
+
+pub urgent-c-takes : (κs : Lfts 6) (a : _) → urgent-c.Asked κs a
+urgent-c-takes κs a = tt
 
 pub begin-c-takes : (κs : Lfts 0) (a : _) → begin-c.Asked κs a
 begin-c-takes κs a = tt
@@ -271,6 +286,15 @@ count-over P Q o which w r w′ a = record { κs = a .κs; p-at = a .p-at; q-at 
 
 pub own-count-over : (S : List ℤ) (big : ℕ) (g : Bool) (w : List ℕ) (r : Counted) (w′ : List ℕ) → OwnCountC S big g w r w′ → OwnCountAnswers S big g w r w′
 own-count-over S big g w r w′ a = record { κs = a .κs; w-at = a .w-at; b-at = a .b-at; promised = a .promised }
+
+pub busiest-over : (P Q : List ℤ) (o : List ℕ) (ask : RankAsked) (w : List ℕ) (r : Busy) (w′ : List ℕ) → BusyC P Q o ask w r w′ → BusyAnswers P Q o ask w r w′
+busiest-over P Q o ask w r w′ a = record { κs = a .κs; p-at = a .p-at; q-at = a .q-at; o-at = a .o-at; b-at = a .b-at; promised = a .promised }
+
+pub busiest-pumps-over : (P Q : List ℤ) (k big : ℕ) (g : Bool) (w : List ℕ) (r : Busy) (w′ : List ℕ) → PumpC P Q k big g w r w′ → PumpAnswers P Q k big g w r w′
+busiest-pumps-over P Q k big g w r w′ a = record { κs = a .κs; p-at = a .p-at; q-at = a .q-at; b-at = a .b-at; promised = a .promised }
+
+pub urgent-over : (P Q : List ℤ) (o ps qs : List ℕ) (ask : RankAsked) (w : List ℕ) (r : Urgent) (w′ : List ℕ) → UrgentC P Q o ps qs ask w r w′ → UrgentAnswers P Q o ps qs ask w r w′
+urgent-over P Q o ps qs ask w r w′ a = record { κs = a .κs; p-at = a .p-at; q-at = a .q-at; o-at = a .o-at; ps-at = a .ps-at; qs-at = a .qs-at; b-at = a .b-at; promised = a .promised }
 
 pub point-over : (w : List ℤ) (i : ℕ) (c : PointAnswer) (r : Pointed) → PointC w i c → PointAnswers w i r → c ≡ pointOver r
 point-over w i c r a b = a .promised ∙ ap pointOver (sym (b .promised))
@@ -412,6 +436,15 @@ count-c-once P Q o which w r r′ t t′ a b = once.count-once P Q o which w r r
 
 pub own-count-c-once : (S : List ℤ) (big : ℕ) (g : Bool) (w : List ℕ) (r r′ : Counted) (t t′ : List ℕ) → OwnCountC S big g w r t → OwnCountC S big g w r′ t′ → (r ≡ r′) × (t ≡ t′)
 own-count-c-once S big g w r r′ t t′ a b = once.own-count-once S big g w r r′ t t′ (own-count-over S big g w r t a) (own-count-over S big g w r′ t′ b)
+
+pub busiest-c-once : (P Q : List ℤ) (o : List ℕ) (ask : RankAsked) (w : List ℕ) (r r′ : Busy) (t t′ : List ℕ) → BusyC P Q o ask w r t → BusyC P Q o ask w r′ t′ → (r ≡ r′) × (t ≡ t′)
+busiest-c-once P Q o ask w r r′ t t′ a b = once.busiest-once P Q o ask w r r′ t t′ (busiest-over P Q o ask w r t a) (busiest-over P Q o ask w r′ t′ b)
+
+pub busiest-pumps-c-once : (P Q : List ℤ) (k big : ℕ) (g : Bool) (w : List ℕ) (r r′ : Busy) (t t′ : List ℕ) → PumpC P Q k big g w r t → PumpC P Q k big g w r′ t′ → (r ≡ r′) × (t ≡ t′)
+busiest-pumps-c-once P Q k big g w r r′ t t′ a b = once.busiest-pumps-once P Q k big g w r r′ t t′ (busiest-pumps-over P Q k big g w r t a) (busiest-pumps-over P Q k big g w r′ t′ b)
+
+pub urgent-c-once : (P Q : List ℤ) (o ps qs : List ℕ) (ask : RankAsked) (w : List ℕ) (r r′ : Urgent) (t t′ : List ℕ) → UrgentC P Q o ps qs ask w r t → UrgentC P Q o ps qs ask w r′ t′ → (r ≡ r′) × (t ≡ t′)
+urgent-c-once P Q o ps qs ask w r r′ t t′ a b = once.urgent-once P Q o ps qs ask w r r′ t t′ (urgent-over P Q o ps qs ask w r t a) (urgent-over P Q o ps qs ask w r′ t′ b)
 
 pub begin-c-once : (s : Source) (r r′ : BookAnswer) → BeginC s r → BeginC s r′ → r ≡ r′
 begin-c-once s r r′ a b = a .promised ∙ sym (b .promised)

@@ -41,6 +41,9 @@ use Rattle.shortest.specs.declared.Shortlist.{Shortlist}
 use Rattle.nearest.specs.declared.Found.{Found}
 use Rattle.runs.specs.declared.Run.{Run}
 use Rattle.runs.proofs.leaf_run as leaf-run
+use Rattle.ranked.specs.declared.Asked.{Asked as RankAsked}
+use Rattle.ranked.specs.declared.Busy.{Busy}
+use Rattle.ranked.specs.declared.Urgent.{Urgent}
 use Rattle.many.specs.declared.Which.{Which}
 use Rattle.many.specs.declared.Wanted.{Wanted}
 use Rattle.many.specs.declared.Counted.{Counted}
@@ -62,7 +65,10 @@ use Rattle.view.proofs.pairs_at as view-pairs
 use Rattle.view.proofs.own_pairs_at as view-own-pairs
 use Rattle.view.proofs.count_at as view-count
 use Rattle.view.proofs.own_count_at as view-own-count
-use Rattle.demands.specs.Promises.{Place, slice, NextAnswers, TakeAnswers, FormsAnswers, StoreAnswers, RunAnswers, ViewOpens, ViewPoints, ViewFilters, ViewRings, ViewPages, ViewPartners, ViewOwnPages, ViewRuns, ViewShortest, ViewNearest, ViewNearFilters, PairsAnswers, OwnPairsAnswers, ViewMany, ViewOwnMany, ViewCounts, ViewOwnCounts}
+use Rattle.view.proofs.busiest_at as view-busiest
+use Rattle.view.proofs.busiest_pumps_at as view-busiest-pumps
+use Rattle.view.proofs.urgent_at as view-urgent
+use Rattle.demands.specs.Promises.{Place, slice, NextAnswers, TakeAnswers, FormsAnswers, StoreAnswers, RunAnswers, ViewOpens, ViewPoints, ViewFilters, ViewRings, ViewPages, ViewPartners, ViewOwnPages, ViewRuns, ViewShortest, ViewNearest, ViewNearFilters, PairsAnswers, OwnPairsAnswers, ViewMany, ViewOwnMany, ViewCounts, ViewOwnCounts, ViewBusiest, ViewPumps, ViewUrgent}
 
 module _ {M : Type 1} (𝓤 : URA M) (H : Heap 𝓤) (A : Atoms 𝓤) (mem : Memory → SProp 𝓤) (run : Routine → Fun 𝓤) where
   pub next-key-says : (κs : Lfts 1) (l : Place) (b : Book) (s : List Pair) (r : Asked)
@@ -171,3 +177,18 @@ module _ {M : Type 1} (𝓤 : URA M) (H : Heap 𝓤) (A : Atoms 𝓤) (mem : Mem
       → view-own-count.ensures-1 𝓤 H κs A mem run d big g (slice b-at w) (record { entry = d; exit = d }) (record { entry = big; exit = big }) (record { entry = g; exit = g }) (record { entry = slice b-at w; exit = slice b-at w′ }) r
       ≡ fact 𝓤 (ViewOwnCounts d big g w r w′)
   view-own-count-says κs b-at d big g w r w′ = refl
+
+  pub view-busiest-says : (κs : Lfts 4) (o-at b-at : Place) (p q : Sheet) (o : List ℕ) (ask : RankAsked) (w : List ℕ) (r : Busy) (w′ : List ℕ)
+      → view-busiest.ensures-1 𝓤 H κs A mem run p q (slice o-at o) ask (slice b-at w) (record { entry = p; exit = p }) (record { entry = q; exit = q }) (record { entry = slice o-at o; exit = slice o-at o }) (record { entry = ask; exit = ask }) (record { entry = slice b-at w; exit = slice b-at w′ }) r
+      ≡ fact 𝓤 (ViewBusiest p q o ask w r w′)
+  view-busiest-says κs o-at b-at p q o ask w r w′ = refl
+
+  pub view-busiest-pumps-says : (κs : Lfts 3) (b-at : Place) (p q : Sheet) (k big : ℕ) (g : Bool) (w : List ℕ) (r : Busy) (w′ : List ℕ)
+      → view-busiest-pumps.ensures-1 𝓤 H κs A mem run p q k big g (slice b-at w) (record { entry = p; exit = p }) (record { entry = q; exit = q }) (record { entry = k; exit = k }) (record { entry = big; exit = big }) (record { entry = g; exit = g }) (record { entry = slice b-at w; exit = slice b-at w′ }) r
+      ≡ fact 𝓤 (ViewPumps p q k big g w r w′)
+  view-busiest-pumps-says κs b-at p q k big g w r w′ = refl
+
+  pub view-urgent-says : (κs : Lfts 6) (o-at ps-at qs-at b-at : Place) (p q : Sheet) (o ps qs : List ℕ) (ask : RankAsked) (w : List ℕ) (r : Urgent) (w′ : List ℕ)
+      → view-urgent.ensures-1 𝓤 H κs A mem run p q (slice o-at o) (slice ps-at ps) (slice qs-at qs) ask (slice b-at w) (record { entry = p; exit = p }) (record { entry = q; exit = q }) (record { entry = slice o-at o; exit = slice o-at o }) (record { entry = slice ps-at ps; exit = slice ps-at ps }) (record { entry = slice qs-at qs; exit = slice qs-at qs }) (record { entry = ask; exit = ask }) (record { entry = slice b-at w; exit = slice b-at w′ }) r
+      ≡ fact 𝓤 (ViewUrgent p q o ps qs ask w r w′)
+  view-urgent-says κs o-at ps-at qs-at b-at p q o ps qs ask w r w′ = refl

@@ -34,6 +34,9 @@ use Rattle.depot.proofs.take_array.Reads as store-array
 use Rattle.runs.proofs.run_array.Reads as run-array
 use Rattle.many.proofs.count.count.Reads as count
 use Rattle.many.proofs.count.own_count.Reads as own-count
+use Rattle.ranked.proofs.busiest.busiest.Reads as busiest
+use Rattle.ranked.proofs.busiest.busiest_pumps.Reads as busiest-pumps
+use Rattle.ranked.proofs.visits.urgent.Reads as urgent
 use Rattle.view.proofs.open_head.Reads as open-head
 use Rattle.view.proofs.point_opened.Reads as point-opened
 use Rattle.book.proofs.Book.next_key as next-key
@@ -58,6 +61,9 @@ use Rattle.view.proofs.pairs_at as view-pairs
 use Rattle.view.proofs.own_pairs_at as view-own-pairs
 use Rattle.view.proofs.count_at as view-count
 use Rattle.view.proofs.own_count_at as view-own-count
+use Rattle.view.proofs.busiest_at as view-busiest
+use Rattle.view.proofs.busiest_pumps_at as view-busiest-pumps
+use Rattle.view.proofs.urgent_at as view-urgent
 
 pub open-no-takes : (κs : Lfts 1) (a : _) → open-no.Asked κs a
 open-no-takes κs a = tt
@@ -131,6 +137,15 @@ count-takes κs a = tt
 pub own-count-takes : (κs : Lfts 2) (a : _) → own-count.Asked κs a
 own-count-takes κs a = tt
 
+pub busiest-takes : (κs : Lfts 4) (a : _) → busiest.Asked κs a
+busiest-takes κs a = tt
+
+pub busiest-pumps-takes : (κs : Lfts 3) (a : _) → busiest-pumps.Asked κs a
+busiest-pumps-takes κs a = tt
+
+pub urgent-takes : (κs : Lfts 6) (a : _) → urgent.Asked κs a
+urgent-takes κs a = tt
+
 pub open-head-takes : (κs : Lfts 1) (a : _) → open-head.Asked κs a
 open-head-takes κs a = tt
 
@@ -203,3 +218,12 @@ module _ {M : Type 1} (𝓤 : URA M) (H : Heap 𝓤) (A : Atoms 𝓤) (mem : Mem
 
   pub view-own-count-takes : (κs : Lfts 2) (a : _) → view-own-count.clauses 𝓤 H A mem run κs a .requires tt ≡ emp 𝓤
   view-own-count-takes κs a = refl
+
+  pub view-busiest-takes : (κs : Lfts 4) (a : _) → view-busiest.clauses 𝓤 H A mem run κs a .requires tt ≡ emp 𝓤
+  view-busiest-takes κs a = refl
+
+  pub view-busiest-pumps-takes : (κs : Lfts 3) (a : _) → view-busiest-pumps.clauses 𝓤 H A mem run κs a .requires tt ≡ emp 𝓤
+  view-busiest-pumps-takes κs a = refl
+
+  pub view-urgent-takes : (κs : Lfts 6) (a : _) → view-urgent.clauses 𝓤 H A mem run κs a .requires tt ≡ emp 𝓤
+  view-urgent-takes κs a = refl

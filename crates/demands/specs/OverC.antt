@@ -18,6 +18,9 @@ use Rattle.ring.specs.declared.Placed.{Placed}
 use Rattle.nearest.specs.declared.Found.{Found}
 use Rattle.many.specs.declared.Which.{Which}
 use Rattle.many.specs.declared.Counted.{Counted}
+use Rattle.ranked.specs.declared.Asked.{Asked as RankAsked}
+use Rattle.ranked.specs.declared.Busy.{Busy}
+use Rattle.ranked.specs.declared.Urgent.{Urgent}
 use Rattle.book.specs.declared.Book.{Book}
 use Rattle.book.specs.Rules.{asked}
 use Rattle.depot.specs.declared.Form.{Form}
@@ -46,6 +49,9 @@ use Rattle.ffi.proofs.ring_nearest.Reads as nearest-c
 use Rattle.ffi.proofs.ring_near_filter.Reads as near-filter-c
 use Rattle.ffi.proofs.ring_count.Reads as count-c
 use Rattle.ffi.proofs.ring_own_count.Reads as own-count-c
+use Rattle.ffi.proofs.ring_busiest.Reads as busiest-c
+use Rattle.ffi.proofs.ring_busiest_pumps.Reads as busiest-pumps-c
+use Rattle.ffi.proofs.ring_urgent.Reads as urgent-c
 use Rattle.ffi.proofs.ring_book_begin.Reads as begin-c
 use Rattle.ffi.proofs.ring_depot_begin.Reads as depot-begin-c
 use Rattle.ffi.proofs.ring_marker.Reads as mark-c
@@ -178,6 +184,43 @@ pub record OwnCountC (S : List ℤ) (big : ℕ) (g : Bool) (bits : List ℕ) (r 
   pub w-at : Place
   pub b-at : Place
   pub promised : own-count-c.Post κs (slice w-at S, (big, (g, (slice b-at bits, tt)))) r (slice w-at S, (big, (g, (slice b-at bits′, tt))))
+
+-- `ring_busiest(P, Q, o, ask, bits)` answers r, and the lent words are `bits′` at its exit [C1, D8]
+pub record BusyC (P Q : List ℤ) (o : List ℕ) (ask : RankAsked) (bits : List ℕ) (r : Busy) (bits′ : List ℕ) : Type 0 where
+  pub κs : Lfts 4
+  pub p-at : Place
+  pub q-at : Place
+  pub o-at : Place
+  pub b-at : Place
+  pub promised : busiest-c.Post κs
+      (slice p-at P, (slice q-at Q, (slice o-at o, (ask, (slice b-at bits, tt)))))
+      r
+      (slice p-at P, (slice q-at Q, (slice o-at o, (ask, (slice b-at bits′, tt)))))
+
+-- `ring_busiest_pumps(P, Q, k, big, grid, bits)` answers r, and the lent words are `bits′` at its exit [C1, D8]
+pub record PumpC (P Q : List ℤ) (k big : ℕ) (g : Bool) (bits : List ℕ) (r : Busy) (bits′ : List ℕ) : Type 0 where
+  pub κs : Lfts 3
+  pub p-at : Place
+  pub q-at : Place
+  pub b-at : Place
+  pub promised : busiest-pumps-c.Post κs
+      (slice p-at P, (slice q-at Q, (k, (big, (g, (slice b-at bits, tt))))))
+      r
+      (slice p-at P, (slice q-at Q, (k, (big, (g, (slice b-at bits′, tt))))))
+
+-- `ring_urgent(P, Q, o, ps, qs, ask, bits)` answers r, and the lent words are `bits′` at its exit [C1, D8]
+pub record UrgentC (P Q : List ℤ) (o ps qs : List ℕ) (ask : RankAsked) (bits : List ℕ) (r : Urgent) (bits′ : List ℕ) : Type 0 where
+  pub κs : Lfts 6
+  pub p-at : Place
+  pub q-at : Place
+  pub o-at : Place
+  pub ps-at : Place
+  pub qs-at : Place
+  pub b-at : Place
+  pub promised : urgent-c.Post κs
+      (slice p-at P, (slice q-at Q, (slice o-at o, (slice ps-at ps, (slice qs-at qs, (ask, (slice b-at bits, tt)))))))
+      r
+      (slice p-at P, (slice q-at Q, (slice o-at o, (slice ps-at ps, (slice qs-at qs, (ask, (slice b-at bits′, tt)))))))
 
 -- `ring_book_begin(source)` answers r [C1, D8]
 pub record BeginC (source : Source) (r : BookAnswer) : Type 0 where

@@ -62,6 +62,11 @@ use Rattle.many.specs.declared.Wanted.{Wanted}
 use Rattle.many.specs.declared.Counted.{Counted}
 use Rattle.many.specs.declared.Many.{Many}
 use Rattle.many.specs.Many.{pairsAnswer, pairsSlots, pairsBits, ownPairsAnswer, ownPairsSlots, ownPairsBits, countAnswer, countBits, ownCountAnswer, ownCountBits}
+use Rattle.ranked.specs.declared.Asked.{Asked as RankAsked}
+use Rattle.ranked.specs.declared.Busy.{Busy}
+use Rattle.ranked.specs.declared.Urgent.{Urgent}
+use Rattle.ranked.specs.Busiest.{busyAnswer, busyBits, pumpAnswer, pumpBits}
+use Rattle.ranked.specs.Urgent.{urgentAnswer, urgentBits}
 use Rattle.ring.proofs.open.open_no.Reads as open-no
 use Rattle.ring.proofs.open.head_of.Reads as head-of
 use Rattle.ring.proofs.point.point.Reads as point
@@ -86,6 +91,9 @@ use Rattle.depot.proofs.take_array.Reads as store-array
 use Rattle.runs.proofs.run_array.Reads as run-array
 use Rattle.many.proofs.count.count.Reads as count
 use Rattle.many.proofs.count.own_count.Reads as own-count
+use Rattle.ranked.proofs.busiest.busiest.Reads as busiest
+use Rattle.ranked.proofs.busiest.busiest_pumps.Reads as busiest-pumps
+use Rattle.ranked.proofs.visits.urgent.Reads as urgent
 use Rattle.view.proofs.open_head.Reads as open-head
 use Rattle.view.proofs.point_opened.Reads as point-opened
 
@@ -354,6 +362,45 @@ CountOfKind true a o P Q big bits r bits′ = (P ≡ Q) × (a .threshold ≡ 0) 
 abbrev pub NumberAnswers : Terms → List ℕ → List ℤ → List ℤ → ℕ → List ℕ → Counted → List ℕ → Type 0
 NumberAnswers a o P Q big bits r bits′ = CountOfKind (a .own) a o P Q big bits r bits′
 
+-- ---- the first of a list in an order
+
+-- `ranked::busiest::busiest(P, Q, o, ask, bits)` answers r, and the lent words are `bits′` at its exit [D8]
+pub record BusyAnswers (P Q : List ℤ) (o : List ℕ) (ask : RankAsked) (bits : List ℕ) (r : Busy) (bits′ : List ℕ) : Type 0 where
+  pub κs : Lfts 4
+  pub p-at : Place
+  pub q-at : Place
+  pub o-at : Place
+  pub b-at : Place
+  pub promised : busiest.Post κs
+      (slice p-at P, (slice q-at Q, (slice o-at o, (ask, (slice b-at bits, tt)))))
+      r
+      (slice p-at P, (slice q-at Q, (slice o-at o, (ask, (slice b-at bits′, tt)))))
+
+-- `ranked::busiest::busiest_pumps(P, Q, k, big, grid, bits)` answers r, and the lent words are `bits′` at its exit [D8]
+pub record PumpAnswers (P Q : List ℤ) (k big : ℕ) (g : Bool) (bits : List ℕ) (r : Busy) (bits′ : List ℕ) : Type 0 where
+  pub κs : Lfts 3
+  pub p-at : Place
+  pub q-at : Place
+  pub b-at : Place
+  pub promised : busiest-pumps.Post κs
+      (slice p-at P, (slice q-at Q, (k, (big, (g, (slice b-at bits, tt))))))
+      r
+      (slice p-at P, (slice q-at Q, (k, (big, (g, (slice b-at bits′, tt))))))
+
+-- `ranked::visits::urgent(P, Q, o, ps, qs, ask, bits)` answers r, and the lent words are `bits′` at its exit [D8]
+pub record UrgentAnswers (P Q : List ℤ) (o ps qs : List ℕ) (ask : RankAsked) (bits : List ℕ) (r : Urgent) (bits′ : List ℕ) : Type 0 where
+  pub κs : Lfts 6
+  pub p-at : Place
+  pub q-at : Place
+  pub o-at : Place
+  pub ps-at : Place
+  pub qs-at : Place
+  pub b-at : Place
+  pub promised : urgent.Post κs
+      (slice p-at P, (slice q-at Q, (slice o-at o, (slice ps-at ps, (slice qs-at qs, (ask, (slice b-at bits, tt)))))))
+      r
+      (slice p-at P, (slice q-at Q, (slice o-at o, (slice ps-at ps, (slice qs-at qs, (ask, (slice b-at bits′, tt)))))))
+
 -- ---- views
 
 -- `view::open(w)` answers r [S26, D8]
@@ -421,6 +468,18 @@ ViewCounts p q o which bits r bits′ = (r ≡ countAnswer (now (p .words)) (now
 -- `view::own_count_at(d, big, grid, bits)` answers r, and the lent words are `bits′` at its exit
 abbrev pub ViewOwnCounts : Sheet → ℕ → Bool → List ℕ → Counted → List ℕ → Type 0
 ViewOwnCounts d big g bits r bits′ = (r ≡ ownCountAnswer (now (d .words)) big g (length bits)) × (bits′ ≡ ownCountBits (now (d .words)) big g bits)
+
+-- `view::busiest_at(p, q, o, ask, bits)` answers r, and the lent words are `bits′` at its exit [D8]
+abbrev pub ViewBusiest : Sheet → Sheet → List ℕ → RankAsked → List ℕ → Busy → List ℕ → Type 0
+ViewBusiest p q o ask bits r bits′ = (r ≡ busyAnswer (now (p .words)) (now (q .words)) o ask (length bits)) × (bits′ ≡ busyBits (now (p .words)) (now (q .words)) o ask bits)
+
+-- `view::busiest_pumps_at(p, q, k, big, grid, bits)` answers r, and the lent words are `bits′` at its exit [D8]
+abbrev pub ViewPumps : Sheet → Sheet → ℕ → ℕ → Bool → List ℕ → Busy → List ℕ → Type 0
+ViewPumps p q k big g bits r bits′ = (r ≡ pumpAnswer (now (p .words)) (now (q .words)) k big g (length bits)) × (bits′ ≡ pumpBits (now (p .words)) (now (q .words)) k big g bits)
+
+-- `view::urgent_at(p, q, o, ps, qs, ask, bits)` answers r, and the lent words are `bits′` at its exit [D8]
+abbrev pub ViewUrgent : Sheet → Sheet → List ℕ → List ℕ → List ℕ → RankAsked → List ℕ → Urgent → List ℕ → Type 0
+ViewUrgent p q o ps qs ask bits r bits′ = (r ≡ urgentAnswer (now (p .words)) (now (q .words)) o ps qs ask (length bits)) × (bits′ ≡ urgentBits (now (p .words)) (now (q .words)) o ps qs ask bits)
 
 -- `view::open_head(w)` answers h
 pub record OpenHead (w : List ℤ) (h : Head) : Type 0 where

@@ -8,6 +8,9 @@ use many::Many;
 use many::Wanted;
 use many::Which;
 use nearest::Found;
+use ranked::Asked;
+use ranked::Busy;
+use ranked::Urgent;
 use ring::Filtered;
 use ring::Head;
 use ring::Paged;
@@ -26,6 +29,8 @@ ghost use Rattle.ring.specs.Partners.{partnersAnswer, partnersBits};
 ghost use Rattle.runs.specs.Run.{runAnswer, runSlots, runBits};
 ghost use Rattle.shortest.specs.Answer.{shortAnswer, shortBits};
 ghost use Rattle.many.specs.Many.{pairsAnswer, pairsSlots, pairsBits, ownPairsAnswer, ownPairsSlots, ownPairsBits, countAnswer, countBits, ownCountAnswer, ownCountBits};
+ghost use Rattle.ranked.specs.Busiest.{busyAnswer, busyBits, pumpAnswer, pumpBits};
+ghost use Rattle.ranked.specs.Urgent.{urgentAnswer, urgentBits};
 ghost use Rattle.nearest.specs.Nearest.{nearestNo, nearestAnswer, nearFilterNo, nearFiltered, nearFilteredBits, waitedBy};
 ghost use Rattle.view.specs.Shown.{shown, openOf};
 
@@ -238,6 +243,49 @@ pub fn own_count_at<'a, 'b>(
     ensures { λ r. ⌜ (r ≡ ownCountAnswer (now (sheet .entry .words)) largest grid (length (now (bits .entry)))) × (now (bits .exit) ≡ ownCountBits (now (sheet .entry .words)) largest grid (now (bits .entry))) ⌝ }
 {
     many::count::own_count(sheet.words, largest, grid, bits)
+}
+
+// The busiest chambers of a list to a size; refused by 1 to 8 of P's words, then of Q's, then by 27 for the contractor, by 26 for the owner bytes, by 29, by 10 for k, by 40 for the largest size,
+// by 24 for the words lent.
+pub fn busiest_at<'a, 'b, 'c, 'd>(
+    p: Sheet<'a>,
+    q: Sheet<'b>,
+    owners: &'c [u8],
+    ask: Asked,
+    bits: &'d mut [u64],
+) -> Busy
+    ensures { λ r. ⌜ (r ≡ busyAnswer (now (p .entry .words)) (now (q .entry .words)) (now (owners .entry)) ask (length (now (bits .entry)))) × (now (bits .exit) ≡ busyBits (now (p .entry .words)) (now (q .entry .words)) (now (owners .entry)) ask (now (bits .entry))) ⌝ }
+{
+    ranked::busiest::busiest(p.words, q.words, owners, ask, bits)
+}
+
+// The busiest pump houses; refused by 1 to 8 of P's words, then of Q's, then by 29, by 10, by 40, by 24.
+pub fn busiest_pumps_at<'a, 'b, 'c>(
+    p: Sheet<'a>,
+    q: Sheet<'b>,
+    k: usize,
+    largest: u64,
+    grid: bool,
+    bits: &'c mut [u64],
+) -> Busy
+    ensures { λ r. ⌜ (r ≡ pumpAnswer (now (p .entry .words)) (now (q .entry .words)) k largest grid (length (now (bits .entry)))) × (now (bits .exit) ≡ pumpBits (now (p .entry .words)) (now (q .entry .words)) k largest grid (now (bits .entry))) ⌝ }
+{
+    ranked::busiest::busiest_pumps(p.words, q.words, k, largest, grid, bits)
+}
+
+// The most urgent visits of a list to a size; refused as the busiest chambers are, and before 24 by 41 for the scores of P, by 42 for those of Q.
+pub fn urgent_at<'a, 'b, 'c, 'd, 'e, 'f>(
+    p: Sheet<'a>,
+    q: Sheet<'b>,
+    owners: &'c [u8],
+    ps: &'d [u32],
+    qs: &'e [u32],
+    ask: Asked,
+    bits: &'f mut [u64],
+) -> Urgent
+    ensures { λ r. ⌜ (r ≡ urgentAnswer (now (p .entry .words)) (now (q .entry .words)) (now (owners .entry)) (now (ps .entry)) (now (qs .entry)) ask (length (now (bits .entry)))) × (now (bits .exit) ≡ urgentBits (now (p .entry .words)) (now (q .entry .words)) (now (owners .entry)) (now (ps .entry)) (now (qs .entry)) ask (now (bits .entry))) ⌝ }
+{
+    ranked::visits::urgent(p.words, q.words, owners, ps, qs, ask, bits)
 }
 
 // For callers that hold no view: what `open` shows of the words.
