@@ -1946,6 +1946,68 @@ static void province_run(size_t v) {
     }
 }
 
+/* the position of an id */
+static size_t place_of(const Sheet *s, uint32_t id) {
+    size_t low = 0, high = count_of(s);
+    while (low + 1 < high)
+        if ((uint32_t)s->words[3 * ((low + high) / 2)] <= id) low = (low + high) / 2;
+        else high = (low + high) / 2;
+    return low;
+}
+
+/* of the whole list of the two: the sixteen busiest of either sheet, and the sixteen most urgent, each the first of all that come after the last one */
+static void province_ranked(const RingPair *all, size_t len) {
+    static uint32_t many[2][LARGEST], score[2][LARGEST];
+    static uint64_t sums[16 * LARGEST];
+    const Sheet *const both[2] = {&Q, &P};
+    const size_t need = words_for(LARGEST);
+    memset(many, 0, sizeof many), memset(sums, 0, sizeof sums);
+    for (size_t e = 0; e < 2; e++) {
+        for (size_t j = 0; j < LARGEST; j++) score[e][j] = below(4) ? (uint32_t)below(1000) : 1000000000 - (uint32_t)below(3);
+        for (size_t k = 0; k < len; k++) {
+            size_t j = place_of(both[e], e ? all[k].p : all[k].q);
+            many[e][j]++, sums[k] += score[e][j];
+        }
+    }
+    for (size_t e = 0; e < 2; e++) {
+        RingRank rows[16];
+        for (size_t h = 0, last = 0; h < 16; h++) {
+            size_t best = LARGEST;
+            for (size_t j = 0; j < LARGEST; j++) {
+                bool follows = h == 0 || many[e][j] < many[e][last] || (many[e][j] == many[e][last] && j > last);
+                if (follows && (best == LARGEST || many[e][j] > many[e][best])) best = j;
+            }
+            rows[h].id = (uint32_t)both[e]->words[3 * best], rows[h].pairs = many[e][best], last = best;
+        }
+        for (size_t fewer = 0; fewer < 2; fewer++) {
+            lend_words(need - fewer);
+            if (!fewer) leave(1, NULL);
+            RingBusy r = e ? ring_busiest_pumps(P.words, P.len, Q.words, Q.len, 16, ANY_SIZE, false, bits(), words_len)
+                           : ring_busiest(P.words, P.len, Q.words, Q.len, NULL, 0, (RingAsked){16, ANY_SIZE, 2, false}, bits(), words_len);
+            saw(r.number), hold_saved(), hold_lent();
+            HOLD(fewer ? r.number == 24 && r.count == 0 : r.number == 0 && r.count == 16 && same_ranks(r.rows, rows));
+        }
+    }
+    RingVisit rows[16];
+    for (size_t h = 0, last = 0; h < 16; h++) {
+        size_t best = len;
+        for (size_t k = 0; k < len; k++) {
+            bool follows = h == 0 || sums[k] < sums[last] || (sums[k] == sums[last] && k > last);
+            if (follows && (best == len || sums[k] > sums[best])) best = k;
+        }
+        rows[h].pair = all[best], rows[h].score = sums[best], last = best;
+    }
+    for (uint32_t no = 40; no <= 42; no++) {
+        /* right, and with the last score of either too high */
+        lend_words(need);
+        if (no == 40) leave(1, NULL);
+        else score[no == 41][LARGEST - 1] = 1000000001, score[no != 41][LARGEST - 1] = 1000000000;
+        RingUrgent r = ring_urgent(P.words, P.len, Q.words, Q.len, NULL, 0, score[1], LARGEST, score[0], LARGEST, (RingAsked){16, ANY_SIZE, 2, false}, bits(), need);
+        saw(r.number), hold_saved(), hold_lent();
+        HOLD(no == 40 ? r.number == 0 && r.count == 16 && same_visits(r.rows, rows) : r.number == no && r.count == 0);
+    }
+}
+
 /* the whole list, or that of P's self join, on exactly as many slots as are counted: it ascends, each pair of it is clear by a plain ring walk, and some chambers have all
    theirs; the first of it again on fewer slots, and from a key amid it */
 static void province_pairs(bool own) {
@@ -1985,6 +2047,7 @@ static void province_pairs(bool own) {
         for (size_t k = 1; k <= len; k++) stored += all[k].q == (uint32_t)s->words[3 * j];
         HOLD(many == stored);
     }
+    if (!own) province_ranked(all + 1, len);
     RingKey key = {all[mid].q, all[mid].p};
     memset(many_room, 0xA5, sizeof many_room), memcpy(many_due, many_room, sizeof many_room), memcpy(many_due + 8, all + mid + 1, 1000 * sizeof all[0]);
     lend_words(need), leave(1, NULL);
