@@ -181,6 +181,123 @@ def many_are_the_pages(rng, p_words, q_words, grid):
         assert found == [pair for pair in paged if pair[2] <= largest] and reading.own_count_call(p_words, largest, grid=grid)[1] == len(found)
 
 
+def ranked_examples():
+    """The listing's chambers and pump houses by their pairs, and its pairs by scores: in order, to a size, of a contractor; what is refused, and in which order."""
+    any_size, words = reading.ANY_SIZE, [7, 8]
+    whole = [(5, 1, 16), (5, 2, 36), (6, 2, 37)]
+    for k, largest, rows in ((1, any_size, [(5, 2)]), (2, any_size, [(5, 2), (6, 1)]), (16, any_size, [(5, 2), (6, 1)]), (16, 36, [(5, 2), (6, 0)]), (16, 35, [(5, 1), (6, 0)]), (16, 15, [(5, 0), (6, 0)])):
+        assert reading.busiest_call(P, Q, k, largest, words=words) == (0, rows, [0, 8])
+    for k, largest, rows in ((1, any_size, [(2, 2)]), (16, any_size, [(2, 2), (1, 1)]), (16, 36, [(1, 1), (2, 1)]), (16, 35, [(1, 1), (2, 0)]), (1, 0, [(1, 0)])):
+        assert reading.busiest_pumps_call(P, Q, k, largest, words=words) == (0, rows, [0, 8])
+    # of a contractor: the contractor's chambers alone
+    assert [reading.busiest_call(P, Q, 16, any_size, contractor=contractor, owners=(0, 1))[1] for contractor in (0, 1)] == [[(5, 2)], [(6, 1)]]
+    assert reading.busiest_call(P, Q, 16, any_size, contractor=0, owners=(1, 1))[1] == []
+    # along the streets the last pair is of size 49
+    assert [reading.busiest_call(P, Q, 16, largest, grid=True)[1][1] for largest in (48, 49)] == [(6, 0), (6, 1)]
+    # scores of pump houses 1, 2 and of chambers 5, 6: sums in order, then q id, then p id; to a size; of a contractor
+    for p_scores, q_scores, k, largest, rows in (((0, 0), (0, 0), 16, any_size, [(pair, 0) for pair in whole]), ((1, 0), (0, 1), 16, any_size, [(whole[0], 1), (whole[2], 1), (whole[1], 0)]),
+                                                 ((0, 3), (2, 0), 16, any_size, [(whole[1], 5), (whole[2], 3), (whole[0], 2)]), ((0, 3), (2, 0), 1, any_size, [(whole[1], 5)]),
+                                                 ((0, 3), (2, 0), 1, 35, [(whole[0], 2)]), ((0, 3), (2, 9), 2, 36, [(whole[1], 5), (whole[0], 2)]), ((9, 9), (9, 9), 16, 15, []),
+                                                 ((10 ** 9, 0), (10 ** 9, 0), 1, any_size, [(whole[0], 2 * 10 ** 9)])):
+        assert reading.urgent_call(P, Q, p_scores, q_scores, k, largest, words=words) == (0, rows, [0, 8])
+    assert [reading.urgent_call(P, Q, (0, 3), (2, 0), 16, any_size, contractor=contractor, owners=(0, 1))[1] for contractor in (0, 1)] == [[(whole[1], 5), (whole[0], 2)], [(whole[2], 3)]]
+    # 27, 26, 29, 10, 40, 41, 42, 24: each with all that come after it; the busiest have no 41 and 42, of pump houses no 27 and 26 either
+    wide, most, over = P[:-1] + [2], reading.SCORE, reading.SCORE + 1
+    for p, contractor, owners, k, largest, p_scores, q_scores, number in (
+            (wide[:-1] + [3], 3, (2,), 0, any_size + 1, (over, 0), (over, 0), 2), (wide, 3, (2,), 0, any_size + 1, (over, 0), (over, 0), 27), (wide, 0, (0,), 17, any_size + 1, (over, 0), (over, 0), 26),
+            (wide, 0, (0, 1), 0, any_size + 1, (over, 0), (over, 0), 29), (P, 0, (0, 1), 0, any_size + 1, (over, 0), (over, 0), 10), (P, 0, (0, 1), 17, any_size + 1, (over, 0), (over, 0), 10),
+            (P, 0, (0, 1), 16, any_size + 1, (over, 0), (over, 0), 40), (P, 0, (0, 1), 1, any_size, (over, 0), (over, 0), 41), (P, 0, (0, 1), 1, any_size, (0, over), (0, 0), 41),
+            (P, 0, (0, 1), 1, any_size, (0,), (0, 0), 41), (P, 0, (0, 1), 1, any_size, (0, 0, 0), (0, 0), 41), (P, 0, (0, 1), 1, any_size, (most, 0), (over, 0), 42),
+            (P, 0, (0, 1), 1, any_size, (most, 0), (0,), 42), (P, 0, (0, 1), 1, any_size, (most, 0), (0, 0, 0), 42), (P, 0, (0, 1), 1, any_size, (most, 0), (0, most), 24)):
+        assert reading.urgent_call(p, Q, p_scores, q_scores, k, largest, None, [], True, contractor, owners) == (number, [], [])
+        number = 24 if number in (41, 42) else number
+        assert reading.busiest_call(p, Q, k, largest, None, [], True, contractor, owners) == (number, [], [])
+        assert reading.busiest_pumps_call(p, Q, k, largest, None, [], True) == (29 if number in (27, 26) else number, [], [])
+    # the words are as many as P's points need, of pump houses as Q's
+    empty = reading.pack([], [], 3)
+    assert (reading.busiest_call(empty, Q, 2, 0, words=[])[:2], reading.busiest_pumps_call(P, empty, 2, 0, words=[])[:2]) == ((0, [(5, 0), (6, 0)]), (0, [(1, 0), (2, 0)]))
+    assert (reading.busiest_call(P, empty, 2, 0, words=[])[0], reading.busiest_pumps_call(empty, Q, 2, 0, words=[])[0], reading.urgent_call(empty, Q, (), (0, 0), 2, 0, words=[])[0]) == (24, 24, 0)
+
+
+def ranked_are_the_pages(rng, p_words, q_words, grid):
+    """Each chamber's number is that of its pairs in the pages; the numbers fall, and none that is left out stands before one that is given; so of pump houses, of
+    pairs by their scores, and for each contractor."""
+    p, q = reading.Sheet(p_words), reading.Sheet(q_words)
+    whole, owners = reading.ring_list(p.points, q.points, grid), tuple(rng.randint(0, 1) for _ in range(q.n))
+    scores = [[rng.choice([0, 1, 2, reading.SCORE]) for _ in range(sheet.n)] for sheet in (p, q)]
+    for contractor in (0, 1, 2):
+        whose = owners if contractor < 2 else ()
+        paged = followed_pages(rng, lambda key: reading.page_call(p_words, q_words, key, 16, 0, whole, grid=grid, contractor=contractor, owners=whose)[1])
+        for largest in [0, reading.ANY_SIZE] + [pair[2] for pair in whole[:2]]:
+            listed = [pair for pair in paged if pair[2] <= largest]
+            terms = {"pairs": whole, "grid": grid, "contractor": contractor, "owners": whose}
+            k = rng.randint(1, 16)
+            many = {point[0]: 0 for point, owner in zip(q.points, owners) if contractor in (2, owner)}
+            for pair in listed:
+                many[pair[0]] += 1
+            first_of(reading.busiest_call(p_words, q_words, k, largest, **terms)[1], k, many, lambda id, pairs: (-pairs, id))
+            if contractor == 2:
+                many = {point[0]: len([pair for pair in listed if pair[1] == point[0]]) for point in p.points}
+                first_of(reading.busiest_pumps_call(p_words, q_words, k, largest, whole, grid=grid)[1], k, many, lambda id, pairs: (-pairs, id))
+            sums = {pair: scores[1][[point[0] for point in q.points].index(pair[0])] + scores[0][[point[0] for point in p.points].index(pair[1])] for pair in listed}
+            first_of(reading.urgent_call(p_words, q_words, *scores, k, largest, **terms)[1], k, sums, lambda pair, score: (-score, pair[0], pair[1]))
+
+
+def first_of(rows, k, values, place):
+    """The rows are the first k of these, in the order of their places."""
+    assert len(rows) == min(k, len(values)) == len({one for one, _ in rows}) and all(values[one] == value for one, value in rows)
+    places = [place(one, value) for one, value in rows]
+    left = [place(one, value) for one, value in values.items() if one not in dict(rows)]
+    assert all(one < other for one, other in zip(places, places[1:])) and (not places or all(places[-1] < other for other in left))
+
+
+def busiest(rules, *given):
+    return rules.busiest_call(*given)
+
+
+def busiest_pumps(rules, *given):
+    return rules.busiest_pumps_call(*given)
+
+
+def urgent(rules, *given):
+    return rules.urgent_call(*given)
+
+
+def ranked():
+    """Requests for the busiest and the most urgent: cases for the wrong readings of them. Each number with some that come after it; k, sizes and scores at their ends;
+    sheets of which one needs a word more than the other."""
+    rng, asked, some = Chance("ranked"), [], reading.SCORE
+    for k in range(60):
+        places, grid = towns.PLACES[k % len(towns.PLACES)], k % 2 > 0
+        sizes = (rng.randint(65, 70), rng.randint(0, 6)) if k % 10 == 8 else (rng.randint(0, 6), rng.randint(65, 70)) if k % 10 == 9 else (rng.randint(1, 24), rng.randint(1, 24))
+        p_words, q_words = [towns.sheet(rng, places, n, 5)[1] for n in sizes]
+        p, q = reading.Sheet(p_words), reading.Sheet(q_words)
+        grid = grid and 2 not in (p.form, q.form)
+        whole = reading.ring_list(p.points, q.points, grid)
+        owners = tuple(rng.randint(0, 1) for _ in range(q.n))
+        for _ in range(6):
+            contractor, rows, largest = rng.randint(0, 2), rng.choice([1, 2, 3, 16]), rng.choice([reading.ANY_SIZE, 0] + [pair[2] for pair in whole[:3]])
+            whose = owners if contractor < 2 else ()
+            of_p, of_q = ([rng.choice([0, 1, 2, some]) if rng.random() < 0.8 else some for _ in range(sheet.n)] for sheet in (p, q))
+            words = [7, 8, 9]
+            asked += [(busiest, p_words, q_words, rows, largest, whole, words, grid, contractor, whose), (busiest_pumps, p_words, q_words, rows, largest, whole, words, grid),
+                      (urgent, p_words, q_words, of_p, of_q, rows, largest, whole, words, grid, contractor, whose)]
+            # of what may be wrong some is; a sheet's form is said to be 2, so that the street grid is refused
+            rows, largest = rng.choice([rows, rows, 0, 17]), rng.choice([largest, largest, reading.ANY_SIZE + 1])
+            contractor, whose = rng.choice([(contractor, whose)] * 4 + [(3, ()), (3, owners), (2, owners), (0, owners + (0,)), (1, owners[1:]), (1, (2,) * q.n)])
+            of_p, of_q = (rng.choice([scores] * 4 + [scores[1:], scores + [0], scores[:-1] + [some + 1], [some + 1] + scores[1:]]) for scores in (of_p, of_q))
+            words, wide = rng.choice([words, [7], []]), rng.random() < 0.3
+            p_bad, q_bad = ((sheet[:-1] + [2] if wide and rng.random() < 0.7 else sheet) for sheet in (p_words, q_words))
+            if rng.random() < 0.1:
+                q_bad = q_bad[:-1] + [3]
+            by = grid or wide
+            asked += [(busiest, p_bad, q_bad, rows, largest, None, words, by, contractor, whose), (busiest_pumps, p_bad, q_bad, rows, largest, None, words, by),
+                      (urgent, p_bad, q_bad, of_p, of_q, rows, largest, None, words, by, contractor, whose)]
+    lines = [ask(reading, *given) for ask, *given in asked]
+    assert {0, 2, 27, 26, 29, 10, 40, 41, 42, 24} == {line[0] for line in lines}
+    return types.SimpleNamespace(name="the busiest", asked=asked, lines=lines)
+
+
 def followed_pages(rng, page_from):
     found, end = [], False
     while not end:
@@ -245,6 +362,14 @@ def handed_many(rules, p, q, pairs, contractor, owners, key, size, t, grid):
             rules.count_call(p, q, largest, t, pairs, [7, 7], grid, contractor, owners))
 
 
+def handed_ranked(rules, p, q, pairs, contractor, owners, key, size, t, grid):
+    """What a contractor is handed for a request for the busiest chambers, and for the most urgent visits, where scores go by places."""
+    largest = reading.ANY_SIZE if size == 16 else 5 * size
+    scores = [[abs(7 * point[1] + point[2]) % 4 for point in reading.Sheet(words).points] for words in (p, q)]
+    return (rules.busiest_call(p, q, size, largest, pairs, [7, 7], grid, contractor, owners),
+            rules.urgent_call(p, q, *scores, size, largest, pairs, [7, 7], grid, contractor, owners))
+
+
 def unlike(rules, handed=handed):
     """The first request to which a contractor is handed one thing in one run and another in a second, of which only the ids of the other's chambers differ, and with
     them positions, trees and bytes: for every key that is an id of either run, one more, or at an end of the range. None where there is no such request."""
@@ -276,6 +401,7 @@ def contractors_are_blind():
     for old, new in wrong_readings.UNBLIND:
         assert unlike(wrong_readings.misread(old, new)), "the blind check lets through the reading `%s`" % new
     assert unlike(reading, handed_many) is None, unlike(reading, handed_many)
+    assert unlike(reading, handed_ranked) is None, unlike(reading, handed_ranked)
     for old, new in wrong_readings.UNBLIND_MANY:
         assert unlike(wrong_readings.misread(old, new), handed_many), "the blind check of many pairs lets through the reading `%s`" % new
 
@@ -438,7 +564,9 @@ def main():
     street_examples()
     contractors_examples()
     many_examples()
+    ranked_examples()
     contractors_are_blind()
+    assert not wrong_readings.untold(ranked()), "no case tells the reading `%s`" % wrong_readings.untold(ranked())[0]
     book()
     one_corner_is_enough(Chance("corners"))
     streets_turned(Chance("streets"))
@@ -453,6 +581,7 @@ def main():
         if k % 3 == 0:
             contractors_divide(rng, p, q, k % 2 > 0)
             many_are_the_pages(Chance("many pages %d" % k), p, q, k % 2 > 0)
+            ranked_are_the_pages(Chance("ranked %d" % k), p, q, k % 2 > 0)
     for count in (0, 1, 16, 40):
         keys = sorted({(rng.randint(1, 9), rng.randint(1, 40)) for _ in range(count)})
         for t in (0, 1, 2, 5, 40):

@@ -1035,6 +1035,82 @@ def shortest_call(p_words, q_words, k, words=ENOUGH):
     return 0, shortest_of(pairs, k), with_zeros(words, p)
 
 
+# ---------------------------------------------------------------- the busiest, and the most urgent
+
+SCORE = 1_000_000_000
+
+
+# "the most ring partners, in order, ties by id"
+def busiest_of(ids, k):
+    """Of ids, each with its number of pairs, the k with the most, in order."""
+    return sorted(ids, key=lambda rank: (-rank[1], rank[0]))[:k]
+
+
+# "each with its number of partners, those with none too"
+def ranks_of(points, ends):
+    """Each point's id and how often it is among the ends of pairs."""
+    return [(point[0], ends.count(point[0])) for point in points]
+
+
+# "A lent score a record, by position, for each sheet (0 to 1,000,000,000)"
+def scores_right(scores, sheet):
+    return len(scores) == sheet.n and all(0 <= score <= SCORE for score in scores)
+
+
+# "the highest sum of scores [..], ties by q id and then p id"
+def urgent_of(pairs, p, q, p_scores, q_scores, k):
+    """Of a list the k pairs with the highest sum of the scores of their two ends, in order, each with that sum."""
+    of_p, of_q = ({point[0]: score for point, score in zip(sheet.points, scores)} for sheet, scores in ((p, p_scores), (q, q_scores)))
+    visits = [(pair, of_q[pair[0]] + of_p[pair[1]]) for pair in pairs]
+    return sorted(visits, key=lambda visit: (-visit[1], key_of(visit[0])))[:k]
+
+
+# "1-8 P, 1-8 Q, 27, 26, 29, 10, 40, 24"; of pump houses, whose list is undivided, without 27 and 26, and the kept sets are of chambers; of the most urgent "41 the
+# scores of P [..], 42 the same of Q" before 24
+def asked_number(p_words, q_words, k, largest, words, grid, contractor=UNDIVIDED, owners=(), scores=None, pumps=False):
+    """The number of the first refusal that applies, or 0; `scores` are those of P and of Q, or None."""
+    number = open_number(p_words) or open_number(q_words)
+    if number:
+        return number
+    p, q = Sheet(p_words), Sheet(q_words)
+    p_scores, q_scores = ([0] * p.n, [0] * q.n) if scores is None else scores
+    wrong = [(27, not contractor_right(contractor)), (26, not owners_right(contractor, owners, q.n)), (29, too_wide(grid, p, q)), (10, not 1 <= k <= SIZE), (40, largest > ANY_SIZE),
+             (41, not scores_right(p_scores, p)), (42, not scores_right(q_scores, q)), (24, too_short(words, q if pumps else p))]
+    return next((number for number, holds in wrong if holds), 0)
+
+
+# "the k chambers with the most ring partners, in order, ties by id, k 1 to 16, fewer if there are fewer": of a contractor the contractor's chambers and list
+def busiest_call(p_words, q_words, k, largest, pairs=None, words=ENOUGH, grid=False, contractor=UNDIVIDED, owners=()):
+    """(number, the chambers' ids with their numbers of pairs, the lent words from now on). `pairs` is the undivided list, made anew where it is not handed in."""
+    number = asked_number(p_words, q_words, k, largest, words, grid, contractor, owners)
+    if number:
+        return number, [], words
+    q = Sheet(q_words)
+    mine = [q.points[j] for j in chambers_of(q, owners, contractor)]
+    listed = lists_pairs(p_words, q_words, pairs, largest, 0, grid, contractor, owners)
+    return 0, busiest_of(ranks_of(mine, [pair[0] for pair in listed]), k), with_zeros(words, Sheet(p_words))
+
+
+# "and the same of pump houses"
+def busiest_pumps_call(p_words, q_words, k, largest, pairs=None, words=ENOUGH, grid=False):
+    """(number, the pump houses' ids with their numbers of pairs, the lent words from now on). `pairs` as above."""
+    number = asked_number(p_words, q_words, k, largest, words, grid, pumps=True)
+    if number:
+        return number, [], words
+    listed = lists_pairs(p_words, q_words, pairs, largest, 0, grid, UNDIVIDED, ())
+    return 0, busiest_of(ranks_of(Sheet(p_words).points, [pair[1] for pair in listed]), k), with_zeros(words, Sheet(q_words))
+
+
+# "the k ring pairs with the highest sum of scores among those of at most a given size"
+def urgent_call(p_words, q_words, p_scores, q_scores, k, largest, pairs=None, words=ENOUGH, grid=False, contractor=UNDIVIDED, owners=()):
+    """(number, the pairs with their sums of scores, the lent words from now on). `pairs` as above."""
+    number = asked_number(p_words, q_words, k, largest, words, grid, contractor, owners, (p_scores, q_scores))
+    if number:
+        return number, [], words
+    listed = lists_pairs(p_words, q_words, pairs, largest, 0, grid, contractor, owners)
+    return 0, urgent_of(listed, Sheet(p_words), Sheet(q_words), p_scores, q_scores, k), with_zeros(words, Sheet(p_words))
+
+
 # ---------------------------------------------------------------- nearest first
 
 # "the box or point with the least squared distance to q first"

@@ -1053,8 +1053,92 @@ MANY = UNBLIND_MANY + SIZES + ZEROS + put_after(MANY_27, 27, AFTER_27) + put_aft
     (OWN_MANY_LISTED, OWN_MANY_LISTED.replace("largest, 0)", "largest, 2)")),
 ]
 
+BUSY_ORDER = "    return sorted(ids, key=lambda rank: (-rank[1], rank[0]))[:k]\n"
+BUSY_RANKS = "    return [(point[0], ends.count(point[0])) for point in points]\n"
+SCORES_RIGHT = "    return len(scores) == sheet.n and all(0 <= score <= SCORE for score in scores)\n"
+SCORES_BY = "    of_p, of_q = ({point[0]: score for point, score in zip(sheet.points, scores)} for sheet, scores in ((p, p_scores), (q, q_scores)))\n"
+SCORES_SUM = "    visits = [(pair, of_q[pair[0]] + of_p[pair[1]]) for pair in pairs]\n"
+URGENT_ORDER = "    return sorted(visits, key=lambda visit: (-visit[1], key_of(visit[0])))[:k]\n"
+ASKED_27, ASKED_26, ASKED_29 = "(27, not contractor_right(contractor))", "(26, not owners_right(contractor, owners, q.n))", "(29, too_wide(grid, p, q))"
+ASKED_10, ASKED_40 = "(10, not 1 <= k <= SIZE)", "(40, largest > ANY_SIZE)"
+ASKED_41, ASKED_42, ASKED_24 = "(41, not scores_right(p_scores, p))", "(42, not scores_right(q_scores, q))", "(24, too_short(words, q if pumps else p))"
+ASKED = [ASKED_27, ASKED_26, ASKED_29, ASKED_10, ASKED_40, ASKED_41, ASKED_42, ASKED_24]
+ASKED_ALL = """    wrong = [%s, %s, %s, %s, %s,
+             %s, %s, %s]
+""" % tuple(ASKED)
+BUSY_MINE = "    mine = [q.points[j] for j in chambers_of(q, owners, contractor)]\n"
+BUSY_GIVEN = "    return 0, busiest_of(ranks_of(mine, [pair[0] for pair in listed]), k), with_zeros(words, Sheet(p_words))\n"
+PUMPS_LISTED = "    listed = lists_pairs(p_words, q_words, pairs, largest, 0, grid, UNDIVIDED, ())\n"
+PUMPS_GIVEN = "    return 0, busiest_of(ranks_of(Sheet(p_words).points, [pair[1] for pair in listed]), k), with_zeros(words, Sheet(q_words))\n"
+URGENT_GIVEN = "    return 0, urgent_of(listed, Sheet(p_words), Sheet(q_words), p_scores, q_scores, k), with_zeros(words, Sheet(p_words))\n"
+
+
+def asked_with(numbers):
+    """The numbers of the busiest and the most urgent in another order, or some of them."""
+    return ASKED_ALL, "    wrong = [%s]\n" % ", ".join(numbers)
+
+
+RANKED = [asked_with(ASKED[:at] + ASKED[at + 1:]) for at in range(len(ASKED))] \
+    + [asked_with(ASKED[:at] + [ASKED[to]] + ASKED[at:to] + ASKED[to + 1:]) for at in range(len(ASKED)) for to in range(at + 1, len(ASKED))] + [
+    # the busiest: of as many the higher id first; the fewest first; by id; one row more, one fewer, always sixteen; those with none left out
+    (BUSY_ORDER, BUSY_ORDER.replace("rank[0]))", "-rank[0]))")),
+    (BUSY_ORDER, BUSY_ORDER.replace("-rank[1]", "rank[1]")),
+    (BUSY_ORDER, BUSY_ORDER.replace("(-rank[1], rank[0])", "rank[0]")),
+    (BUSY_ORDER, BUSY_ORDER.replace("[:k]", "[:k + 1]")),
+    (BUSY_ORDER, BUSY_ORDER.replace("[:k]", "[:max(1, k - 1)]")),
+    (BUSY_ORDER, BUSY_ORDER.replace("[:k]", "[:SIZE]")),
+    (BUSY_ORDER, BUSY_ORDER.replace("sorted(ids,", "sorted(ids[:k],")),
+    (BUSY_RANKS, BUSY_RANKS.replace("in points]", "in points if point[0] in ends]")),
+    (BUSY_RANKS, BUSY_RANKS.replace("ends.count(point[0])", "int(point[0] in ends)")),
+    # every chamber is ranked, with its pairs or with none; the pairs of any size; the pairs of the other end
+    (BUSY_MINE, "    mine = q.points\n"),
+    (BUSY_GIVEN, BUSY_GIVEN.replace("for pair in listed", "for pair in lists_pairs(p_words, q_words, pairs, ANY_SIZE, 0, grid, contractor, owners)")),
+    (BUSY_GIVEN, BUSY_GIVEN.replace("pair[0]", "pair[1]")),
+    (BUSY_GIVEN, BUSY_GIVEN.replace("Sheet(p_words)", "Sheet(q_words)")),
+    (BUSY_GIVEN, BUSY_GIVEN.replace("with_zeros(words, Sheet(p_words))", "words")),
+    # of pump houses: the chambers' pairs; of any size; of the sheets exchanged; the words that P needs
+    (PUMPS_GIVEN, PUMPS_GIVEN.replace("pair[1]", "pair[0]")),
+    (PUMPS_GIVEN, PUMPS_GIVEN.replace("Sheet(p_words).points", "Sheet(q_words).points")),
+    (PUMPS_LISTED, PUMPS_LISTED.replace("largest", "ANY_SIZE")),
+    (PUMPS_LISTED, PUMPS_LISTED.replace("grid, UNDIVIDED", "False, UNDIVIDED")),
+    (PUMPS_GIVEN, PUMPS_GIVEN.replace("Sheet(q_words))", "Sheet(p_words))")),
+    (PUMPS_GIVEN, PUMPS_GIVEN.replace("with_zeros(words, Sheet(q_words))", "words")),
+    (ASKED_24, ASKED_24.replace("q if pumps else p", "p")),
+    (ASKED_24, ASKED_24.replace("q if pumps else p", "q")),
+    # scores: not as many as the points, where they are fewer, where they are more; below the highest; higher ones; Q's for P's and the other way round
+    (SCORES_RIGHT, SCORES_RIGHT.replace("len(scores) == sheet.n and ", "")),
+    (SCORES_RIGHT, SCORES_RIGHT.replace("== sheet.n", "<= sheet.n")),
+    (SCORES_RIGHT, SCORES_RIGHT.replace("== sheet.n", ">= sheet.n")),
+    (SCORES_RIGHT, SCORES_RIGHT.replace("<= SCORE", "< SCORE")),
+    (SCORES_RIGHT, SCORES_RIGHT.replace("<= SCORE", "<= SCORE + 1")),
+    (SCORES_RIGHT, SCORES_RIGHT.replace("for score in scores", "for score in scores[:1]")),
+    (SCORES_RIGHT, SCORES_RIGHT.replace("for score in scores", "for score in scores[1:]")),
+    (ASKED_41, ASKED_42.replace("42", "41")),
+    (ASKED_42, ASKED_41.replace("41", "42")),
+    (SCORES_BY, SCORES_BY.replace("((p, p_scores), (q, q_scores))", "((p, q_scores), (q, p_scores))")),
+    (SCORES_BY, SCORES_BY.replace("zip(sheet.points, scores)", "zip([sheet.points[i] for i in sheet.order], scores)")),
+    # the sum: the higher, the lower, one end's alone
+    (SCORES_SUM, SCORES_SUM.replace("of_q[pair[0]] + of_p[pair[1]]", "max(of_q[pair[0]], of_p[pair[1]])")),
+    (SCORES_SUM, SCORES_SUM.replace("of_q[pair[0]] + of_p[pair[1]]", "min(of_q[pair[0]], of_p[pair[1]])")),
+    (SCORES_SUM, SCORES_SUM.replace(" + of_p[pair[1]]", "")),
+    (SCORES_SUM, SCORES_SUM.replace("of_q[pair[0]] + ", "")),
+    # the most urgent: the lowest first; of one sum by size, by p id, the last of the list first; one row more, always sixteen; to a size once the k are taken
+    (URGENT_ORDER, URGENT_ORDER.replace("-visit[1]", "visit[1]")),
+    (URGENT_ORDER, URGENT_ORDER.replace("key_of(visit[0])", "visit[0][2]")),
+    (URGENT_ORDER, URGENT_ORDER.replace("key_of(visit[0])", "visit[0][1]")),
+    (URGENT_ORDER, URGENT_ORDER.replace("key_of(visit[0])", "-visit[0][0], -visit[0][1]")),
+    (URGENT_ORDER, URGENT_ORDER.replace("[:k]", "[:k + 1]")),
+    (URGENT_ORDER, URGENT_ORDER.replace("[:k]", "[:SIZE]")),
+    (URGENT_GIVEN, URGENT_GIVEN.replace("urgent_of(listed,", "urgent_of(lists_pairs(p_words, q_words, pairs, ANY_SIZE, 0, grid, contractor, owners),")),
+    (URGENT_GIVEN, "    first = urgent_of(lists_pairs(p_words, q_words, pairs, ANY_SIZE, 0, grid, contractor, owners), Sheet(p_words), Sheet(q_words), p_scores, q_scores, k)\n"
+                   "    return 0, [visit for visit in first if visit[0][2] <= largest], with_zeros(words, Sheet(p_words))\n"),
+    (URGENT_GIVEN, URGENT_GIVEN.replace("urgent_of(listed,", "urgent_of(lists_pairs(p_words, q_words, pairs, largest, 0, grid, UNDIVIDED, ()),")),
+    (URGENT_GIVEN, URGENT_GIVEN.replace("with_zeros(words, Sheet(p_words))", "with_zeros(words, Sheet(q_words))")),
+    (URGENT_GIVEN, URGENT_GIVEN.replace("with_zeros(words, Sheet(p_words))", "words")),
+]
+
 STEP = 100
-WRONG = {"sheets": SHEETS, "walks": WALKS, "pages": PAGES, "contractors": CONTRACTORS, "runs": RUNS, "shortest": SHORTEST, "near": NEAR, "many": MANY, "the book": BOOK}
+WRONG = {"sheets": SHEETS, "walks": WALKS, "pages": PAGES, "contractors": CONTRACTORS, "runs": RUNS, "shortest": SHORTEST, "near": NEAR, "many": MANY, "the busiest": RANKED, "the book": BOOK}
 
 
 def misread(old, new):

@@ -26,11 +26,11 @@ enum { NO_CALL = 1001, NO_SHAPE = 1002, NO_HANDLE = 1003, NO_MEMORY = 1004, NO_F
 
 enum {
     HELLO = 1, SHEET, DROP, PACK, POINT, WALK, PAGE, OWN, PARTNERS, SHORTEST, NEAREST, MARKER, BOOK, NEXT, TAKE, SLOTS, STORED_BOOK, FORMS, DEPOT, GIVE, SHELF,
-    STORED_DEPOT, HELD, POSITION, RUN, MANY, OWN_MANY, COUNT, OWN_COUNT
+    STORED_DEPOT, HELD, POSITION, RUN, MANY, OWN_MANY, COUNT, OWN_COUNT, BUSIEST, BUSIEST_PUMPS, URGENT
 };
 
-/* How many words stand for a pair, a source, a page and a form. */
-enum { PAIR = 4, SOURCE = 6, PAGED = SOURCE + 4 + 16 * PAIR, FORM = 9 };
+/* How many words stand for a pair, a source, a page, a form, a rank and a visit. */
+enum { PAIR = 4, SOURCE = 6, PAGED = SOURCE + 4 + 16 * PAIR, FORM = 9, RANK = 2, VISIT = PAIR + 2 };
 
 /* What a handle stands for. */
 enum { NOTHING = 0, A_SHEET, A_BOOK, A_DEPOT };
@@ -519,6 +519,64 @@ static uint32_t own_count(const Thing *s, const uint32_t *words) {
     return say_counted(ring_own_count(s->room, s->len, long_at(words), words[2] != 0, lent, RING_WORDS(s->n)));
 }
 
+/* count, 16 times id and pairs */
+static uint32_t say_busy(RingBusy busy) {
+    if (busy.number != 0) return busy.number;
+    if (!may_say(1 + 16 * RANK)) return NO_MEMORY;
+    say((uint32_t)busy.count);
+    for (size_t k = 0; k < 16; k++) {
+        say(busy.rows[k].id);
+        say(busy.rows[k].pairs);
+    }
+    return 0;
+}
+
+/* k, largest, contractor, grid */
+static RingAsked asked_at(const uint32_t *words) {
+    RingAsked asked = {words[0], long_at(words + 1), words[3], words[4] != 0};
+    return asked;
+}
+
+/* what is asked, then a word for each owner byte */
+static uint32_t busiest(const Thing *p, const Thing *q, const uint32_t *words, size_t len) {
+    size_t owners = len - 5;
+    uint8_t *bytes = bytes_of(words + 5, owners);
+    if (bytes == NULL || !may_lend(RING_WORDS(p->n))) {
+        free(bytes);
+        return NO_MEMORY;
+    }
+    RingBusy busy = ring_busiest(p->room, p->len, q->room, q->len, bytes, owners, asked_at(words), lent, RING_WORDS(p->n));
+    free(bytes);
+    return say_busy(busy);
+}
+
+/* k, largest, grid: the kept sets are of chambers */
+static uint32_t busiest_pumps(const Thing *p, const Thing *q, const uint32_t *words) {
+    if (!may_lend(RING_WORDS(q->n))) return NO_MEMORY;
+    return say_busy(ring_busiest_pumps(p->room, p->len, q->room, q->len, words[0], long_at(words + 1), words[3] != 0, lent, RING_WORDS(q->n)));
+}
+
+/* what is asked, how many owner bytes, how many scores of P, a word for each owner byte, the scores of P, and those of Q */
+static uint32_t urgent(const Thing *p, const Thing *q, const uint32_t *words, size_t len) {
+    size_t owners = words[5], scores = words[6];
+    if (owners > len - 7 || scores > len - 7 - owners) return NO_SHAPE;
+    uint8_t *bytes = bytes_of(words + 7, owners);
+    if (bytes == NULL || !may_lend(RING_WORDS(p->n)) || !may_say(1 + 16 * VISIT)) {
+        free(bytes);
+        return NO_MEMORY;
+    }
+    const uint32_t *of_p = words + 7 + owners, *of_q = of_p + scores;
+    RingUrgent found = ring_urgent(p->room, p->len, q->room, q->len, bytes, owners, of_p, scores, of_q, len - 7 - owners - scores, asked_at(words), lent, RING_WORDS(p->n));
+    free(bytes);
+    if (found.number != 0) return found.number;
+    say((uint32_t)found.count);
+    for (size_t k = 0; k < 16; k++) {
+        say_pair(found.rows[k].pair);
+        say_long(found.rows[k].score);
+    }
+    return 0;
+}
+
 /* What each call is given: how many handles and of what kind, then how many words at least, and whether more may follow. */
 typedef struct Shape {
     int handles;
@@ -534,10 +592,11 @@ static const Shape shapes[] = {
     [STORED_BOOK] = {0, 0, SOURCE + 3, 1}, [FORMS] = {1, A_BOOK, 0, 0}, [DEPOT] = {0, 0, 1, 0}, [GIVE] = {1, A_DEPOT, FORM, 0}, [SHELF] = {1, A_DEPOT, 2, 0},
     [STORED_DEPOT] = {0, 0, 2, 1}, [HELD] = {1, A_DEPOT, 0, 0}, [POSITION] = {1, A_SHEET, 1, 0},
     [RUN] = {2, A_SHEET, 2, 0}, [MANY] = {2, A_SHEET, 8, 1}, [OWN_MANY] = {1, A_SHEET, 6, 0}, [COUNT] = {2, A_SHEET, 5, 1}, [OWN_COUNT] = {1, A_SHEET, 3, 0},
+    [BUSIEST] = {2, A_SHEET, 5, 1}, [BUSIEST_PUMPS] = {2, A_SHEET, 4, 0}, [URGENT] = {2, A_SHEET, 7, 1},
 };
 
 static uint32_t answered(uint32_t call, const uint32_t *words, size_t len) {
-    if (call < HELLO || call > OWN_COUNT) return NO_CALL;
+    if (call < HELLO || call > URGENT) return NO_CALL;
     Shape shape = shapes[call];
     size_t least = (size_t)shape.handles + shape.words;
     if (len < least || (len > least && !shape.more)) return NO_SHAPE;
@@ -578,7 +637,10 @@ static uint32_t answered(uint32_t call, const uint32_t *words, size_t len) {
     case MANY: return many(a, b, words, len);
     case OWN_MANY: return own_many(a, words);
     case COUNT: return count(a, b, words, len);
-    default: return own_count(a, words);
+    case OWN_COUNT: return own_count(a, words);
+    case BUSIEST: return busiest(a, b, words, len);
+    case BUSIEST_PUMPS: return busiest_pumps(a, b, words);
+    default: return urgent(a, b, words, len);
     }
 }
 

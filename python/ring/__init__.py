@@ -1,4 +1,5 @@
-"""Ring pairs from Python, by the proved calls: sheets, pages, lists, why a pair is none, nearest, shortest, partners, self joins, books and the depot.
+"""Ring pairs from Python, by the proved calls: sheets, pages, lists, why a pair is none, nearest, shortest, partners, the busiest, the most urgent,
+self joins, books and the depot.
 
     import ring
 
@@ -13,12 +14,12 @@ exception, `ring.Refused`, with its number and its reason. docs/GUIDE.md says mo
 """
 from .api import Book, Depot, Ring
 from .faults import BadFile, BadTable, NoSuchId, Refused, RingError, WorkerFault
-from .records import Form, Key, Many, Marker, Near, Page, Pair, Partners, Point, Source, Why
+from .records import Form, Key, Many, Marker, Near, Page, Pair, Partners, Point, Rank, Source, Visit, Why
 from .refusals import reason
 from .sheets import Sheet, Units
-from .table import read_owners, read_points
+from .table import read_owners, read_points, read_scores
 
 __all__ = [
-    "BadFile", "BadTable", "Book", "Depot", "Form", "Key", "Many", "Marker", "Near", "NoSuchId", "Page", "Pair", "Partners", "Point", "Refused", "Ring", "RingError",
-    "Sheet", "Source", "Units", "Why", "WorkerFault", "read_owners", "read_points", "reason",
+    "BadFile", "BadTable", "Book", "Depot", "Form", "Key", "Many", "Marker", "Near", "NoSuchId", "Page", "Pair", "Partners", "Point", "Rank", "Refused", "Ring",
+    "RingError", "Sheet", "Source", "Units", "Visit", "Why", "WorkerFault", "read_owners", "read_points", "read_scores", "reason",
 ]

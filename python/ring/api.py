@@ -3,7 +3,7 @@ import struct
 
 from . import sheets, stored
 from .faults import NoSuchId, Refused, WorkerFault
-from .records import Form, Key, Many, Marker, Near, Page, Pair, Partners, Source, Why
+from .records import Form, Key, Many, Marker, Near, Page, Pair, Partners, Rank, Source, Visit, Why
 from .worker import Call, Handle, Worker, long_at, signed
 
 UNDIVIDED = 2
@@ -11,7 +11,7 @@ START = Key(0, 0)
 SETS = ("P", "Q")
 SIDES = ("left", "bottom", "right", "top")
 KINDS = ("clear", "point", "side")
-PAIR, SOURCE, FORM, SLOTS = 4, 6, 9, 16
+PAIR, SOURCE, FORM, RANK, VISIT, SLOTS = 4, 6, 9, 2, 6, 16
 # the slots that a leaf run is lent at first
 LEAF = 1 << 10
 # the slots that many pairs are lent at first, each time so many times as many, and at most
@@ -257,6 +257,36 @@ class Ring:
         """The k ring pairs with the smallest circles, in order."""
         said = self._worker.call(Call.SHORTEST, [number(k, "k")], 1 + SLOTS * PAIR, of=(p, q))
         return list(pairs_at(said, 1, said[0]))
+
+    def busiest(self, p, q, k=16, largest=None, contractor=UNDIVIDED, owners=(), grid=False):
+        """The k chambers that are in the most pairs of the list, in order, those with none too; of a contractor the contractor's. With `largest` the pairs of at most
+        this squared distance count."""
+        return self._busy(Call.BUSIEST, self._asked(k, largest) + [number(contractor, "the contractor"), int(grid)] + [number(one, "an owner") for one in owners], (p, q))
+
+    def busiest_pumps(self, p, q, k=16, largest=None, grid=False):
+        """The k pump houses that are in the most pairs of the undivided list, in order, those with none too."""
+        return self._busy(Call.BUSIEST_PUMPS, self._asked(k, largest) + [int(grid)], (p, q))
+
+    def urgent(self, p, q, p_scores, q_scores, k=16, largest=None, contractor=UNDIVIDED, owners=(), grid=False):
+        """The k pairs of the list with the highest sum of the scores of their two ends, in order. A score is 0 to 1,000,000,000; `p_scores` and `q_scores` have one
+        for each record, by position."""
+        owners, of_p, of_q = ([number(one, what) for one in some] for some, what in ((owners, "an owner"), (p_scores, "a score of P"), (q_scores, "a score of Q")))
+        words = self._asked(k, largest) + [number(contractor, "the contractor"), int(grid), len(owners), len(of_p)] + owners + of_p + of_q
+        said = self._worker.call(Call.URGENT, words, 1 + SLOTS * VISIT, of=(p, q))
+        return [Visit(*pairs_at(said, at, 1), long_at(said, at + PAIR)) for at in range(1, 1 + VISIT * self._rows(said), VISIT)]
+
+    def _asked(self, k, largest):
+        return [number(k, "k")] + self._largest(largest)
+
+    @staticmethod
+    def _rows(said):
+        if said[0] > SLOTS:
+            raise WorkerFault("the worker says %d rows" % said[0])
+        return said[0]
+
+    def _busy(self, call, words, of):
+        said = self._worker.call(call, words, 1 + SLOTS * RANK, of=of)
+        return [Rank(*said[at:at + RANK]) for at in range(1, 1 + RANK * self._rows(said), RANK)]
 
     def partners(self, p, q, q_id, t):
         """Whether a chamber has at least t ring partners."""

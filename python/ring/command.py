@@ -12,7 +12,7 @@ from .api import UNDIVIDED, Ring
 from .faults import BadFile, BadTable, Refused, RingError, WorkerFault
 from .progress import Progress
 from .records import Source
-from .table import DELIMITERS, read_owners, read_points
+from .table import DELIMITERS, read_owners, read_points, read_scores
 
 # a book's first room, and how long it is followed before it is stored again
 ROOM, KEPT = 1 << 16, 5.0
@@ -51,13 +51,21 @@ def terms_of(args, q):
     """What is asked of a list beside its sheets."""
     if (args.contractor is None) != (args.owners is None):
         raise door.Wrong("--contractor and --owners go together: whose list, and the CSV that says whose each chamber is")
-    terms = {"grid": args.grid, "threshold": args.threshold}
+    terms = {"grid": args.grid, **({"threshold": args.threshold} if hasattr(args, "threshold") else {})}
     if args.contractor is not None:
         try:
             terms.update(contractor=args.contractor, owners=read_owners(read(args.owners), q, args.id, args.owner, **csv_terms(args)))
         except BadTable as fault:
             raise BadTable("%s: %s" % (args.owners, fault))
     return terms
+
+
+def scores_of(args, name, sheet, what):
+    """The score of each record of a sheet, of a CSV."""
+    try:
+        return read_scores(read(name), sheet, args.id, args.score, what=what, **csv_terms(args))
+    except BadTable as fault:
+        raise BadTable("%s: %s" % (name, fault))
 
 
 def largest_of(args):
@@ -109,13 +117,23 @@ def geojson(p, q, pairs, given):
          "geometry": {"type": "LineString", "coordinates": [place(q.point(pair.q)), place(p.point(pair.p))]}} for pair in pairs]}
 
 
+def shown_terms(terms):
+    """What is said of a list's terms: all but the owners, which are as many as the chambers."""
+    return {name: value for name, value in terms.items() if name != "owners"}
+
+
+def row_of(p, q, pair):
+    """A pair, with twice the centre."""
+    x2, y2 = middle(q.point(pair.q), p.point(pair.p))
+    return dict(pair._asdict(), x2=x2, y2=y2)
+
+
 def give_list(args, p, q, pairs, terms):
     if args.geojson:
         put(args, json.dumps(geojson(p, q, pairs, units(args))) + "\n")
         return
-    rows = [dict(pair._asdict(), x2=middle(q.point(pair.q), p.point(pair.p))[0], y2=middle(q.point(pair.q), p.point(pair.p))[1]) for pair in pairs] if args.json else []
-    kept = {name: value for name, value in terms.items() if name != "owners"}
-    answer(args, {"p": head_of(p), "q": head_of(q), "terms": kept, "pairs": rows, "count": len(pairs)}, "" if args.json else lines_of(p, q, pairs))
+    rows = [row_of(p, q, pair) for pair in pairs] if args.json else []
+    answer(args, {"p": head_of(p), "q": head_of(q), "terms": shown_terms(terms), "pairs": rows, "count": len(pairs)}, "" if args.json else lines_of(p, q, pairs))
 
 
 def gathered(listed, q):
@@ -238,6 +256,34 @@ def shortest(ring, args):
     with Progress():
         pairs = ring.shortest(p, q, args.count)
     give_list(args, p, q, pairs, {"shortest": args.count})
+
+
+def busiest(ring, args):
+    if args.pumps and (args.contractor is not None or args.owners is not None):
+        raise door.Wrong("pump houses are of the undivided list: no --contractor and no --owners with --pumps")
+    p, q = both(ring, args)
+    terms = {**terms_of(args, q), **largest_of(args)}
+    with Progress():
+        ranks = (ring.busiest_pumps if args.pumps else ring.busiest)(p, q, args.count, **terms)
+    record = {"p": head_of(p), "q": head_of(q), "of": "P" if args.pumps else "Q", "terms": shown_terms(terms), "ranks": [rank._asdict() for rank in ranks], "count": len(ranks)}
+    answer(args, record, "".join("%d %d\n" % rank for rank in ranks) + "end %d\n" % len(ranks))
+
+
+def urgent(ring, args):
+    p, q = both(ring, args)
+    terms = {**terms_of(args, q), **largest_of(args)}
+    scores = scores_of(args, args.p_scores, p, "pump house"), scores_of(args, args.q_scores, q, "chamber")
+    with Progress():
+        visits = ring.urgent(p, q, *scores, args.count, **terms)
+    if args.geojson:
+        drawn = geojson(p, q, [visit.pair for visit in visits], units(args))
+        for feature, visit in zip(drawn["features"], visits):
+            feature["properties"]["score"] = visit.score
+        put(args, json.dumps(drawn) + "\n")
+        return
+    rows = [dict(row_of(p, q, visit.pair), score=visit.score) for visit in visits]
+    answer(args, {"p": head_of(p), "q": head_of(q), "terms": shown_terms(terms), "pairs": rows, "count": len(rows)},
+           "".join("%(q)d %(p)d %(x2)d %(y2)d %(size)d %(score)d\n" % row for row in rows) + "end %d\n" % len(rows))
 
 
 def why(ring, args):
@@ -606,9 +652,10 @@ def with_csv(one):
     one.add_argument("--encoding", help="of the CSV (UTF-8, or what a mark at its start says)")
 
 
-def with_terms(one):
+def with_terms(one, threshold=True):
     one.add_argument("--grid", action="store_true", help="along a street grid (sheets of form 1)")
-    one.add_argument("--threshold", type=whole_number, default=0, metavar="T", help="of the chambers with at least T pairs")
+    if threshold:
+        one.add_argument("--threshold", type=whole_number, default=0, metavar="T", help="of the chambers with at least T pairs")
     one.add_argument("--contractor", type=whole_number, metavar="0|1", help="of this contractor's chambers; every record still blocks")
     one.add_argument("--owners", metavar="FILE.csv", help="whose each chamber is: a CSV with the ids and a column of 0 or 1")
     one.add_argument("--owner", metavar="NAME", help="the column of the owners (owner)")
@@ -716,6 +763,25 @@ def parser():
     one = added(commands, "shortest", shortest, "the ring pairs with the smallest circles", "./ring shortest pumps.sheet chambers.sheet --count 5")
     with_sheets(one)
     one.add_argument("--count", type=whole_number, default=16, metavar="K", help="1 to 16")
+    with_list(one)
+    one = added(commands, "busiest", busiest, "the chambers, or the pump houses, that are in the most ring pairs", "./ring busiest pumps.sheet chambers.sheet --count 5 --largest 900000000",
+                " A line for each: its\nid and its number of pairs, more first, of as many the lower id first; those with none too. Then `end` and\nthe number of lines.")
+    with_sheets(one)
+    one.add_argument("--pumps", action="store_true", help="of the pump houses, and not of the chambers")
+    one.add_argument("--count", type=whole_number, default=16, metavar="K", help="1 to 16")
+    with_largest(one)
+    with_terms(one, threshold=False)
+    with_out(one)
+    one = added(commands, "urgent", urgent, "the ring pairs with the highest sum of the scores of their two ends",
+                "./ring urgent pumps.sheet chambers.sheet --p-scores pumps.csv --q-scores chambers.csv --score AGE --count 5",
+                " Lines as\nof `list`, each with that sum at its end, the highest first; of one sum by q id, then p id.")
+    with_sheets(one)
+    one.add_argument("--p-scores", required=True, metavar="FILE.csv", help="a CSV with the ids of the pump houses and a column of scores, 0 to 1,000,000,000: one for each")
+    one.add_argument("--q-scores", required=True, metavar="FILE.csv", help="the same of the chambers")
+    one.add_argument("--score", metavar="NAME", help="the column of the scores (score)")
+    one.add_argument("--count", type=whole_number, default=16, metavar="K", help="1 to 16")
+    with_largest(one)
+    with_terms(one, threshold=False)
     with_list(one)
     one = added(commands, "why", why, "why a chamber and a pump house are a pair, or none", "./ring why pumps.sheet chambers.sheet 1004 106")
     with_sheets(one)

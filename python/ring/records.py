@@ -45,6 +45,18 @@ class Many(NamedTuple):
     more: bool
 
 
+class Rank(NamedTuple):
+    """A chamber or a pump house, and how many pairs of the list it is in."""
+    id: int
+    pairs: int
+
+
+class Visit(NamedTuple):
+    """A pair of the list, and the sum of the scores of its two ends."""
+    pair: Pair
+    score: int
+
+
 class Near(NamedTuple):
     """A pump house, and its squared distance to the chamber that was asked for."""
     id: int

@@ -9,6 +9,8 @@ from .faults import BadTable
 from .records import Point
 from .sheets import COORDINATE, ID, POINTS, Units
 
+# the highest score
+SCORE = 1_000_000_000
 DELIMITERS = {"comma": ",", "semicolon": ";", "tab": "\t"}
 MARKS = ((codecs.BOM_UTF8, "utf-8-sig"), (codecs.BOM_UTF16_LE, "utf-16"), (codecs.BOM_UTF16_BE, "utf-16"))
 WHOLE = re.compile(r"[+-]?[0-9]{1,20}")
@@ -121,21 +123,44 @@ def read_points(data, id=None, x=None, y=None, units=Units(), delimiter=None, en
     return sorted(points)
 
 
-def read_owners(data, sheet, id=None, owner=None, delimiter=None, encoding=None):
-    """The owner of each chamber of a sheet, 0 or 1, by position, from a CSV's bytes with a column of ids and one of owners. Each chamber has to have one."""
-    owners, lines = {}, {}
-    for line, (name, value) in table(decoded(data, encoding), (id, owner), ("id", "owner"), delimiter):
+def by_record(data, sheet, columns, plain, what, value_of, delimiter, encoding):
+    """A value for each record of a sheet, by position, from a CSV's bytes with a column of ids and one of values. Each record, `what`, has to have one."""
+    values, lines = {}, {}
+    for line, (name, value) in table(decoded(data, encoding), columns, plain, delimiter):
         number = id_of(name, line)
-        if value not in ("0", "1"):
-            raise BadTable("line %d: the owner '%s' is not 0 or 1" % (line, value))
+        kept = value_of(value, line)
         if number in lines:
             raise BadTable("line %d: the id %d stands in line %d already" % (line, number, lines[number]))
-        owners[number], lines[number] = int(value), line
+        values[number], lines[number] = kept, line
     known = {point.id for point in sheet.points}
-    for number in owners:
+    for number in values:
         if number not in known:
-            raise BadTable("line %d: no chamber of %s has the id %d" % (lines[number], sheet.name, number))
+            raise BadTable("line %d: no %s of %s has the id %d" % (lines[number], what, sheet.name, number))
     for point in sheet.points:
-        if point.id not in owners:
-            raise BadTable("the chamber %d of %s has no owner" % (point.id, sheet.name))
-    return [owners[point.id] for point in sheet.points]
+        if point.id not in values:
+            raise BadTable("the %s %d of %s has no %s" % (what, point.id, sheet.name, plain[1]))
+    return [values[point.id] for point in sheet.points]
+
+
+def owner_of(text, line):
+    if text not in ("0", "1"):
+        raise BadTable("line %d: the owner '%s' is not 0 or 1" % (line, text))
+    return int(text)
+
+
+def score_of(text, line):
+    if not WHOLE.fullmatch(text):
+        raise BadTable("line %d: the score '%s' is no whole number" % (line, text))
+    if not 0 <= int(text) <= SCORE:
+        raise BadTable("line %d: the score %d is not from 0 to %d" % (line, int(text), SCORE))
+    return int(text)
+
+
+def read_owners(data, sheet, id=None, owner=None, delimiter=None, encoding=None):
+    """The owner of each chamber of a sheet, 0 or 1, by position, from a CSV's bytes with a column of ids and one of owners. Each chamber has to have one."""
+    return by_record(data, sheet, (id, owner), ("id", "owner"), "chamber", owner_of, delimiter, encoding)
+
+
+def read_scores(data, sheet, id=None, score=None, delimiter=None, encoding=None, what="record"):
+    """The score of each record of a sheet, 0 to 1,000,000,000, by position, from a CSV's bytes with a column of ids and one of scores. Each record has to have one."""
+    return by_record(data, sheet, (id, score), ("id", "score"), what, score_of, delimiter, encoding)

@@ -48,6 +48,9 @@ class Call(enum.IntEnum):
     OWN_MANY = 27
     COUNT = 28
     OWN_COUNT = 29
+    BUSIEST = 30
+    BUSIEST_PUMPS = 31
+    URGENT = 32
 
 
 # statuses that are no number of refusal: faults of a frame

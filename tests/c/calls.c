@@ -1,10 +1,10 @@
 /*
  * Every call of ring.h with random and damaged inputs: null with length 0, wrong lengths, extreme numbers, words changed at random, sheets of both forms.
  * Answers are held to a plain second reading of the rules: the numbers of open, pack, next key and take; the list, by trying every pair against every
- * record; the shortest pairs, the nearest pump houses, a leaf's run, many pairs at once and their number likewise; what walks keep, what stops them, and the nodes opened, of pages and runs
- * too, by plain walks; the marker, doubled. Pages, books and ring walks of the street grid are held to it by turned coordinates.
- * A contractor's pages, books and forms are held to the same reading, and the blind test is made of pages, of many pairs and of their number: two runs that differ in
- * the ids of the other's chambers alone. Many pairs at once, followed by the last one's key, are those of the pages.
+ * record; the shortest pairs, the nearest pump houses, a leaf's run, many pairs at once and their number, the busiest and the most urgent likewise; what walks keep,
+ * what stops them, and the nodes opened, of pages and runs too, by plain walks; the marker, doubled. Pages, books and ring walks of the street grid are held to it by turned coordinates.
+ * A contractor's pages, books and forms are held to the same reading, and the blind test is made of pages, of many pairs and of their number, of the busiest and of the most
+ * urgent: two runs that differ in the ids of the other's chambers alone. Many pairs at once, followed by the last one's key, are those of the pages.
  * Lent memory is held to a copy made before the call, with marks on both sides: what an answer is to leave there is put into the copy, and nothing for a refusal.
  * Last two sheets of 60,000 points, held to the same reading.
  * Prints one line, and ends with 1 where an answer differs or a number of refusal never came up.
@@ -25,9 +25,9 @@
 /* how much is watched on both sides of what is lent */
 #define PAST 64
 
-/* the numbers of refusal: 0 to 22, 24 to 31, and 40 */
-#define LAST 40
-#define A_NUMBER(k) ((k) <= 22 || ((k) >= 24 && (k) <= 31) || (k) == 40)
+/* the numbers of refusal: 0 to 22, 24 to 31, and 40 to 42 */
+#define LAST 42
+#define A_NUMBER(k) ((k) <= 22 || ((k) >= 24 && (k) <= 31) || ((k) >= 40 && (k) <= 42))
 
 /* counts have 64 bits: a field, or a whole struct, has so many bytes */
 #define FIELD(type, field, bytes) typedef char type##_##field[sizeof ((type *)0)->field == (bytes) ? 1 : -1]
@@ -74,6 +74,15 @@ FIELD(RingWanted, grid, 1);
 FIELD(RingCounted, count, 8);
 FIELD(RingMany, count, 8);
 FIELD(RingMany, more, 1);
+FIELD(RingAsked, k, 8);
+FIELD(RingAsked, largest, 8);
+FIELD(RingAsked, contractor, 4);
+FIELD(RingAsked, grid, 1);
+FIELD(RingRank, id, 4);
+FIELD(RingRank, pairs, 4);
+FIELD(RingBusy, count, 8);
+FIELD(RingVisit, score, 8);
+FIELD(RingUrgent, count, 8);
 STRUCT(RingTerms, 12);
 STRUCT(RingSource, 20);
 STRUCT(RingRequest, 32);
@@ -91,6 +100,11 @@ STRUCT(RingWhich, 24);
 STRUCT(RingWanted, 32);
 STRUCT(RingCounted, 16);
 STRUCT(RingMany, 24);
+STRUCT(RingAsked, 24);
+STRUCT(RingRank, 8);
+STRUCT(RingBusy, 144);
+STRUCT(RingVisit, 24);
+STRUCT(RingUrgent, 400);
 
 static uint64_t seed = 88172645463325252ull;
 static unsigned long calls, wrong, first_wrong, seen[LAST + 1], named[2][4];
@@ -581,12 +595,14 @@ static void lend_words(size_t len) {
     for (size_t k = 0; k < len + 2 * PAST; k++) words[k] = words_due[k] = chance();
 }
 
-/* as many as the points of P need, or so many times as many; fewer, one fewer, or more. The number of refusal, where it was 0 */
-static uint32_t lend(uint32_t number, size_t times) {
-    size_t need = number ? below(25) : times * words_for(count_of(&P)), way = below(8);
+/* as many as the points of a sheet need, or so many times as many; fewer, one fewer, or more. The number of refusal, where it was 0 */
+static uint32_t lend_for(const Sheet *s, uint32_t number, size_t times) {
+    size_t need = number ? below(25) : times * words_for(count_of(s)), way = below(8);
     lend_words(way == 0 && need ? need - 1 : way == 1 ? below(need + 1) : way == 2 ? need + 1 + below(40) : need);
     return number ? number : words_len < need ? 24 : 0;
 }
+
+static uint32_t lend(uint32_t number, size_t times) { return lend_for(&P, number, times); }
 
 /* what an answer leaves: a kept set, or zeros where there is none */
 static void leave(size_t times, const Kept *kept) {
@@ -1036,6 +1052,160 @@ static void try_own_count(void) {
     HOLD(r.number == number && r.count == (number ? 0 : listed_to(grid, true, largest, 0, listed)));
 }
 
+/* ---- the busiest, and the most urgent */
+
+static size_t some_k(void) { return below(6) ? 1 + below(16) : below(2) ? 17 * below(2) : wild_size(); }
+
+static unsigned long busy_tied, busy_none, busy_left, busy_few, urgent_tied, urgent_cut, urgent_few;
+
+/* how many of the pairs have the id at an end, of a chamber or of a pump house */
+static uint32_t pairs_with(const RingPair *pairs, size_t count, bool pumps, uint32_t id) {
+    uint32_t many = 0;
+    for (size_t k = 0; k < count; k++) many += (pumps ? pairs[k].p : pairs[k].q) == id;
+    return many;
+}
+
+/* of the contractor's chambers, or of the pump houses, the k with the most pairs: each the first of all that are not given yet */
+static size_t busiest_of(size_t k, bool pumps, const RingPair *pairs, size_t count, RingRank *rows) {
+    static bool given[MANY];
+    const Sheet *s = pumps ? &P : &Q;
+    size_t n = count_of(s), left = 0, had = 0;
+    for (size_t j = 0; j < n; j++) given[j] = !pumps && !is_mine(j), left += !given[j];
+    for (; had < k && left; had++, left--) {
+        size_t best = n;
+        for (size_t j = 0; j < n; j++) {
+            RingRank one = {(uint32_t)s->words[3 * j], pairs_with(pairs, count, pumps, (uint32_t)s->words[3 * j])};
+            if (!given[j] && (best == n || one.pairs > rows[had].pairs)) best = j, rows[had] = one;
+        }
+        given[best] = true;
+        busy_none += rows[had].pairs == 0, busy_tied += had && rows[had].pairs == rows[had - 1].pairs;
+    }
+    busy_left += left > 0, busy_few += had < k;
+    return had;
+}
+
+static bool same_ranks(const RingRank *a, const RingRank *b) {
+    for (size_t k = 0; k < 16; k++)
+        if (a[k].id != b[k].id || a[k].pairs != b[k].pairs) return false;
+    return true;
+}
+
+static void try_busiest(void) {
+    bool grid = below(2);
+    size_t j, i, count = 0, k = some_k(), had = 0;
+    RingRank rows[16];
+    uint32_t number = some_owners(two_sheets_of(grid, 24, &j, &i));
+    if (!number && !is_small(false)) return;
+    if (!number) count = listed_to(grid, false, ANY_SIZE, 0, listed);
+    uint64_t largest = some_largest(listed, count);
+    if (!number) number = k < 1 || k > 16 ? 10 : largest > ANY_SIZE ? 40 : 0;
+    number = lend(number, 1);
+    memset(rows, 0, sizeof rows);
+    if (!number) count = listed_to(grid, false, largest, 0, listed), had = busiest_of(k, false, listed, count, rows), leave(1, NULL);
+    RingBusy r = ring_busiest(at(&P), P.len, at(&Q), Q.len, owners_len ? owners : NULL, owners_len, (RingAsked){k, largest, contractor, grid}, bits(), words_len);
+    saw(r.number), hold_saved(), hold_lent();
+    HOLD(r.number == number && r.count == had && same_ranks(r.rows, rows));
+    contractor = 2;
+}
+
+static void try_busiest_pumps(void) {
+    bool grid = below(2);
+    size_t j, i, count = 0, k = some_k(), had = 0;
+    RingRank rows[16];
+    uint32_t number = two_sheets_of(grid, 24, &j, &i);
+    contractor = 2;
+    if (!number && !is_small(false)) return;
+    if (!number) count = listed_to(grid, false, ANY_SIZE, 0, listed);
+    uint64_t largest = some_largest(listed, count);
+    if (!number) number = k < 1 || k > 16 ? 10 : largest > ANY_SIZE ? 40 : 0;
+    /* the kept sets are of chambers */
+    number = lend_for(&Q, number, 1);
+    memset(rows, 0, sizeof rows);
+    if (!number) {
+        count = listed_to(grid, false, largest, 0, listed), had = busiest_of(k, true, listed, count, rows);
+        memset(words_due + PAST, 0, words_for(count_of(&Q)) * sizeof words[0]);
+    }
+    RingBusy r = ring_busiest_pumps(at(&P), P.len, at(&Q), Q.len, k, largest, grid, bits(), words_len);
+    saw(r.number), hold_saved(), hold_lent();
+    HOLD(r.number == number && r.count == had && same_ranks(r.rows, rows));
+}
+
+/* scores, with others on both sides, and a copy of all */
+typedef struct {
+    uint32_t room[MANY + 2 + 2 * PAST], was[MANY + 2 + 2 * PAST];
+    size_t len;
+} Scores;
+
+static Scores of_p, of_q;
+
+static uint32_t *scores_at(Scores *s) { return s->len ? s->room + PAST : NULL; }
+
+/* one for each of n records: few different ones, any, or the highest; or they are spoilt: one too high, one too few, one too many. Whether they are right */
+static bool some_scores(Scores *s, size_t n) {
+    size_t way = below(6);
+    bool bad = below(12) == 0;
+    for (size_t k = 0; k < n + 2 + 2 * PAST; k++)
+        s->room[k] = way == 0 ? 0 : way == 1 ? 1000000000 : way == 2 ? (below(2) ? 0 : 1000000000) : way < 5 ? (uint32_t)below(4) : (uint32_t)below(1000000001);
+    s->len = n;
+    if (bad && n && below(2)) s->room[PAST + below(n)] = below(2) ? 1000000001 : 1000000001 + (uint32_t)below(3294967295u);
+    else if (bad) s->len = n && below(2) ? n - 1 : n + 1;
+    memcpy(s->was, s->room, sizeof s->was);
+    return !bad;
+}
+
+static void hold_scores(void) { HOLD(memcmp(of_p.room, of_p.was, sizeof of_p.was) == 0 && memcmp(of_q.room, of_q.was, sizeof of_q.was) == 0); }
+
+static size_t with_name(const Sheet *s, uint32_t id) {
+    size_t k = 0;
+    while ((uint32_t)s->words[3 * k] != id) k++;
+    return k;
+}
+
+/* the pairs stand by q id, then p id: each row is the first of those with the highest score that are not given yet */
+static size_t urgent_of(size_t k, const RingPair *pairs, size_t count, RingVisit *rows) {
+    static bool given[LISTED];
+    static uint64_t sums[LISTED];
+    size_t had = 0;
+    for (size_t v = 0; v < count; v++)
+        given[v] = false, sums[v] = (uint64_t)of_q.room[PAST + with_name(&Q, pairs[v].q)] + of_p.room[PAST + with_name(&P, pairs[v].p)];
+    for (; had < k && had < count; had++) {
+        size_t best = count;
+        for (size_t v = 0; v < count; v++)
+            if (!given[v] && (best == count || sums[v] > sums[best])) best = v;
+        given[best] = true, rows[had].pair = pairs[best], rows[had].score = sums[best];
+        urgent_tied += had && rows[had].score == rows[had - 1].score;
+    }
+    urgent_cut += had < count, urgent_few += had < k;
+    return had;
+}
+
+static bool same_visits(const RingVisit *a, const RingVisit *b) {
+    for (size_t k = 0; k < 16; k++)
+        if (a[k].pair.q != b[k].pair.q || a[k].pair.p != b[k].pair.p || a[k].pair.size != b[k].pair.size || a[k].score != b[k].score) return false;
+    return true;
+}
+
+static void try_urgent(void) {
+    bool grid = below(2);
+    size_t j, i, count = 0, k = some_k(), had = 0;
+    RingVisit rows[16];
+    uint32_t sheets = two_sheets_of(grid, 24, &j, &i), number = some_owners(sheets);
+    bool opens = !sheets || sheets == 29;
+    if (opens && !is_small(false)) return;
+    bool p_right = some_scores(&of_p, opens ? count_of(&P) : below(9)), q_right = some_scores(&of_q, opens ? count_of(&Q) : below(9));
+    if (!number) count = listed_to(grid, false, ANY_SIZE, 0, listed);
+    uint64_t largest = some_largest(listed, count);
+    if (!number) number = k < 1 || k > 16 ? 10 : largest > ANY_SIZE ? 40 : !p_right ? 41 : !q_right ? 42 : 0;
+    number = lend(number, 1);
+    memset(rows, 0, sizeof rows);
+    if (!number) count = listed_to(grid, false, largest, 0, listed), had = urgent_of(k, listed, count, rows), leave(1, NULL);
+    RingUrgent r = ring_urgent(at(&P), P.len, at(&Q), Q.len, owners_len ? owners : NULL, owners_len, scores_at(&of_p), of_p.len, scores_at(&of_q), of_q.len,
+                               (RingAsked){k, largest, contractor, grid}, bits(), words_len);
+    saw(r.number), hold_saved(), hold_lent(), hold_scores();
+    HOLD(r.number == number && r.count == had && same_visits(r.rows, rows));
+    contractor = 2;
+}
+
 /* by size, then q id, then p id */
 static bool sooner(RingPair v, RingPair w) { return v.size != w.size ? v.size < w.size : v.q != w.q ? v.q < w.q : v.p < w.p; }
 
@@ -1474,6 +1644,27 @@ static void blind_many(RingKey key, uint32_t t, bool grid, size_t n, const uint6
     HOLD(first.number == second.number && first.count == second.count && (first.number || one.number || one.count <= first.count));
 }
 
+/* the same for the busiest and the most urgent, where scores go by places */
+static void blind_ranked(bool grid, size_t n, const uint64_t *words_before) {
+    RingAsked asked = {below(8) ? 1 + below(16) : below(18), below(3) ? ANY_SIZE : below(2) ? below(40) : chance() >> below(64), contractor, grid};
+    memcpy(words, words_before, sizeof words);
+    RingBusy one = ring_busiest(at(&P), P.len, at(&Q), Q.len, n ? owners : NULL, n, asked, bits(), words_len);
+    memcpy(words_due, words, sizeof words), memcpy(words, words_before, sizeof words);
+    RingBusy two = ring_busiest(at(&second_p), second_p.len, at(&second_q), second_q.len, n ? moved : NULL, n, asked, bits(), words_len);
+    saw(one.number), saw(two.number), hold_saved(), hold_lent();
+    HOLD(one.number == two.number && one.count == two.count && same_ranks(one.rows, two.rows));
+    static uint32_t score[3][MANY + 1];
+    const int32_t *points[3] = {P.words, Q.words, second_q.words};
+    for (size_t s = 0; s < 3; s++)
+        for (size_t k = 0; k < (s ? n : count_of(&P)); k++) score[s][k] = (7 * (uint32_t)points[s][3 * k + 1] + (uint32_t)points[s][3 * k + 2]) % 5;
+    memcpy(words, words_before, sizeof words);
+    RingUrgent first = ring_urgent(at(&P), P.len, at(&Q), Q.len, n ? owners : NULL, n, score[0], count_of(&P), score[1], n, asked, bits(), words_len);
+    memcpy(words_due, words, sizeof words), memcpy(words, words_before, sizeof words);
+    RingUrgent second = ring_urgent(at(&second_p), second_p.len, at(&second_q), second_q.len, n ? moved : NULL, n, score[0], count_of(&P), score[2], n, asked, bits(), words_len);
+    saw(first.number), saw(second.number), hold_saved(), hold_lent();
+    HOLD(first.number == second.number && first.number == one.number && first.count == second.count && same_visits(first.rows, second.rows));
+}
+
 static void try_blind(void) {
     static uint64_t words_before[16 * 938 + 40 + 2 * PAST];
     size_t j, i, size = below(12) ? 1 + below(16) : below(2) ? 0 : 17;
@@ -1497,6 +1688,7 @@ static void try_blind(void) {
     saw(one.number), saw(two.number), hold_saved(), hold_lent();
     HOLD(one.number == two.number && same_page(&one.page, &two.page));
     blind_many(key, t, grid, n, words_before);
+    blind_ranked(grid, n, words_before);
     size_t k = with_id(Q.words, n, key.q);
     blind_named += !one.number && k < n && !is_mine(k), blind_moved += memcmp(owners, moved, n) != 0;
     contractor = 2;
@@ -1754,6 +1946,68 @@ static void province_run(size_t v) {
     }
 }
 
+/* the position of an id */
+static size_t place_of(const Sheet *s, uint32_t id) {
+    size_t low = 0, high = count_of(s);
+    while (low + 1 < high)
+        if ((uint32_t)s->words[3 * ((low + high) / 2)] <= id) low = (low + high) / 2;
+        else high = (low + high) / 2;
+    return low;
+}
+
+/* of the whole list of the two: the sixteen busiest of either sheet, and the sixteen most urgent, each the first of all that come after the last one */
+static void province_ranked(const RingPair *all, size_t len) {
+    static uint32_t many[2][LARGEST], score[2][LARGEST];
+    static uint64_t sums[16 * LARGEST];
+    const Sheet *const both[2] = {&Q, &P};
+    const size_t need = words_for(LARGEST);
+    memset(many, 0, sizeof many), memset(sums, 0, sizeof sums);
+    for (size_t e = 0; e < 2; e++) {
+        for (size_t j = 0; j < LARGEST; j++) score[e][j] = below(4) ? (uint32_t)below(1000) : 1000000000 - (uint32_t)below(3);
+        for (size_t k = 0; k < len; k++) {
+            size_t j = place_of(both[e], e ? all[k].p : all[k].q);
+            many[e][j]++, sums[k] += score[e][j];
+        }
+    }
+    for (size_t e = 0; e < 2; e++) {
+        RingRank rows[16];
+        for (size_t h = 0, last = 0; h < 16; h++) {
+            size_t best = LARGEST;
+            for (size_t j = 0; j < LARGEST; j++) {
+                bool follows = h == 0 || many[e][j] < many[e][last] || (many[e][j] == many[e][last] && j > last);
+                if (follows && (best == LARGEST || many[e][j] > many[e][best])) best = j;
+            }
+            rows[h].id = (uint32_t)both[e]->words[3 * best], rows[h].pairs = many[e][best], last = best;
+        }
+        for (size_t fewer = 0; fewer < 2; fewer++) {
+            lend_words(need - fewer);
+            if (!fewer) leave(1, NULL);
+            RingBusy r = e ? ring_busiest_pumps(P.words, P.len, Q.words, Q.len, 16, ANY_SIZE, false, bits(), words_len)
+                           : ring_busiest(P.words, P.len, Q.words, Q.len, NULL, 0, (RingAsked){16, ANY_SIZE, 2, false}, bits(), words_len);
+            saw(r.number), hold_saved(), hold_lent();
+            HOLD(fewer ? r.number == 24 && r.count == 0 : r.number == 0 && r.count == 16 && same_ranks(r.rows, rows));
+        }
+    }
+    RingVisit rows[16];
+    for (size_t h = 0, last = 0; h < 16; h++) {
+        size_t best = len;
+        for (size_t k = 0; k < len; k++) {
+            bool follows = h == 0 || sums[k] < sums[last] || (sums[k] == sums[last] && k > last);
+            if (follows && (best == len || sums[k] > sums[best])) best = k;
+        }
+        rows[h].pair = all[best], rows[h].score = sums[best], last = best;
+    }
+    for (uint32_t no = 40; no <= 42; no++) {
+        /* right, and with the last score of either too high */
+        lend_words(need);
+        if (no == 40) leave(1, NULL);
+        else score[no == 41][LARGEST - 1] = 1000000001, score[no != 41][LARGEST - 1] = 1000000000;
+        RingUrgent r = ring_urgent(P.words, P.len, Q.words, Q.len, NULL, 0, score[1], LARGEST, score[0], LARGEST, (RingAsked){16, ANY_SIZE, 2, false}, bits(), need);
+        saw(r.number), hold_saved(), hold_lent();
+        HOLD(no == 40 ? r.number == 0 && r.count == 16 && same_visits(r.rows, rows) : r.number == no && r.count == 0);
+    }
+}
+
 /* the whole list, or that of P's self join, on exactly as many slots as are counted: it ascends, each pair of it is clear by a plain ring walk, and some chambers have all
    theirs; the first of it again on fewer slots, and from a key amid it */
 static void province_pairs(bool own) {
@@ -1793,6 +2047,7 @@ static void province_pairs(bool own) {
         for (size_t k = 1; k <= len; k++) stored += all[k].q == (uint32_t)s->words[3 * j];
         HOLD(many == stored);
     }
+    if (!own) province_ranked(all + 1, len);
     RingKey key = {all[mid].q, all[mid].p};
     memset(many_room, 0xA5, sizeof many_room), memcpy(many_due, many_room, sizeof many_room), memcpy(many_due + 8, all + mid + 1, 1000 * sizeof all[0]);
     lend_words(need), leave(1, NULL);
@@ -1922,7 +2177,7 @@ static void try_barren(void) {
 }
 
 int main(void) {
-    static void (*const tries[])(void) = {try_open, try_pack, try_point, try_filter, try_pair, try_page, try_own, try_partners, try_shortest, try_begin, try_next, try_take, try_forms, try_depot_begin, try_depot_take, try_marker, try_leaf, try_nearest, try_near_filter, try_length, try_position, try_pairs, try_own_pairs, try_count, try_own_count};
+    static void (*const tries[])(void) = {try_open, try_pack, try_point, try_filter, try_pair, try_page, try_own, try_partners, try_shortest, try_begin, try_next, try_take, try_forms, try_depot_begin, try_depot_take, try_marker, try_leaf, try_nearest, try_near_filter, try_length, try_position, try_pairs, try_own_pairs, try_count, try_own_count, try_busiest, try_busiest_pumps, try_urgent};
     size_t exports = sizeof tries / sizeof tries[0];
     for (size_t n = 0; n <= LARGEST; n++) HOLD(RING_WORDS(n) == words_for(n));
     for (size_t k = 0; k < 4; k++)
@@ -1934,6 +2189,7 @@ int main(void) {
     for (int i = 0; i < TIMES; i++) try_blind();
     HOLD(blind_named && blind_moved);
     HOLD(many_exact && many_cut && many_none && many_left && many_edge);
+    HOLD(busy_tied && busy_none && busy_left && busy_few && urgent_tied && urgent_cut && urgent_few);
     try_provinces();
     unsigned long unseen = 0, unnamed = 0;
     for (int k = 0; k <= LAST; k++) unseen += A_NUMBER(k) && seen[k] == 0;

@@ -34,6 +34,7 @@ SHAPES = {
     Call.TAKE: (1, BOOK, PAGED, False), Call.SLOTS: (1, BOOK, 2, False), Call.STORED_BOOK: (0, None, SOURCE + 3, True), Call.FORMS: (1, BOOK, 0, False),
     Call.DEPOT: (0, None, 1, False), Call.GIVE: (1, DEPOT, FORM, False), Call.SHELF: (1, DEPOT, 2, False), Call.STORED_DEPOT: (0, None, 2, True), Call.HELD: (1, DEPOT, 0, False), Call.POSITION: (1, SHEET, 1, False),
     Call.RUN: (2, SHEET, 2, False), Call.MANY: (2, SHEET, 8, True), Call.OWN_MANY: (1, SHEET, 6, False), Call.COUNT: (2, SHEET, 5, True), Call.OWN_COUNT: (1, SHEET, 3, False),
+    Call.BUSIEST: (2, SHEET, 5, True), Call.BUSIEST_PUMPS: (2, SHEET, 4, False), Call.URGENT: (2, SHEET, 7, True),
 }
 
 
@@ -240,6 +241,33 @@ class Reading:
             raise No(29)
         self.up_to(largest, 0)
         return long_words(len(reading.list_up_to(self.pairs(s, None, grid), largest, 0)))
+
+    def told(self, found, width):
+        """How many rows, and the rows; the unused ones are zeros."""
+        number, rows, _ = found
+        if number:
+            raise No(number)
+        said = [word for row in rows for word in (list(row) if width == 2 else pair_words(row[0]) + long_words(row[1]))]
+        return [len(rows)] + said + [0] * (16 * width - len(said))
+
+    def listed(self, p, q, grid):
+        """The undivided list, or no list where its profile is refused."""
+        return [] if grid and 2 in (p.read.form, q.read.form) else self.pairs(p, q, grid)
+
+    def busiest(self, p, q, words):
+        k, largest, contractor, grid, owners = words[0], long_at(words, 1), words[3], bool(words[4]), words[5:]
+        return self.told(reading.busiest_call(p.words, q.words, k, largest, self.listed(p, q, grid), grid=grid, contractor=contractor, owners=owners), 2)
+
+    def busiest_pumps(self, p, q, words):
+        k, largest, grid = words[0], long_at(words, 1), bool(words[3])
+        return self.told(reading.busiest_pumps_call(p.words, q.words, k, largest, self.listed(p, q, grid), grid=grid), 2)
+
+    def urgent(self, p, q, words):
+        k, largest, contractor, grid, bytes_, scores, rest = words[0], long_at(words, 1), words[3], bool(words[4]), words[5], words[6], words[7:]
+        if bytes_ + scores > len(rest):
+            raise No(NO_SHAPE)
+        owners, of_p, of_q = rest[:bytes_], rest[bytes_:bytes_ + scores], rest[bytes_ + scores:]
+        return self.told(reading.urgent_call(p.words, q.words, of_p, of_q, k, largest, self.listed(p, q, grid), grid=grid, contractor=contractor, owners=owners), 6)
 
     def own(self, s, words):
         key, size, grid = (words[0], words[1]), words[2], bool(words[3])

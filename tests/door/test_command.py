@@ -472,6 +472,83 @@ class Lists(Commands):
         self.assertEqual(len(json.loads(self.served("shortest", *TOWN_SHEETS, "--geojson"))["features"]), 16)
         self.refused("refused by 10", "shortest", *TOWN_SHEETS, "--count", 17)
 
+    def busy(self, pairs, end, k, whose=None):
+        """The rows of the k that are at this end of the most pairs: of the chambers, of those of some ids, or of the pump houses."""
+        ids = [point.id for point in (self.chambers, self.pumps)[end].points if whose is None or point.id in whose]
+        rows = sorted(((id, len([pair for pair in pairs if pair[end] == id])) for id in ids), key=lambda row: (-row[1], row[0]))[:k]
+        return "".join("%d %d\n" % row for row in rows) + "end %d\n" % len(rows)
+
+    def test_busiest(self):
+        sizes = sorted(pair[2] for pair in self.pairs[False])
+        half = sizes[len(sizes) // 2]
+        for end, words in ((0, ()), (1, ("--pumps",))):
+            for k in (1, 5, 16):
+                self.assertEqual(self.served("busiest", *TOWN_SHEETS, *words, "--count", k), self.busy(self.pairs[False], end, k))
+            self.assertEqual(self.served("busiest", *TOWN_SHEETS, *words, "--grid"), self.busy(self.pairs[True], end, 16))
+            for largest in (sizes[0] - 1, sizes[0], half, sizes[-1]):
+                self.assertEqual(self.served("busiest", *TOWN_SHEETS, *words, "--largest", largest), self.busy(reading.up_to(self.pairs[False], largest), end, 16))
+            for count in (0, 17):
+                self.refused("refused by 10", "busiest", *TOWN_SHEETS, *words, "--count", count)
+            self.refused("refused by 40", "busiest", *TOWN_SHEETS, *words, "--largest", 8 * 10 ** 18 + 1)
+            self.refused("refused by 29", "busiest", TOWN_SHEETS[0], self.made("1,2000000,0\n"), *words, "--grid")
+            said = self.json("busiest", *TOWN_SHEETS, *words, "--count", 3, "--largest", half)
+            self.assertEqual("".join("%(id)d %(pairs)d\n" % row for row in said["ranks"]) + "end 3\n", self.busy(reading.up_to(self.pairs[False], half), end, 3))
+            self.assertEqual((said["count"], said["of"], said["terms"], said["p"]["edition"]), (3, "QP"[end], {"grid": False, "largest": half}, 7))
+        # chambers with no pair are given too, fewer than k where there are fewer, and of a contractor the contractor's
+        p, q = self.made("1,0,0\n", name="p"), self.made("5,4,0\n6,9,0\n7,-9,0\n", name="q")
+        self.assertEqual(self.served("busiest", p, q), "5 1\n7 1\n6 0\nend 3\n")
+        self.assertEqual(self.served("busiest", p, q, "--pumps", "--out", self.path("b.txt")), "")
+        self.assertEqual(read(self.path("b.txt")), b"1 2\nend 1\n")
+        words = ("--owners", self.file("owners.csv", self.csv), "--id", "ASSET", "--owner", "WHO")
+        for contractor in (0, 1):
+            whose = {point.id for point, owner in zip(self.chambers.points, self.owners) if owner == contractor}
+            self.assertEqual(self.served("busiest", *TOWN_SHEETS, "--contractor", contractor, *words, "--count", 9), self.busy(self.pairs[False], 0, 9, whose))
+        for wrong in (("--pumps", "--contractor", 1, *words), ("--pumps", *words), ("--contractor", 1), ("--threshold", 2)):
+            self.assertEqual(self.call("busiest", *TOWN_SHEETS, *wrong)[:2], (2, ""))
+
+    def test_urgent(self):
+        of = [{point.id: point.id * point.id % 7 * scale for point in sheet.points} for sheet, scale in ((self.chambers, 1), (self.pumps, 10 ** 8))]
+        names = [self.file(name, "id,score\n" + "".join("%d,%d\n" % row for row in sorted(scores.items(), reverse=True))) for name, scores in zip(("q.csv", "p.csv"), of)]
+        given = ("--p-scores", names[1], "--q-scores", names[0])
+
+        def rows(pairs, k):
+            return sorted(((*pair, of[0][pair[0]] + of[1][pair[1]]) for pair in pairs), key=lambda row: (-row[3], row[0], row[1]))[:k]
+
+        def text(pairs, k):
+            lines = [self.text([row[:3]]).split("\n")[0] + " %d\n" % row[3] for row in rows(pairs, k)]
+            return "".join(lines) + "end %d\n" % len(lines)
+        sizes = sorted(pair[2] for pair in self.pairs[False])
+        for k in (1, 5, 16):
+            self.assertEqual(self.served("urgent", *TOWN_SHEETS, *given, "--count", k), text(self.pairs[False], k))
+        self.assertEqual(self.served("urgent", *TOWN_SHEETS, *given, "--grid"), text(self.pairs[True], 16))
+        for largest in (sizes[0] - 1, sizes[0], sizes[len(sizes) // 2]):
+            self.assertEqual(self.served("urgent", *TOWN_SHEETS, *given, "--largest", largest), text(reading.up_to(self.pairs[False], largest), 16))
+        said = self.json("urgent", *TOWN_SHEETS, *given, "--count", 4)
+        self.assertEqual([(row["q"], row["p"], row["size"], row["score"]) for row in said["pairs"]], rows(self.pairs[False], 4))
+        self.assertEqual((said["count"], said["terms"]), (4, {"grid": False}))
+        drawn = json.loads(self.served("urgent", *TOWN_SHEETS, *given, "--count", 4, "--geojson"))["features"]
+        self.assertEqual([tuple(one["properties"].values()) for one in drawn], rows(self.pairs[False], 4))
+        # of a contractor; a column by its name, and one name for the ids of all three
+        tables = [self.file(name, "AGE;ASSET\n" + "".join("%d;%d\n" % (score, id) for id, score in scores.items())) for name, scores in zip(("q2.csv", "p2.csv"), of)]
+        named = ("--p-scores", tables[1], "--q-scores", tables[0], "--id", "ASSET", "--score", "AGE")
+        self.assertEqual(self.served("urgent", *TOWN_SHEETS, *named), text(self.pairs[False], 16))
+        owner = dict(zip([point.id for point in self.chambers.points], self.owners))
+        found = self.served("urgent", *TOWN_SHEETS, *named, "--contractor", 1, "--owners", self.file("owners.csv", self.csv), "--owner", "WHO", "--count", 7)
+        self.assertEqual(found, text([pair for pair in self.pairs[False] if owner[pair[0]] == 1], 7))
+        # each record has to have a score of 0 to 1,000,000,000
+        whole = read(names[0]).decode()
+        for bad, told in ((whole.replace("1001,0\n", ""), "the chamber 1001 of %s has no score" % TOWN_SHEETS[1]), (whole + "7,1\n", "line 122: no chamber of %s has the id 7" % TOWN_SHEETS[1]),
+                          (whole + "1001,1\n", "line 122: the id 1001 stands in line 121 already"), (whole.replace("1001,0\n", "1001,-1\n"), "line 121: the score -1 is not from 0 to 1000000000"),
+                          (whole.replace("1001,0\n", "1001,1000000001\n"), "line 121: the score 1000000001 is not from 0 to 1000000000"),
+                          (whole.replace("1001,0\n", "1001,1.5\n"), "line 121: the score '1.5' is no whole number"), ("id,owner,x\n", "line 1: 3 fields where id,score are 2")):
+            self.refused("bad.csv: " + told, "urgent", *TOWN_SHEETS, "--p-scores", names[1], "--q-scores", self.file("bad.csv", bad))
+        self.refused("the pump house 101 of %s has no score" % TOWN_SHEETS[0], "urgent", *TOWN_SHEETS, "--p-scores", self.file("none.csv", "id,score\n"), "--q-scores", names[0])
+        most = self.file("most.csv", "".join("%d,1000000000\n" % point.id for point in self.chambers.points))
+        self.assertEqual(self.json("urgent", *TOWN_SHEETS, "--p-scores", names[1], "--q-scores", most, "--count", 1)["pairs"][0]["score"], 10 ** 9 + max(of[1][pair[1]] for pair in self.pairs[False]))
+        self.refused("refused by 10", "urgent", *TOWN_SHEETS, *given, "--count", 17)
+        for wrong in (given[:2], given[2:], (*given, "--threshold", 2)):
+            self.assertEqual(self.call("urgent", *TOWN_SHEETS, *wrong)[:2], (2, ""))
+
     def test_nearest(self):
         q = self.chambers.point(1004)
         want = sorted(((q.x - p.x) ** 2 + (q.y - p.y) ** 2, p.id) for p in self.pumps.points)
@@ -722,7 +799,7 @@ def commands(parser, path=()):
 class Itself(Commands):
     def test_each_has_help_with_an_example_that_is_right(self):
         found = dict(commands(command.parser()))
-        self.assertEqual(set(found), {("sheet", "make"), ("sheet", "csv"), ("sheet", "why"), ("sheet", "tidy"), ("list",), ("why",), ("nearest",), ("shortest",), ("partners",), ("self",),
+        self.assertEqual(set(found), {("sheet", "make"), ("sheet", "csv"), ("sheet", "why"), ("sheet", "tidy"), ("list",), ("why",), ("nearest",), ("shortest",), ("partners",), ("self",), ("busiest",), ("urgent",),
                                       ("book",), ("book", "follow"), ("book", "show"), ("book", "send"), ("depot",), ("draw",), ("map",), ("cluster", "list")})
         for path in found:
             status, printed, said = self.call(*path, "--help")
@@ -820,6 +897,7 @@ class Itself(Commands):
         self.assertIn("ring: 0 of 120 chambers, 0 pairs, 0 seconds so far\n", said)
         self.assertRegex(said, "ring: [1-9][0-9]* of 120 chambers, 16 pairs, ")
         self.assertIn("ring: still working, 0 seconds so far\n", self.hurried("shortest", "shortest", *TOWN_SHEETS)[1])
+        self.assertIn("ring: still working, 0 seconds so far\n", self.hurried("busiest", "busiest", *TOWN_SHEETS)[1])
         self.assertIn("ring: 16 pairs held, ", self.hurried("page", "book", self.path("b.book"), *TOWN_SHEETS)[1])
         self.assertIn("ring: still working, ", self.hurried("pack", "sheet", "make", self.file("a.csv", "1,2,3\n"), "--edition", 1, "--out", self.path("a.sheet"))[1])
 

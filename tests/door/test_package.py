@@ -174,6 +174,48 @@ class Answers(WithRing):
         with self.assertRaises(ValueError):
             r.count(p, q, largest=2 ** 64)
 
+    def test_the_busiest_and_the_most_urgent(self):
+        """Against the reading, for sheets by chance, k at its ends, contractors, both profiles, to a size; refusals by number, in their order."""
+        rng, r = random.Random(5), self.ring
+        for turn in range(10):
+            sets = [[(k, rng.randint(-9, 9), rng.randint(-9, 9)) for k in sorted(rng.sample(range(1, 99), rng.randrange(30)))] for _ in range(2)]
+            p, q = (r.pack(points, edition) for points, edition in zip(sets, (3, 4)))
+            words = [list(sheet.words) for sheet in (p, q)]
+            owners = [rng.randrange(2) for _ in sets[1]]
+            p_scores, q_scores = ([rng.choice((0, 1, 2, 10 ** 9)) for _ in points] for points in sets)
+            for grid in (False, True):
+                whole = reading.ring_list(*sets, grid)
+                for largest in [None, 0] + [pair[2] for pair in whole[:2]]:
+                    to, k = reading.ANY_SIZE if largest is None else largest, rng.choice((1, 3, 16))
+                    for contractor in (0, 1, 2):
+                        whose = owners if contractor < 2 else []
+                        terms = {"grid": grid, "contractor": contractor, "owners": whose}
+                        self.assertEqual(r.busiest(p, q, k, largest, **terms), reading.busiest_call(*words, k, to, whole, **terms)[1])
+                        self.assertEqual(r.urgent(p, q, p_scores, q_scores, k, largest, **terms), reading.urgent_call(*words, p_scores, q_scores, k, to, whole, **terms)[1])
+                    self.assertEqual(r.busiest_pumps(p, q, k, largest, grid=grid), reading.busiest_pumps_call(*words, k, to, whole, grid=grid)[1])
+        p, q = self.pumps, self.chambers
+        wide, over, none = r.pack([(1, 2_000_000, 0)], 1), 10 ** 9 + 1, [0] * 120
+        ranks, visits = r.busiest(p, q), r.urgent(p, q, [0] * p.n, none, 2)
+        self.assertEqual((len(ranks), sorted(ranks, key=lambda rank: (-rank.pairs, rank.id))), (16, ranks))
+        self.assertEqual([(visit.pair, visit.score) for visit in visits], [(pair, 0) for pair in list(r.pairs(p, q))[:2]])
+        for call in (r.busiest, lambda p, q, *more, **terms: r.urgent(p, q, [over], [over], *more, **terms)):
+            self.refusal(27, call, p, wide, 0, 8 * 10 ** 18 + 1, contractor=3, grid=True)
+            self.refusal(26, call, p, wide, 0, 8 * 10 ** 18 + 1, contractor=1, owners=[2], grid=True)
+            self.refusal(29, call, p, wide, 0, 8 * 10 ** 18 + 1, contractor=1, owners=[1], grid=True)
+            self.refusal(10, call, p, q, 0, 8 * 10 ** 18 + 1)
+            self.refusal(10, call, p, q, 17)
+            self.refusal(40, call, p, q, 16, 8 * 10 ** 18 + 1)
+        self.refusal(29, r.busiest_pumps, p, wide, 0, 8 * 10 ** 18 + 1, grid=True)
+        self.refusal(10, r.busiest_pumps, p, q, 17, 8 * 10 ** 18 + 1)
+        self.refusal(40, r.busiest_pumps, p, q, 1, 8 * 10 ** 18 + 1)
+        for few in ([], [0] * (p.n - 1), [0] * (p.n + 1), [over] + [0] * (p.n - 1), [0] * (p.n - 1) + [2 ** 32 - 1]):
+            self.refusal(41, r.urgent, p, q, few, [])
+        for few in ([], none[1:], none + [0], [over] + none[1:], none[1:] + [2 ** 32 - 1]):
+            self.refusal(42, r.urgent, p, q, [10 ** 9] * p.n, few)
+        for call in (lambda: r.busiest(p, q, -1), lambda: r.busiest_pumps(p, q, largest=2 ** 64), lambda: r.urgent(p, q, [2 ** 32], none)):
+            with self.assertRaises(ValueError):
+                call()
+
     def test_a_book_through_lost_late_and_repeated_pages(self):
         r, p, q = self.ring, self.pumps, self.chambers
         want = list(r.pairs(p, q))

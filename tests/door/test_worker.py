@@ -85,6 +85,14 @@ class Requests:
             words = [p, q] + ([rng.choice((0, 0, 50)), rng.choice((0, 50))] if call == Call.MANY else []) + self.largest()
             words += ([rng.choice((0, 1, 3, 16, 400, 5000))] if call == Call.MANY else []) + [rng.choice((0, 0, 2)), contractor, int(rng.random() < 0.3)]
             words += [rng.randrange(2) for _ in range(n if contractor < 2 else 0)]
+        elif call in (Call.BUSIEST, Call.URGENT):
+            p, q, contractor = some("sheet"), some("sheet"), rng.choice((0, 1, 2, 2))
+            of_p, of_q = (self.reading.things[one].read.n if one in self.reading.things and self.reading.things[one].kind == "sheet" else 0 for one in (p, q))
+            owners = [rng.randrange(2) for _ in range(of_q if contractor < 2 else 0)]
+            words = [p, q, rng.choice((1, 3, 16, 16))] + self.largest() + [contractor, int(rng.random() < 0.3)]
+            words += owners if call == Call.BUSIEST else [len(owners), of_p] + owners + self.scores(of_p) + self.scores(of_q)
+        elif call == Call.BUSIEST_PUMPS:
+            words = [some("sheet"), some("sheet"), rng.choice((1, 3, 16, 16))] + self.largest() + [int(rng.random() < 0.3)]
         elif call == Call.OWN_MANY:
             words = [some("sheet"), rng.choice((0, 20)), rng.choice((0, 50))] + self.largest() + [rng.choice((0, 1, 16, 400)), rng.randrange(2)]
         elif call == Call.OWN_COUNT:
@@ -125,6 +133,11 @@ class Requests:
         """Two words of a largest size: any, a small one, at the limit and above it."""
         size = self.rng.choice((reading.ANY_SIZE, reading.ANY_SIZE, self.rng.randrange(60), reading.ANY_SIZE - self.rng.randrange(2), reading.ANY_SIZE + 1, 10 ** self.rng.randrange(19)))
         return [size & 0xFFFFFFFF, size >> 32]
+
+    def scores(self, n):
+        """A score for each record; now and then one too high, one too few or one too many."""
+        most = self.rng.choice((0, 3, reading.SCORE, reading.SCORE, reading.SCORE + 1))
+        return [self.rng.choice((most, self.rng.randrange(most + 1))) for _ in range(max(0, n + self.rng.choice((0, 0, 0, 0, 0, 0, 0, -1, 1))))]
 
     def taken(self):
         """A page that was answered before, or one made up."""
@@ -191,7 +204,7 @@ class Frames(unittest.TestCase):
             return
         self.assertTrue(all(0 in seen[call] for call in Call), [call for call in Call if 0 not in seen[call]])
         reached = set().union(*seen.values())
-        self.assertLessEqual({1001, 1002, 1003} | {3, 4, 5, 6, 8, 9, 10, 11, 12, 13, 14, 15, 16, 18, 19, 20, 21, 22, 26, 27, 28, 29, 30, 31, 40}, reached)
+        self.assertLessEqual({1001, 1002, 1003} | {3, 4, 5, 6, 8, 9, 10, 11, 12, 13, 14, 15, 16, 18, 19, 20, 21, 22, 26, 27, 28, 29, 30, 31, 40, 41, 42}, reached)
 
     def test_cut_input(self):
         whole = [frame(1, Call.HELLO, []), frame(2, Call.SHEET, reading.pack([(1, 0, 0)], [0], 7)), frame(3, Call.POINT, [1, 0])]
