@@ -8,7 +8,7 @@ use Prim.Native.Nat.{ℕ, _+_, _-_, _<_, _≤_}
 use native.Mathlib.Omega.{arith}
 use lib.Dec.{ltb}
 use lib.IntN.{ℤ}
-use lib.ListN.{length, getD}
+use lib.ListN.{length}
 use borrow.Author.Tests.{ltb-true, ltb-false}
 use Rattle.integers.proofs.Bools.{decide}
 use Rattle.plane.specs.declared.Spot.{Spot}
@@ -18,8 +18,8 @@ use Rattle.bits.specs.Set.{none, some, Finds, wiped}
 use Rattle.bits.proofs.SomeLaws.{finds-some}
 use Rattle.walk.specs.FilterWalk.{Kept, soFar, shut, consider}
 use Rattle.near.specs.Waiting.{withCovered}
-use Rattle.near.specs.NearWalk.{nearAll, nearKept}
-use Rattle.near.specs.Room.{listed, Heaped, Taken, Rooted, Past}
+use Rattle.near.specs.NearWalk.{nearAll, rootWaits, nearKept}
+use Rattle.near.specs.Room.{listed, Heaped, Taken, Past}
 use Rattle.near.proofs.WaitingLaws.{past-same, past-wider, past-past, wiped-past}
 use Rattle.near.proofs.WalkCode.{load, Going, going-start, going-less, going-meet, going-skip, going-under, going-open, going-end}
 
@@ -54,9 +54,9 @@ module _ (w : List ℤ) (n m : ℕ) (q : Spot) where
     pub count : opened + load w n m q ws c ≤ n + m
 
   module _ (o : Opens w n m) where
-    pub sifting-start : (words : ℕ) (bits ws₀ ws : List ℕ) (c : ℕ) → bits ≡ none words → length bits ≡ words → Rooted m ws c → Past m ws₀ ws → Sifting bits ws bits ws c 0
-    sifting-start words bits ws₀ ws c b h e p =
-        let g = going-start w n m q skips opens meets o ws ws c (soFar (none words) 0) e (past-same m ws) in
+    pub sifting-start : (words : ℕ) (bits ws₀ ws : List ℕ) (c : ℕ) → bits ≡ none words → length bits ≡ words → listed w n m q ws c ≡ rootWaits m → Heaped w n m q ws c → Past m ws₀ ws → Sifting bits ws bits ws c 0
+    sifting-start words bits ws₀ ws c b h e t p =
+        let g = going-start w n m q skips opens meets o ws ws c (soFar (none words) 0) e t (past-same m ws) in
         let r : nearAll w n m q skips opens meets (soFar (none words) 0) ≡ nearKept (length bits) w q = kept-is words (o .n-is) (o .m-is) ∙ ap (λ (k : ℕ). nearKept k w q) (sym h) in
         record {
           going = subst (λ (k : Kept). Going w n m q skips opens meets k ws ws c (soFar bits 0)) r (subst (λ (x : List ℕ). Going w n m q skips opens meets (nearAll w n m q skips opens meets (soFar (none words) 0)) ws ws c (soFar x 0)) (sym b) g);

@@ -3,9 +3,9 @@
 -- The numbers are those of a function v of the place. Assumes nothing.
 use mathlib.Core.Path.{_≡_, refl, sym, ap, subst, _∙_}
 use mathlib.Core.Bool.{Bool, true, false, cond}
-use mathlib.Core.Logic.{_⊎_, ⊎-elim}
+use mathlib.Core.Logic.{⊎-elim}
 use mathlib.Core.List.{List, [], _∷_}
-use Prim.Native.Nat.{ℕ, zero, suc, _+_, _-_, _<_, _≤_}
+use Prim.Native.Nat.{ℕ, zero, suc, _+_, _<_, _≤_}
 use native.Mathlib.Omega.{arith}
 use lib.Dec.{eqb}
 use lib.IntN.{ℤ}
@@ -13,8 +13,8 @@ use borrow.Author.Tests.{eq-eqb, eqb-true, eqb-false}
 use Rattle.integers.proofs.Bools.{decide, clash}
 use Rattle.plane.specs.declared.Spot.{Spot}
 use Rattle.near.specs.Waiting.{before, insert}
-use Rattle.near.specs.Room.{Each, none, more}
-use Rattle.near.proofs.ListLaws.{Leads, led-trans, each-head, each-tail, before-leads, not-before, leads-before, leads-same, leads-self, insert-each, insert-has}
+use Rattle.near.specs.Room.{Each, none}
+use Rattle.near.proofs.ListLaws.{Leads, led-trans, each-head, each-tail, before-leads, unless-before, leads-before, leads-same, leads-self, insert-each}
 
 -- i is k, or not
 pub same-or : {A : Type 0} (i k : ℕ) → (i ≡ k → A) → ((i ≡ k → ⊥) → A) → A
@@ -75,7 +75,7 @@ module _ (w : List ℤ) (n m : ℕ) (q : Spot) where
       (λ (s : before w n m q b f ≡ true). ⊎-elim
       (λ (t : before w n m q a f ≡ true). ap (put-in a) (insert-yes b f l s) ∙ insert-yes a b (f ∷ l) h ∙ ap (λ (x : List ℕ). a ∷ x) (sym (insert-yes b f l s)) ∙ sym (insert-no b a (f ∷ l) z) ∙ ap (put-in b) (sym (insert-yes a f l t)))
       (λ (t : before w n m q a f ≡ false).
-      let x = led-trans f a b (not-before w n m q a f t) (before-leads w n m q a b h) in
+      let x = led-trans f a b (unless-before w n m q a f t) (before-leads w n m q a b h) in
       let y : before w n m q b f ≡ false = leads-before w n m q f b x in
       clash s y)
       (decide (before w n m q a f)))
@@ -93,7 +93,7 @@ module _ (w : List ℤ) (n m : ℕ) (q : Spot) where
       (λ (s : before w n m q a b ≡ false). ⊎-elim
       (λ (t : before w n m q b a ≡ true). sym (turned b a t s l))
       (λ (t : before w n m q b a ≡ false).
-      let z : a ≡ b = leads-same w n m q a b (not-before w n m q b a t) (not-before w n m q a b s) in
+      let z : a ≡ b = leads-same w n m q a b (unless-before w n m q b a t) (unless-before w n m q a b s) in
       rw z)
       (decide (before w n m q b a)))
       (decide (before w n m q a b))
@@ -106,7 +106,7 @@ module _ (w : List ℤ) (n m : ℕ) (q : Spot) where
       ⊎-elim
       (λ (s : before w n m q e f ≡ true). insert-yes e f l s)
       (λ (s : before w n m q e f ≡ false).
-      let z : e ≡ f = leads-same w n m q e f (each-head a) (not-before w n m q e f s) in
+      let z : e ≡ f = leads-same w n m q e f (each-head a) (unless-before w n m q e f s) in
       insert-no e f l s ∙ ap (λ (x : List ℕ). f ∷ x) (insert-least e l (each-tail a)) ∙ ap (λ (x : ℕ). x ∷ e ∷ l) (sym z) ∙ ap (λ (x : ℕ). e ∷ x ∷ l) z)
       (decide (before w n m q e f))
 
@@ -157,7 +157,7 @@ module _ (w : List ℤ) (n m : ℕ) (q : Spot) where
       let x : picked p v′ c ≡ picked p v c = picked-same p p v′ v c (λ k u. refl) (λ k u t. same-or k j (λ z. (clash t (ap p z ∙ but-here (but every i) j))) (λ z. same-or k i (λ y. (clash t (but-else (but every i) j k z ∙ ap (but every i) y ∙ but-here every i))) (λ y. s .else k y z))) in
       two v′ ∙ ap (λ (a : ℕ). put-in a (put-in (v′ j) (picked p v′ c))) (s .at-i) ∙ ap (λ (a : ℕ). put-in (v j) (put-in a (picked p v′ c))) (s .at-j) ∙ insert-turned (v j) (v i) (picked p v′ c) ∙ ap (λ (l : List ℕ). put-in (v i) (put-in (v j) l)) x ∙ sym (two v)
 
-  pub picked-each : {P : ℕ → Type 0} (p : ℕ → Bool) (v : ℕ → ℕ) (c : ℕ) → ((k : ℕ) → k < c → P (v k)) → Each P (picked p v c)
+  picked-each : {P : ℕ → Type 0} (p : ℕ → Bool) (v : ℕ → ℕ) (c : ℕ) → ((k : ℕ) → k < c → P (v k)) → Each P (picked p v c)
   unfolding picked
   picked-each p v zero h = none
   picked-each {P} p v (suc c) h = go (p c) (picked-each p v c (λ k u. h k (omega arith)))
@@ -165,9 +165,6 @@ module _ (w : List ℤ) (n m : ℕ) (q : Spot) where
       go : (t : Bool) → Each P (picked p v c) → Each P (cond t (put-in (v c) (picked p v c)) (picked p v c))
       go true a = insert-each w n m q (v c) (h c (omega arith)) (picked p v c) a
       go false a = a
-
-  pub picked-at : {P : ℕ → Type 0} (v : ℕ → ℕ) (c k : ℕ) → k < c → Each P (picked every v c) → P (v k)
-  picked-at {P} v c k h a = insert-has w n m q (v k) (picked (but every k) v c) (subst (Each P) (picked-out every v c k h refl) a)
 
   -- the first goes, and the last stands for it
   pub picked-first : (v v′ : ℕ → ℕ) (c : ℕ) → ((k : ℕ) → k < suc c → leads (v 0) (v k)) → v′ 0 ≡ v c → ((k : ℕ) → (k ≡ 0 → ⊥) → v′ k ≡ v k) → picked every v (suc c) ≡ v 0 ∷ picked every v′ c

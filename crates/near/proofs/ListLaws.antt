@@ -96,9 +96,9 @@ module _ (w : List ℤ) (n m : ℕ) (q : Spot) where
       record { by = inr (eqb-true s t (and-left (eqb s t) (ltb e f) x), omega arith) })
       (decide (ltb s t))
 
-  pub not-before : (e f : ℕ) → before w n m q e f ≡ false → Leads f e
+  pub unless-before : (e f : ℕ) → before w n m q e f ≡ false → Leads f e
   unfolding before
-  not-before e f h =
+  unless-before e f h =
       let s = distance w n m q e in
       let t = distance w n m q f in
       let a : t ≤ s = ltb-false s t (or-false-left (ltb s t) (eqb s t && ltb e f) h) in
@@ -153,11 +153,6 @@ module _ (w : List ℤ) (n m : ℕ) (q : Spot) where
   insert-each e p [] a = more p none
   insert-each {P} e p (f ∷ l) a = insert-cases (Each P) e f l (λ h. more p a) (λ h. more (each-head a) (insert-each e p l (each-tail a)))
 
-  pub insert-has : {P : ℕ → Type 0} (e : ℕ) (l : List ℕ) → Each P (insert w n m q e l) → P e
-  unfolding insert
-  insert-has e [] a = each-head a
-  insert-has {P} e (f ∷ l) a = insert-cases (λ x. Each P x → P e) e f l (λ h b. each-head b) (λ h b. insert-has e l (each-tail b)) a
-
   pub insert-here : {P : ℕ → Type 0} (e : ℕ) → P e → (l : List ℕ) → Some P (insert w n m q e l)
   unfolding insert
   insert-here e p [] = here p
@@ -174,7 +169,7 @@ module _ (w : List ℤ) (n m : ℕ) (q : Spot) where
   insert-sorted e (f ∷ l) a =
       insert-cases (Sorted Leads) e f l
       (λ h. let x = before-leads e f h in sorted-more (more x (each-map (λ g y. led-trans e f g x y) (sorted-head a))) a)
-      (λ h. sorted-more (insert-each e (not-before e f h) l (sorted-head a)) (insert-sorted e l (sorted-tail a)))
+      (λ h. sorted-more (insert-each e (unless-before e f h) l (sorted-head a)) (insert-sorted e l (sorted-tail a)))
 
   pub insert-total : (g : ℕ → ℕ) (e : ℕ) (l : List ℕ) → total g (insert w n m q e l) ≡ g e + total g l
   unfolding insert total

@@ -8,15 +8,15 @@ use native.Mathlib.Omega.{arith}
 use native.Mathlib.Numerals.{add-one}
 use lib.Dec.{ltb}
 use lib.IntN.{ℤ}
-use lib.ListN.{length, getD, set, take, drop, replicate, length-set, take-append-drop}
+use lib.ListN.{length, set, take, drop, replicate, length-set, take-append-drop}
 use lib.Seq.{length-take-le, take-all, take-at, take-suc-set, drop-set-lt, drop-drop}
 use borrow.Author.Tests.{ltb-false}
 use Rattle.plane.specs.declared.Spot.{Spot}
 use Rattle.sheet.specs.Layout.{points, nodes}
 use Rattle.sheet.specs.Open.{Opens}
 use Rattle.near.specs.Waiting.{withCovered}
-use Rattle.near.specs.NearWalk.{nearAll, nearOrder}
-use Rattle.near.specs.Room.{zeroFilled, listed, Heaped, Taken, Rooted, Past}
+use Rattle.near.specs.NearWalk.{nearAll, rootWaits, nearOrder}
+use Rattle.near.specs.Room.{zeroFilled, listed, Heaped, Taken, Past}
 use Rattle.near.proofs.NearLaws.{steps-keep}
 use Rattle.near.proofs.WaitingLaws.{past-same}
 use Rattle.near.proofs.WalkCode.{load, Going, going-start, going-less, going-meet, going-under, going-open, going-end}
@@ -42,9 +42,9 @@ module _ (w : List ℤ) (n m : ℕ) (q : Spot) where
     pub blank : drop got at ≡ replicate (16 - got) 0
 
   module _ (o : Opens w n m) where
-    pub giving-start : (ws₀ ws : List ℕ) (c : ℕ) → Rooted m ws c → Past m ws₀ ws → Giving ws ws c (replicate 16 0) 0
-    giving-start ws₀ ws c e p =
-        let g = going-start w n m q passes same gives o ws ws c [] e (past-same m ws) in
+    pub giving-start : (ws₀ ws : List ℕ) (c : ℕ) → listed w n m q ws c ≡ rootWaits m → Heaped w n m q ws c → Past m ws₀ ws → Giving ws ws c (replicate 16 0) 0
+    giving-start ws₀ ws c e t p =
+        let g = going-start w n m q passes same gives o ws ws c [] e t (past-same m ws) in
         record { going = subst (λ (r : List ℕ). Going w n m q passes same gives r ws ws c []) (order-is (o .n-is) (o .m-is)) g; full = refl; blank = refl }
 
     module _ (ws₀ ws : List ℕ) (c : ℕ) (at : List ℕ) (got : ℕ) (x : Giving ws₀ ws c at got) where

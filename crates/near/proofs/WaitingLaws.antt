@@ -1,9 +1,10 @@
--- Laws for the code that keeps what waits in lent numbers: distances as words, the heap in which they stand, a number on its way up or down in it, the root, and the lent numbers wiped.
+-- Laws for the code that keeps what waits in lent numbers: distances as words, the lent numbers that hold them, the heap in which they stand, a number on its way up or down in it, the root, and the lent numbers wiped.
 -- Assumes nothing.
 use mathlib.Core.Path.{_≡_, refl, sym, ap, subst, _∙_}
 use mathlib.Core.Bool.{Bool, true, false, cond, _&&_, _||_}
+use mathlib.Core.Logic.{inl}
 use mathlib.Core.List.{List, [], _∷_, _++_, append-assoc}
-use Prim.Native.Nat.{ℕ, zero, suc, _+_, _-_, _*_, _<_, _≤_}
+use Prim.Native.Nat.{ℕ, zero, suc, _+_, _-_, _*_, _/_, _%_, _<_, _≤_}
 use native.Mathlib.Omega.{arith}
 use native.Mathlib.Nat.{mul-le-mul}
 use native.Mathlib.Numerals.{add-one}
@@ -12,7 +13,7 @@ use lib.IntN.{ℤ, pos, natAbs, _+ℤ_, _-ℤ_}
 use lib.ListN.{length, getD, set, drop, replicate, length-set, length-replicate, replicate-append-replicate}
 use lib.Seq.{getD-set-same, getD-set-other, drop-set-lt, drop-cons, drop-drop, set-at}
 use lib.Signed.{ltZ}
-use borrow.Author.Tests.{lt-ltb, le-ltb, eqb-true, eqb-false}
+use borrow.Author.Tests.{lt-ltb, le-ltb, eqb-true}
 use Rattle.integers.specs.Bounds.{Within}
 use Rattle.integers.proofs.Order.{in--, in-up, in-lit, abs-mul}
 use Rattle.words.specs.Word.{num}
@@ -26,9 +27,9 @@ use Rattle.walk.specs.Walk.{inTurn}
 use Rattle.walk.proofs.TurnLaws.{Turn, turn-start, turn-step, turn-end}
 use Rattle.near.specs.Waiting.{boxEntry, away, distance, before, insert, covered, withCovered}
 use Rattle.near.specs.NearWalk.{rootWaits}
-use Rattle.near.specs.Room.{listed, Heaped, Taken, Lesser, Rooted, Kind, Kinds, box, point, InRun, Each, Past}
-use Rattle.near.proofs.ListLaws.{Leads, before-leads, not-before, leads-before, leads-self, insert-each, insert-length}
-use Rattle.near.proofs.HeapLaws.{same-or, every, Swapped, picked, picked-same, picked-swap, picked-at, picked-first, Heap, heap-first, Rising, rising-step, rising-stop, rising-end, Sinking, Least, sinking-step, sinking-stop, sinking-end}
+use Rattle.near.specs.Room.{entryOf, entryAt, listed, Packed, Keys, Heaped, Taken, Lesser, Kind, box, point, InRun, Past}
+use Rattle.near.proofs.ListLaws.{Leads, before-leads, unless-before, leads-before, leads-self, insert-length}
+use Rattle.near.proofs.HeapLaws.{same-or, every, Swapped, picked, picked-same, picked-swap, picked-first, Heap, heap-first, Rising, rising-step, rising-stop, rising-end, Sinking, Least, sinking-step, sinking-stop, sinking-end}
 use Rattle.near.proofs.EntryLaws.{covered-kind, run-small}
 use Rattle.bits.specs.Set.{wiped}
 
@@ -91,70 +92,90 @@ pub before-is : (w : List ℤ) (n m : ℕ) (q : Spot) (e f d g : ℕ) → d ≡ 
 unfolding before
 before-is w n m q e f d g x y = rw (x, y)
 
+-- ---- lent numbers
+
+-- a number that waits fits in 17 bits
+pub kind-small : {n m e : ℕ} → n ≤ 60000 → m ≤ 24000 → Kind n m e → e < 131072
+kind-small a b (box j h z) = omega arith
+kind-small a b (point i h z) = omega arith
+
+pub key-packed : (w : List ℤ) (n m : ℕ) (q : Spot) (d e : ℕ) → n ≤ 60000 → m ≤ 24000 → Kind n m e → d ≡ distance w n m q e → Packed w n m q (d / 131072 * 131072 + e) × (entryOf (d / 131072 * 131072 + e) ≡ e)
+key-packed w n m q d e a b k h =
+    let y = kind-small a b k in
+    let x = d / 131072 * 131072 + e in
+    let z : x % 131072 ≡ e = omega arith in
+    let t : x / 131072 ≡ d / 131072 = omega arith in
+    (record { kind = subst (Kind n m) (sym z) k; high = t ∙ ap (λ (i : ℕ). i / 131072) (h ∙ ap (distance w n m q) (sym z)) }, z)
+
+module _ (w : List ℤ) (n m : ℕ) (q : Spot) (x y : ℕ) (a : Packed w n m q x) (b : Packed w n m q y) where
+  pub before-high : x / 131072 < y / 131072 → true ≡ before w n m q (entryOf x) (entryOf y)
+  unfolding before
+  before-high h =
+      let d = distance w n m q (entryOf x) in
+      let g = distance w n m q (entryOf y) in
+      let z : d < g = omega (arith, a .high, b .high) in
+      rw (lt-ltb d g z)
+
+  pub before-low : y / 131072 < x / 131072 → false ≡ before w n m q (entryOf x) (entryOf y)
+  before-low h =
+      let d = distance w n m q (entryOf x) in
+      let g = distance w n m q (entryOf y) in
+      let z : g < d = omega (arith, a .high, b .high) in
+      sym (leads-before w n m q (entryOf y) (entryOf x) (record { by = inl z }))
+
 -- ---- the lent numbers by their places
 
--- the number at a place
+-- what waits under the number at a place
 abbrev standing : List ℕ → ℕ → ℕ
-standing ws k = getD ws k 0
+standing ws k = entryAt ws k
 
-set-here : (ws : List ℕ) (k v : ℕ) → k < length ws → standing (set ws k v) k ≡ v
-set-here ws k v h = getD-set-same ws k v 0 h
+set-here : (ws : List ℕ) (k v : ℕ) → k < length ws → standing (set ws k v) k ≡ entryOf v
+set-here ws k v h = ap entryOf (getD-set-same ws k v 0 h)
 
 set-else : (ws : List ℕ) (k v i : ℕ) → (i ≡ k → ⊥) → standing (set ws k v) i ≡ standing ws i
-set-else ws k v i h = getD-set-other ws k i v 0 h
-
-kinds-set : (n m : ℕ) (ws : List ℕ) (c k v : ℕ) → k < length ws → Kind n m v → Kinds n m ws c → Kinds n m (set ws k v) c
-kinds-set n m ws c k v h p x =
-    record {
-      each = λ i u. same-or i k
-          (λ z. subst (Kind n m) (sym (ap (standing (set ws k v)) z ∙ set-here ws k v h)) p)
-          (λ z. subst (Kind n m) (sym (set-else ws k v i z)) (x .each i u));
-    }
+set-else ws k v i h = ap entryOf (getD-set-other ws k i v 0 h)
 
 module _ (w : List ℤ) (n m : ℕ) (q : Spot) where
   listed-picked : (ws : List ℕ) (c : ℕ) → listed w n m q ws c ≡ picked w n m q every (standing ws) c
   unfolding listed picked
   listed-picked ws zero = refl
-  listed-picked ws (suc c) = ap (insert w n m q (getD ws c 0)) (listed-picked ws c)
+  listed-picked ws (suc c) = ap (insert w n m q (standing ws c)) (listed-picked ws c)
 
   pub listed-length : (ws : List ℕ) (c : ℕ) → length (listed w n m q ws c) ≡ c
   unfolding listed
   listed-length ws zero = refl
-  listed-length ws (suc c) = insert-length w n m q (getD ws c 0) (listed w n m q ws c) ∙ ap suc (listed-length ws c)
+  listed-length ws (suc c) = insert-length w n m q (standing ws c) (listed w n m q ws c) ∙ ap suc (listed-length ws c)
 
-  pub listed-kinds : (ws : List ℕ) (c : ℕ) → Each (Kind n m) (listed w n m q ws c) → Kinds n m ws c
-  listed-kinds ws c a = record { each = λ k h. picked-at w n m q (standing ws) c k h (subst (Each (Kind n m)) (listed-picked ws c) a) }
+  -- a number written at k: all others are as they were
+  key-set : (ws : List ℕ) (k v i : ℕ) → k < length ws → Packed w n m q v → ((i ≡ k → ⊥) → Packed w n m q (getD ws i 0)) → Packed w n m q (getD (set ws k v) i 0)
+  key-set ws k v i h p x =
+      same-or i k
+      (λ z. subst (Packed w n m q) (sym (ap (λ (j : ℕ). getD (set ws k v) j 0) z ∙ getD-set-same ws k v 0 h)) p)
+      (λ z. subst (Packed w n m q) (sym (getD-set-other ws k i v 0 z)) (x z))
 
   heap-of : (ws : List ℕ) (c : ℕ) → Heaped w n m q ws c → Heap w n m q (standing ws) c
   unfolding Heap
-  heap-of ws c h i k a b u = not-before w n m q (standing ws k) (standing ws i) (h .up i k a b u)
+  heap-of ws c h i k a b u = unless-before w n m q (standing ws k) (standing ws i) (h .up i k a b u)
 
-  heaped-of : (ws : List ℕ) (c : ℕ) → Heap w n m q (standing ws) c → Heaped w n m q ws c
+  heaped-of : (ws : List ℕ) (c : ℕ) → Keys w n m q ws c → Heap w n m q (standing ws) c → Heaped w n m q ws c
   unfolding Heap
-  heaped-of ws c h = record { up = λ i k a b u. leads-before w n m q (standing ws i) (standing ws k) (h i k a b u) }
-
-  -- one number is a heap
-  pub heaped-one : (ws : List ℕ) (c : ℕ) → c ≤ 1 → Heaped w n m q ws c
-  heaped-one ws c h = record { up = λ i k a b u. absurd (omega arith) }
+  heaped-of ws c a h = record { keys = a; up = λ i k x y u. leads-before w n m q (standing ws i) (standing ws k) (h i k x y u) }
 
   -- the nearest stands at place 0; once it goes, the last stands for it
   module _ (ws : List ℕ) (c : ℕ) (some : 0 < c) (h : Heaped w n m q ws c) where
     pub heaped-fewer : Heaped w n m q ws (c - 1)
-    heaped-fewer = record { up = λ i k a b u. h .up i k a b (omega arith) }
+    heaped-fewer = record { keys = record { each = λ k u. h .keys .each k (omega arith) }; up = λ i k a b u. h .up i k a b (omega arith) }
 
-    listed-first : c ≤ length ws → listed w n m q ws c ≡ getD ws 0 0 ∷ listed w n m q (set ws 0 (getD ws (c - 1) 0)) (c - 1)
+    listed-first : c ≤ length ws → listed w n m q ws c ≡ entryAt ws 0 ∷ listed w n m q (set ws 0 (getD ws (c - 1) 0)) (c - 1)
     listed-first l =
         let ws′ = set ws 0 (getD ws (c - 1) 0) in
         let z : c ≡ suc (c - 1) = omega arith in
         listed-picked ws c ∙ ap (picked w n m q every (standing ws)) z
         ∙ picked-first w n m q (standing ws) (standing ws′) (c - 1) (λ k u. heap-first w n m q (standing ws) c (heap-of ws c h) k (omega arith)) (set-here ws 0 (getD ws (c - 1) 0) (omega arith)) (λ k y. set-else ws 0 (getD ws (c - 1) 0) k y)
-        ∙ ap (λ (l : List ℕ). getD ws 0 0 ∷ l) (sym (listed-picked ws′ (c - 1)))
+        ∙ ap (λ (l : List ℕ). entryAt ws 0 ∷ l) (sym (listed-picked ws′ (c - 1)))
 
-    pub kinds-fewer : Kinds n m ws c → Kinds n m ws (c - 1)
-    kinds-fewer a = record { each = λ k u. a .each k (omega arith) }
-
-    pub taken-by : c ≤ length ws → (ws′ : List ℕ) → listed w n m q ws′ (c - 1) ≡ listed w n m q (set ws 0 (getD ws (c - 1) 0)) (c - 1) → Heaped w n m q ws′ (c - 1) → Past (n + m) ws ws′ → Taken w n m q ws ws′ c (getD ws 0 0)
-    taken-by l ws′ e g p = record { first = listed-first l ∙ ap (λ (y : List ℕ). getD ws 0 0 ∷ y) (sym e); heap = g; past = p }
+    pub taken-by : c ≤ length ws → (ws′ : List ℕ) → listed w n m q ws′ (c - 1) ≡ listed w n m q (set ws 0 (getD ws (c - 1) 0)) (c - 1) → Heaped w n m q ws′ (c - 1) → Past (n + m) ws ws′ → Taken w n m q ws ws′ c (entryAt ws 0)
+    taken-by l ws′ e g p = record { first = listed-first l ∙ ap (λ (y : List ℕ). entryAt ws 0 ∷ y) (sym e); heap = g; past = p }
 
   -- the lesser of two
   pub lesser-one : (ws : List ℕ) (c j : ℕ) → j < c → c ≤ j + 1 → Lesser w n m q ws c j j
@@ -170,12 +191,12 @@ module _ (w : List ℤ) (n m : ℕ) (q : Spot) where
     self : (r : ℕ) → before w n m q (standing ws r) (standing ws r) ≡ false
     self r = leads-before w n m q (standing ws r) (standing ws r) (leads-self w n m q (standing ws r))
 
-    pub lesser-second : before w n m q (getD ws (j + 1) 0) (getD ws j 0) ≡ true → Lesser w n m q ws c j (j + 1)
+    pub lesser-second : before w n m q (entryAt ws (j + 1)) (entryAt ws j) ≡ true → Lesser w n m q ws c j (j + 1)
     lesser-second t =
         let x = leads-before w n m q (standing ws (j + 1)) (standing ws j) (before-leads w n m q (standing ws (j + 1)) (standing ws j) t) in
         record { low = omega arith; high = omega arith; few = h; least = λ k a b u. either (j + 1) x (self (j + 1)) k a b }
 
-    pub lesser-first : before w n m q (getD ws (j + 1) 0) (getD ws j 0) ≡ false → Lesser w n m q ws c j j
+    pub lesser-first : before w n m q (entryAt ws (j + 1)) (entryAt ws j) ≡ false → Lesser w n m q ws c j j
     lesser-first t = record { low = omega arith; high = omega arith; few = omega arith; least = λ k a b u. either j (self j) t k a b }
 
 -- ---- what is left as it was
@@ -195,163 +216,168 @@ past-wider k k′ a b h p =
 pub past-past : (k : ℕ) (a b c : List ℕ) → Past k a b → Past k b c → Past k a c
 past-past k a b c x y = record { long = y .long ∙ x .long; rest = y .rest ∙ x .rest }
 
--- ---- one number on its way up or down: e is held, and is to be written at k
+-- ---- one number on its way up or down: x is held, and is to be written at k
 
-module _ (w : List ℤ) (n m : ℕ) (q : Spot) (e : ℕ) where
+module _ (w : List ℤ) (n m : ℕ) (q : Spot) (x : ℕ) where
   abbrev held : List ℕ → ℕ → ℕ → ℕ
-  held ws k = standing (set ws k e)
+  held ws k = standing (set ws k x)
 
-  -- what stands at i is moved to k, and e is to be written at i
+  -- what stands at i is moved to k, and x is to be written at i
   held-swap : (ws : List ℕ) (k i : ℕ) → k < length ws → i < length ws → (k ≡ i → ⊥) → Swapped (held ws k) (held (set ws k (getD ws i 0)) i) k i
   held-swap ws k i h g d =
       let f = getD ws i 0 in
       let ws′ = set ws k f in
       let d′ : i ≡ k → ⊥ = λ z. d (sym z) in
       record {
-        at-i = set-else ws′ i e k d ∙ set-here ws k f h ∙ sym (set-else ws k e i d′);
-        at-j = set-here ws′ i e (omega (arith, length-set ws k f)) ∙ sym (set-here ws k e h);
-        else = λ x y z. set-else ws′ i e x z ∙ set-else ws k f x y ∙ sym (set-else ws k e x y);
+        at-i = set-else ws′ i x k d ∙ set-here ws k f h ∙ sym (set-else ws k x i d′);
+        at-j = set-here ws′ i x (omega (arith, length-set ws k f)) ∙ sym (set-here ws k x h);
+        else = λ j y z. set-else ws′ i x j z ∙ set-else ws k f j y ∙ sym (set-else ws k x j y);
       }
 
-  -- on its way up, among the first count + 1
-  pub record Moved (count : ℕ) (ws₀ ws : List ℕ) (k : ℕ) : Type 0 where
+  -- on its way up, among the first count + 1: e is to be put in
+  pub record Moved (e count : ℕ) (ws₀ ws : List ℕ) (k : ℕ) : Type 0 where
     pub most : k ≤ count
-    pub kinds : Kinds n m ws count
+    pub keys : (i : ℕ) → i ≤ count → (i ≡ k → ⊥) → Packed w n m q (getD ws i 0)
     pub left : picked w n m q every (held ws k) (count + 1) ≡ insert w n m q e (listed w n m q ws₀ count)
     pub rising : Rising w n m q (held ws k) (count + 1) k
     pub past : Past (n + m) ws₀ ws
 
-  module _ (count : ℕ) (ws : List ℕ) (few : count < length ws) where
-    held-else : (k : ℕ) → (k ≡ count → ⊥) → held ws count k ≡ standing ws k
-    held-else k = set-else ws count e k
-
-    pub moved-start : Each (Kind n m) (listed w n m q ws count) → Heaped w n m q ws count → Moved count ws ws count
-    unfolding picked
-    moved-start a h =
-        record {
-          most = omega arith;
-          kinds = listed-kinds w n m q ws count a;
-          left =
-              ap (picked w n m q every (held ws count)) (add-one count)
-              ∙ ap (λ (x : ℕ). insert w n m q x (picked w n m q every (held ws count) count)) (set-here ws count e few)
-              ∙ ap (insert w n m q e) (picked-same w n m q every every (held ws count) (standing ws) count (λ k u. refl) (λ k u t. held-else k (λ z. omega arith)) ∙ sym (listed-picked w n m q ws count));
-          rising = record {
-            rest = λ i j x y u z. subst (λ (s : ℕ). Leads w n m q s (held ws count j)) (sym (held-else i (λ t. omega arith)))
-                (subst (λ (s : ℕ). Leads w n m q (standing ws i) s) (sym (held-else j z)) (not-before w n m q (standing ws j) (standing ws i) (h .up i j x y (omega arith))));
-            over = λ i j x y s t u. absurd (omega arith);
-          };
-          past = past-same (n + m) ws;
-        }
-
-  module _ (count : ℕ) (ws₀ ws : List ℕ) (k : ℕ) (few : count < n + m) (long : n + m ≤ length ws₀) (x : Moved count ws₀ ws k) where
-    pub moved-fits : k < length ws
-    moved-fits = omega (arith, x .most, x .past .long)
-
-    pub moved-done : Heap w n m q (held ws k) (count + 1) → (listed w n m q (set ws k e) (count + 1) ≡ insert w n m q e (listed w n m q ws₀ count)) × Heaped w n m q (set ws k e) (count + 1) × Past (n + m) ws₀ (set ws k e)
-    moved-done h = (listed-picked w n m q (set ws k e) (count + 1) ∙ x .left, heaped-of w n m q (set ws k e) (count + 1) h, past-set (n + m) k e ws₀ ws (omega (arith, x .most)) (x .past))
-
-    pub moved-end : k ≡ 0 → (listed w n m q (set ws k e) (count + 1) ≡ insert w n m q e (listed w n m q ws₀ count)) × Heaped w n m q (set ws k e) (count + 1) × Past (n + m) ws₀ (set ws k e)
-    moved-end z = moved-done (rising-end w n m q (held ws k) (count + 1) k z (x .rising))
-
-    -- i is the place above k
-    module _ (i : ℕ) (a : i + i + 1 ≤ k) (b : k ≤ i + i + 2) where
-      pub moved-kind : Kind n m (getD ws i 0)
-      moved-kind = x .kinds .each i (omega (arith, x .most))
-
-      here : held ws k k ≡ e
-      here = set-here ws k e moved-fits
-
-      there : held ws k i ≡ getD ws i 0
-      there = set-else ws k e i (λ z. omega arith)
-
-      pub moved-step : before w n m q e (getD ws i 0) ≡ true → Moved count ws₀ (set ws k (getD ws i 0)) i
-      moved-step t =
-          let s = held-swap ws k i moved-fits (omega (arith, moved-fits)) (λ z. omega arith) in
-          let f = getD ws i 0 in
-          let lead : Leads w n m q (held ws k k) (held ws k i) = subst (λ (y : ℕ). Leads w n m q y (held ws k i)) (sym here) (subst (Leads w n m q e) (sym there) (before-leads w n m q e f t)) in
-          record {
-            most = omega (arith, x .most);
-            kinds = kinds-set n m ws count k f moved-fits moved-kind (x .kinds);
-            left = picked-swap w n m q (held ws k) (held (set ws k f) i) (count + 1) k i (omega (arith, x .most)) (omega (arith, x .most)) (λ z. omega arith) s ∙ x .left;
-            rising = rising-step w n m q (held ws k) (held (set ws k f) i) (count + 1) k i (omega (arith, x .most)) a b lead s (x .rising);
-            past = past-set (n + m) k f ws₀ ws (omega (arith, x .most)) (x .past);
-          }
-
-      pub moved-stop : before w n m q e (getD ws i 0) ≡ false → (listed w n m q (set ws k e) (count + 1) ≡ insert w n m q e (listed w n m q ws₀ count)) × Heaped w n m q (set ws k e) (count + 1) × Past (n + m) ws₀ (set ws k e)
-      moved-stop t =
-          let lead : Leads w n m q (held ws k i) (held ws k k) = subst (λ (y : ℕ). Leads w n m q y (held ws k k)) (sym there) (subst (Leads w n m q (getD ws i 0)) (sym here) (not-before w n m q e (getD ws i 0) t)) in
-          moved-done (rising-stop w n m q (held ws k) (count + 1) k i a b lead (x .rising))
-
-  -- on its way down, among the first count
-  pub record Sunk (count : ℕ) (ws₀ ws : List ℕ) (k : ℕ) : Type 0 where
-    pub most : k ≤ count
-    pub kinds : Kinds n m ws count
-    pub left : picked w n m q every (held ws k) count ≡ listed w n m q (set ws₀ 0 e) count
-    pub sinking : Sinking w n m q (held ws k) count k
-    pub past : Past (n + m) ws₀ ws
-
-  pub sunk-start : (count : ℕ) (ws : List ℕ) → Kinds n m ws count → Heaped w n m q ws count → Sunk count ws ws 0
-  sunk-start count ws a h =
-      let same : (k : ℕ) → (k ≡ 0 → ⊥) → held ws 0 k ≡ standing ws k = λ k. set-else ws 0 e k in
+  pub moved-start : (e count : ℕ) (ws : List ℕ) → count < length ws → entryOf x ≡ e → Heaped w n m q ws count → Moved e count ws ws count
+  unfolding picked
+  moved-start e count ws few is h =
+      let same : (k : ℕ) → (k ≡ count → ⊥) → held ws count k ≡ standing ws k = λ k. set-else ws count x k in
       record {
         most = omega arith;
-        kinds = a;
-        left = sym (listed-picked w n m q (set ws 0 e) count);
-        sinking = record {
-          rest = λ i j x y u z. subst (λ (s : ℕ). Leads w n m q s (held ws 0 j)) (sym (same i z))
-              (subst (λ (s : ℕ). Leads w n m q (standing ws i) s) (sym (same j (λ t. omega arith))) (not-before w n m q (standing ws j) (standing ws i) (h .up i j x y u)));
-          over = λ i j x y s t u. absurd (omega arith);
+        keys = λ i u z. h .keys .each i (omega arith);
+        left =
+            ap (picked w n m q every (held ws count)) (add-one count)
+            ∙ ap (λ (i : ℕ). insert w n m q i (picked w n m q every (held ws count) count)) (set-here ws count x few ∙ is)
+            ∙ ap (insert w n m q e) (picked-same w n m q every every (held ws count) (standing ws) count (λ k u. refl) (λ k u t. same k (λ z. omega arith)) ∙ sym (listed-picked w n m q ws count));
+        rising = record {
+          rest = λ i j a b u z. subst (λ (s : ℕ). Leads w n m q s (held ws count j)) (sym (same i (λ t. omega arith)))
+              (subst (λ (s : ℕ). Leads w n m q (standing ws i) s) (sym (same j z)) (unless-before w n m q (standing ws j) (standing ws i) (h .up i j a b (omega arith))));
+          over = λ i j a b s t u. absurd (omega arith);
         };
         past = past-same (n + m) ws;
       }
 
-  module _ (count : ℕ) (ws₀ ws : List ℕ) (k : ℕ) (few : count < n + m) (long : n + m ≤ length ws₀) (x : Sunk count ws₀ ws k) where
+  module _ (key : Packed w n m q x) (e count : ℕ) (ws₀ ws : List ℕ) (k : ℕ) (few : count < n + m) (long : n + m ≤ length ws₀) (y : Moved e count ws₀ ws k) where
+    pub moved-fits : k < length ws
+    moved-fits = omega (arith, y .most, y .past .long)
+
+    moved-done : Heap w n m q (held ws k) (count + 1) → (listed w n m q (set ws k x) (count + 1) ≡ insert w n m q e (listed w n m q ws₀ count)) × Heaped w n m q (set ws k x) (count + 1) × Past (n + m) ws₀ (set ws k x)
+    moved-done h = (
+      listed-picked w n m q (set ws k x) (count + 1) ∙ y .left,
+      heaped-of w n m q (set ws k x) (count + 1) (record { each = λ i u. key-set w n m q ws k x i moved-fits key (y .keys i (omega arith)) }) h,
+      past-set (n + m) k x ws₀ ws (omega (arith, y .most)) (y .past),
+    )
+
+    pub moved-end : k ≡ 0 → (listed w n m q (set ws k x) (count + 1) ≡ insert w n m q e (listed w n m q ws₀ count)) × Heaped w n m q (set ws k x) (count + 1) × Past (n + m) ws₀ (set ws k x)
+    moved-end z = moved-done (rising-end w n m q (held ws k) (count + 1) k z (y .rising))
+
+    -- i is the place above k
+    module _ (i : ℕ) (a : i + i + 1 ≤ k) (b : k ≤ i + i + 2) where
+      pub moved-key : Packed w n m q (getD ws i 0)
+      moved-key = y .keys i (omega (arith, y .most)) (λ z. omega arith)
+
+      here : held ws k k ≡ entryOf x
+      here = set-here ws k x moved-fits
+
+      there : held ws k i ≡ entryAt ws i
+      there = set-else ws k x i (λ z. omega arith)
+
+      pub moved-step : before w n m q (entryOf x) (entryAt ws i) ≡ true → Moved e count ws₀ (set ws k (getD ws i 0)) i
+      moved-step t =
+          let s = held-swap ws k i moved-fits (omega (arith, moved-fits)) (λ z. omega arith) in
+          let f = getD ws i 0 in
+          let lead : Leads w n m q (held ws k k) (held ws k i) = subst (λ (z : ℕ). Leads w n m q z (held ws k i)) (sym here) (subst (Leads w n m q (entryOf x)) (sym there) (before-leads w n m q (entryOf x) (entryAt ws i) t)) in
+          record {
+            most = omega (arith, y .most);
+            keys = λ j u z. key-set w n m q ws k f j moved-fits moved-key (y .keys j u);
+            left = picked-swap w n m q (held ws k) (held (set ws k f) i) (count + 1) k i (omega (arith, y .most)) (omega (arith, y .most)) (λ z. omega arith) s ∙ y .left;
+            rising = rising-step w n m q (held ws k) (held (set ws k f) i) (count + 1) k i (omega (arith, y .most)) a b lead s (y .rising);
+            past = past-set (n + m) k f ws₀ ws (omega (arith, y .most)) (y .past);
+          }
+
+      pub moved-stop : before w n m q (entryOf x) (entryAt ws i) ≡ false → (listed w n m q (set ws k x) (count + 1) ≡ insert w n m q e (listed w n m q ws₀ count)) × Heaped w n m q (set ws k x) (count + 1) × Past (n + m) ws₀ (set ws k x)
+      moved-stop t =
+          let lead : Leads w n m q (held ws k i) (held ws k k) = subst (λ (z : ℕ). Leads w n m q z (held ws k k)) (sym there) (subst (Leads w n m q (entryAt ws i)) (sym here) (unless-before w n m q (entryOf x) (entryAt ws i) t)) in
+          moved-done (rising-stop w n m q (held ws k) (count + 1) k i a b lead (y .rising))
+
+  -- on its way down, among the first count
+  pub record Sunk (count : ℕ) (ws₀ ws : List ℕ) (k : ℕ) : Type 0 where
+    pub most : k ≤ count
+    pub keys : Keys w n m q ws count
+    pub left : picked w n m q every (held ws k) count ≡ listed w n m q (set ws₀ 0 x) count
+    pub sinking : Sinking w n m q (held ws k) count k
+    pub past : Past (n + m) ws₀ ws
+
+  pub sunk-start : (count : ℕ) (ws : List ℕ) → Heaped w n m q ws count → Sunk count ws ws 0
+  sunk-start count ws h =
+      let same : (k : ℕ) → (k ≡ 0 → ⊥) → held ws 0 k ≡ standing ws k = λ k. set-else ws 0 x k in
+      record {
+        most = omega arith;
+        keys = h .keys;
+        left = sym (listed-picked w n m q (set ws 0 x) count);
+        sinking = record {
+          rest = λ i j a b u z. subst (λ (s : ℕ). Leads w n m q s (held ws 0 j)) (sym (same i z))
+              (subst (λ (s : ℕ). Leads w n m q (standing ws i) s) (sym (same j (λ t. omega arith))) (unless-before w n m q (standing ws j) (standing ws i) (h .up i j a b u)));
+          over = λ i j a b s t u. absurd (omega arith);
+        };
+        past = past-same (n + m) ws;
+      }
+
+  module _ (key : Packed w n m q x) (count : ℕ) (ws₀ ws : List ℕ) (k : ℕ) (few : count < n + m) (long : n + m ≤ length ws₀) (y : Sunk count ws₀ ws k) where
     pub sunk-fits : k < length ws
-    sunk-fits = omega (arith, x .most, x .past .long)
+    sunk-fits = omega (arith, y .most, y .past .long)
 
     pub sunk-long : n + m ≤ length ws
-    sunk-long = omega (arith, x .past .long)
+    sunk-long = omega (arith, y .past .long)
 
-    sunk-done : Heap w n m q (held ws k) count → (listed w n m q (set ws k e) count ≡ listed w n m q (set ws₀ 0 e) count) × Heaped w n m q (set ws k e) count × Past (n + m) ws₀ (set ws k e)
-    sunk-done h = (listed-picked w n m q (set ws k e) count ∙ x .left, heaped-of w n m q (set ws k e) count h, past-set (n + m) k e ws₀ ws (omega (arith, x .most)) (x .past))
+    sunk-done : Heap w n m q (held ws k) count → (listed w n m q (set ws k x) count ≡ listed w n m q (set ws₀ 0 x) count) × Heaped w n m q (set ws k x) count × Past (n + m) ws₀ (set ws k x)
+    sunk-done h = (
+      listed-picked w n m q (set ws k x) count ∙ y .left,
+      heaped-of w n m q (set ws k x) count (record { each = λ i u. key-set w n m q ws k x i sunk-fits key (λ z. y .keys .each i u) }) h,
+      past-set (n + m) k x ws₀ ws (omega (arith, y .most)) (y .past),
+    )
 
-    pub sunk-end : count ≤ k + k + 1 → (listed w n m q (set ws k e) count ≡ listed w n m q (set ws₀ 0 e) count) × Heaped w n m q (set ws k e) count × Past (n + m) ws₀ (set ws k e)
-    sunk-end h = sunk-done (sinking-end w n m q (held ws k) count k h (x .sinking))
+    pub sunk-end : count ≤ k + k + 1 → (listed w n m q (set ws k x) count ≡ listed w n m q (set ws₀ 0 x) count) × Heaped w n m q (set ws k x) count × Past (n + m) ws₀ (set ws k x)
+    sunk-end h = sunk-done (sinking-end w n m q (held ws k) count k h (y .sinking))
 
     -- r is the lesser of the two below k
-    module _ (r : ℕ) (y : Lesser w n m q ws count (k + k + 1) r) where
-      at-k : held ws k k ≡ e
-      at-k = set-here ws k e sunk-fits
+    module _ (r : ℕ) (l : Lesser w n m q ws count (k + k + 1) r) where
+      at-k : held ws k k ≡ entryOf x
+      at-k = set-here ws k x sunk-fits
 
-      at-r : held ws k r ≡ getD ws r 0
-      at-r = set-else ws k e r (λ z. omega (arith, y .low))
+      at-r : held ws k r ≡ entryAt ws r
+      at-r = set-else ws k x r (λ z. omega (arith, l .low))
 
       least : Least w n m q (held ws k) count k r
       unfolding Least
       least j a b u =
           subst (λ (s : ℕ). Leads w n m q s (held ws k j)) (sym at-r)
-          (subst (λ (s : ℕ). Leads w n m q (standing ws r) s) (sym (set-else ws k e j (λ z. omega arith))) (not-before w n m q (standing ws j) (standing ws r) (y .least j a (omega arith) u)))
+          (subst (λ (s : ℕ). Leads w n m q (standing ws r) s) (sym (set-else ws k x j (λ z. omega arith))) (unless-before w n m q (standing ws j) (standing ws r) (l .least j a (omega arith) u)))
 
-      pub sunk-kind : Kind n m (getD ws r 0)
-      sunk-kind = x .kinds .each r (y .few)
+      pub sunk-key : Packed w n m q (getD ws r 0)
+      sunk-key = y .keys .each r (l .few)
 
-      pub sunk-step : before w n m q e (getD ws r 0) ≡ false → Sunk count ws₀ (set ws k (getD ws r 0)) r
+      pub sunk-step : before w n m q (entryOf x) (entryAt ws r) ≡ false → Sunk count ws₀ (set ws k (getD ws r 0)) r
       sunk-step t =
           let f = getD ws r 0 in
-          let s = held-swap ws k r sunk-fits (omega (arith, y .few, sunk-long)) (λ z. omega (arith, y .low)) in
-          let lead : Leads w n m q (held ws k r) (held ws k k) = subst (λ (z : ℕ). Leads w n m q z (held ws k k)) (sym at-r) (subst (Leads w n m q f) (sym at-k) (not-before w n m q e f t)) in
+          let s = held-swap ws k r sunk-fits (omega (arith, l .few, sunk-long)) (λ z. omega (arith, l .low)) in
+          let lead : Leads w n m q (held ws k r) (held ws k k) = subst (λ (z : ℕ). Leads w n m q z (held ws k k)) (sym at-r) (subst (Leads w n m q (entryAt ws r)) (sym at-k) (unless-before w n m q (entryOf x) (entryAt ws r) t)) in
           record {
-            most = omega (arith, y .few);
-            kinds = kinds-set n m ws count k f sunk-fits sunk-kind (x .kinds);
-            left = picked-swap w n m q (held ws k) (held (set ws k f) r) count k r (omega (arith, y .low, y .few)) (y .few) (λ z. omega (arith, y .low)) s ∙ x .left;
-            sinking = sinking-step w n m q (held ws k) (held (set ws k f) r) count k r (y .few) (y .low) (omega (arith, y .high)) lead least s (x .sinking);
-            past = past-set (n + m) k f ws₀ ws (omega (arith, x .most)) (x .past);
+            most = omega (arith, l .few);
+            keys = record { each = λ i u. key-set w n m q ws k f i sunk-fits sunk-key (λ z. y .keys .each i u) };
+            left = picked-swap w n m q (held ws k) (held (set ws k f) r) count k r (omega (arith, l .low, l .few)) (l .few) (λ z. omega (arith, l .low)) s ∙ y .left;
+            sinking = sinking-step w n m q (held ws k) (held (set ws k f) r) count k r (l .few) (l .low) (omega (arith, l .high)) lead least s (y .sinking);
+            past = past-set (n + m) k f ws₀ ws (omega (arith, y .most)) (y .past);
           }
 
-      pub sunk-stop : before w n m q e (getD ws r 0) ≡ true → (listed w n m q (set ws k e) count ≡ listed w n m q (set ws₀ 0 e) count) × Heaped w n m q (set ws k e) count × Past (n + m) ws₀ (set ws k e)
+      pub sunk-stop : before w n m q (entryOf x) (entryAt ws r) ≡ true → (listed w n m q (set ws k x) count ≡ listed w n m q (set ws₀ 0 x) count) × Heaped w n m q (set ws k x) count × Past (n + m) ws₀ (set ws k x)
       sunk-stop t =
-          let lead : Leads w n m q (held ws k k) (held ws k r) = subst (λ (z : ℕ). Leads w n m q z (held ws k r)) (sym at-k) (subst (Leads w n m q e) (sym at-r) (before-leads w n m q e (getD ws r 0) t)) in
-          sunk-done (sinking-stop w n m q (held ws k) count k r lead least (x .sinking))
+          let lead : Leads w n m q (held ws k k) (held ws k r) = subst (λ (z : ℕ). Leads w n m q z (held ws k r)) (sym at-k) (subst (Leads w n m q (entryOf x)) (sym at-r) (before-leads w n m q (entryOf x) (entryAt ws r) t)) in
+          sunk-done (sinking-stop w n m q (held ws k) count k r lead least (y .sinking))
 
 -- ---- what a node covers, put in one after the other
 
@@ -359,14 +385,13 @@ module _ (w : List ℤ) (n m : ℕ) (q : Spot) (j : ℕ) where
   -- i of what node j covers are in
   pub record Filled (count first more : ℕ) (ws₀ ws : List ℕ) (i : ℕ) : Type 0 where
     pub turn : Turn (λ k. insert w n m q (covered w n m j k)) first more (listed w n m q ws₀ count) (listed w n m q ws (count + i)) i
-    pub kinds : Each (Kind n m) (listed w n m q ws (count + i))
     pub heap : Heaped w n m q ws (count + i)
     pub past : Past (n + m) ws₀ ws
 
-  pub filled-start : (count first more : ℕ) (ws : List ℕ) → Each (Kind n m) (listed w n m q ws count) → Heaped w n m q ws count → Filled count first more ws ws 0
-  filled-start count first more ws a h =
+  pub filled-start : (count first more : ℕ) (ws : List ℕ) → Heaped w n m q ws count → Filled count first more ws ws 0
+  filled-start count first more ws h =
       let z : count + 0 ≡ count = omega arith in
-      record { turn = rw z (turn-start _ first more (listed w n m q ws count)); kinds = rw z a; heap = rw z h; past = past-same (n + m) ws }
+      record { turn = rw z (turn-start _ first more (listed w n m q ws count)); heap = rw z h; past = past-same (n + m) ws }
 
   module _ (o : Opens w n m) (h : j < m) (count first more : ℕ) (ws₀ ws : List ℕ) (i : ℕ) (is-first : first ≡ firstOf w n j) (is-count : more ≡ countOf w n j) (x : Filled count first more ws₀ ws i) where
     pub filled-run : i < more → InRun w n j (first + i)
@@ -384,7 +409,6 @@ module _ (w : List ℤ) (n m : ℕ) (q : Spot) (j : ℕ) where
         let l : listed w n m q ws′ (count + (i + 1)) ≡ insert w n m q (covered w n m j (first + i)) (listed w n m q ws (count + i)) = ap (listed w n m q ws′) (sym v) ∙ y ∙ ap (λ (k : ℕ). insert w n m q k (listed w n m q ws (count + i))) z in
         record {
           turn = turn-step _ first more (listed w n m q ws₀ count) (listed w n m q ws (count + i)) (listed w n m q ws′ (count + (i + 1))) i u (x .turn) l;
-          kinds = subst (Each (Kind n m)) (sym l) (insert-each w n m q (covered w n m j (first + i)) (covered-kind w n m o j (first + i) h (filled-run u)) (listed w n m q ws (count + i)) (x .kinds));
           heap = subst (Heaped w n m q ws′) v g;
           past = past-past (n + m) ws₀ ws ws′ (x .past) p;
         }
@@ -403,19 +427,24 @@ module _ (w : List ℤ) (n m : ℕ) (q : Spot) (j : ℕ) where
 
 -- ---- the root
 
-pub root-none : (m : ℕ) (ws : List ℕ) → m ≡ 0 → Rooted m ws 0
-unfolding rootWaits listed
-root-none m ws z = record { few = omega arith; is = λ w n q. rw z }
+pub root-kind : (n m : ℕ) → (m ≡ 0 → ⊥) → Kind n m m
+root-kind n m z = box (m - 1) (omega arith) (omega arith)
 
-pub root-some : (m : ℕ) (ws : List ℕ) → (m ≡ 0 → ⊥) → 0 < length ws → Rooted m (set ws 0 m) 1
-unfolding rootWaits listed insert
-root-some m ws z h = record { few = omega arith; is = λ w n q. go (eqb m 0) refl }
-  where
-    go : (t : Bool) → eqb m 0 ≡ t → (getD (set ws 0 m) 0 0 ∷ []) ≡ cond t [] (boxEntry (m - 1) ∷ [])
-    go true e = absurd (z (eqb-true m 0 e))
-    go false e =
-        let y : m ≡ boxEntry (m - 1) = (let u = eqb-false m 0 e in omega arith) in
-        ap (λ (x : ℕ). x ∷ []) (getD-set-same ws 0 m 0 h ∙ y)
+module _ (w : List ℤ) (n m : ℕ) (q : Spot) where
+  pub root-none : (ws : List ℕ) → m ≡ 0 → (listed w n m q ws 0 ≡ rootWaits m) × Heaped w n m q ws 0
+  unfolding rootWaits listed
+  root-none ws z = ((rw z), record { keys = record { each = λ k u. absurd (omega arith) }; up = λ i k a b u. absurd (omega arith) })
+
+  pub root-some : (ws : List ℕ) (x : ℕ) → (m ≡ 0 → ⊥) → 0 < length ws → Packed w n m q x → entryOf x ≡ m → (listed w n m q (set ws 0 x) 1 ≡ rootWaits m) × Heaped w n m q (set ws 0 x) 1
+  unfolding rootWaits listed insert
+  root-some ws x z h p is = (
+    ap (λ (i : ℕ). i ∷ []) (set-here ws 0 x h ∙ is) ∙ go (eqb m 0) refl,
+    record { keys = record { each = λ k u. key-set w n m q ws 0 x k h p (λ y. absurd (omega arith)) }; up = λ i k a b u. absurd (omega arith) },
+  )
+    where
+      go : (t : Bool) → eqb m 0 ≡ t → (m ∷ []) ≡ cond t [] (boxEntry (m - 1) ∷ [])
+      go true e = absurd (z (eqb-true m 0 e))
+      go false e = let y : m ≡ boxEntry (m - 1) = omega arith in ap (λ (i : ℕ). i ∷ []) y
 
 -- ---- wiped
 

@@ -12,10 +12,10 @@ use Rattle.sheet.specs.Nodes.{firstOf, countOf}
 use Rattle.sheet.specs.Open.{Opens}
 use Rattle.near.specs.Waiting.{boxEntry, pointEntry, covered, withCovered}
 use Rattle.near.specs.NearWalk.{nearSteps, rootWaits, nearAll}
-use Rattle.near.specs.Room.{listed, Heaped, Taken, Rooted, Kind, Each, Past}
+use Rattle.near.specs.Room.{listed, Heaped, Taken, Kind, Each, Past}
 use Rattle.near.proofs.ListLaws.{each-head, each-tail, total, run-length}
 use Rattle.near.proofs.NearLaws.{weight, weight-some, length-weight, covers-total, covers-kind, root-kinds, root-load, steps-none, step-box, step-point, steps-enough}
-use Rattle.near.proofs.WaitingLaws.{listed-length, heaped-one, past-wider, past-past, kind-box}
+use Rattle.near.proofs.WaitingLaws.{listed-length, past-wider, past-past, kind-box}
 
 -- what waits weighs so much
 abbrev pub load : List ℤ → ℕ → ℕ → Spot → List ℕ → ℕ → ℕ
@@ -35,16 +35,15 @@ module _ {S : Type 0} (w : List ℤ) (n m : ℕ) (q : Spot) (skip : ℕ → S �
     pub past : Past (n + m) ws₀ ws
 
   module _ (o : Opens w n m) where
-    pub going-start : (ws₀ ws : List ℕ) (c : ℕ) (s : S) → Rooted m ws c → Past m ws₀ ws → Going (nearAll w n m q skip opened meet s) ws₀ ws c s
+    pub going-start : (ws₀ ws : List ℕ) (c : ℕ) (s : S) → listed w n m q ws c ≡ rootWaits m → Heaped w n m q ws c → Past m ws₀ ws → Going (nearAll w n m q skip opened meet s) ws₀ ws c s
     unfolding nearAll
-    going-start ws₀ ws c s g p =
-        let e : listed w n m q ws c ≡ rootWaits m = g .is w n q in
+    going-start ws₀ ws c s e g p =
         let z : load w n m q ws c ≡ n + m = ap (total (weight w n m)) e ∙ root-load w n m o in
         record {
           kinds = subst (Each (Kind n m)) (sym e) (root-kinds w n m o);
           few = omega arith;
           to-do = ap (λ (k : ℕ). nearSteps w n m q skip opened meet k (listed w n m q ws c) s) z ∙ ap (λ (l : List ℕ). nearSteps w n m q skip opened meet (n + m) l s) e;
-          heap = heaped-one w n m q ws c (g .few);
+          heap = g;
           past = past-wider m (n + m) ws₀ ws (omega arith) p;
         }
 
@@ -82,9 +81,6 @@ module _ {S : Type 0} (w : List ℤ) (n m : ℕ) (q : Spot) (skip : ℕ → S �
 
         pub going-kind : Kind n m e
         going-kind = each-head all
-
-        pub going-rest : Each (Kind n m) (listed w n m q ws₁ (c - 1))
-        going-rest = each-tail all
 
         -- once it is taken out, less is left
         pub going-less : load w n m q ws₁ (c - 1) < load w n m q ws c

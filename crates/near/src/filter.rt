@@ -43,7 +43,7 @@ pub fn near_kept(
     ensures { λ r. ⌜ (now (bits .exit) ≡ nearKept (length (now (bits .entry))) (now (w .entry)) q .bits) × (r ≡ nearKept (length (now (bits .entry))) (now (w .entry)) q .opened) × (now (waiting .exit) ≡ wiped (n + m) (now (waiting .entry))) ⌝ }
 {
     bits::clear(bits);
-    let mut count = crate::waiting::put_root(m, waiting);
+    let mut count = crate::waiting::put_root(w, n, m, q, waiting);
     let mut opened: u64 = 0;
     while count > 0 {
         let e = crate::waiting::take_out(w, n, m, q, waiting, count) as usize;

@@ -29,7 +29,7 @@ pub fn first_points(
 {
     let mut at = [0usize; 16];
     let mut got: usize = 0;
-    let mut count = crate::waiting::put_root(m, waiting);
+    let mut count = crate::waiting::put_root(w, n, m, q, waiting);
     while (count > 0) & (got < size) {
         let e = crate::waiting::take_out(w, n, m, q, waiting, count) as usize;
         count -= 1;

@@ -1,4 +1,5 @@
 // What waits in a walk that goes nearest first, in numbers that the caller lends: so many of them from the first on, a heap with the nearest at place 0.
+// Each is the number of what waits with its squared distance above it, so that most comparisons read nothing else.
 use plane::Boxed;
 use plane::Spot;
 ghost use mathlib.Core.Path.{_≡_};
@@ -9,7 +10,8 @@ ghost use Rattle.plane.specs.Rule.{SpotIn, BoxIn};
 ghost use Rattle.sheet.specs.Nodes.{levelOf, countOf};
 ghost use Rattle.sheet.specs.Open.{Opens};
 ghost use Rattle.near.specs.Waiting.{away, distance, before, insert, covered, withCovered};
-ghost use Rattle.near.specs.Room.{listed, Heaped, Taken, Lesser, Rooted, Kind, Kinds, InRun, Each, Past};
+ghost use Rattle.near.specs.NearWalk.{rootWaits};
+ghost use Rattle.near.specs.Room.{entryOf, listed, Packed, Keys, Heaped, Taken, Lesser, Kind, InRun, Past};
 ghost use Rattle.bits.specs.Set.{wiped};
 
 // The squared distance of q to a box.
@@ -34,13 +36,38 @@ fn distance_at(w: &[i32], n: usize, m: usize, q: Spot, e: u64) -> u64
     plane::diameter(q, sheet::reads::spot_at(w, n, m, k - (m + 1)))
 }
 
-// Whether e, at the distance d, comes before f.
-fn comes_before(w: &[i32], n: usize, m: usize, q: Spot, e: u64, d: u64, f: u64) -> bool
-    requires { ⌜ Opens (now w) n m × SpotIn q × Kind n m f × (d ≡ distance (now w) n m q e) ⌝ }
+// The lent number under which e waits: its distance, of which the last 17 bits give way to e.
+fn key(w: &[i32], n: usize, m: usize, q: Spot, e: u64) -> u64
+    requires { ⌜ Opens (now w) n m × SpotIn q × Kind n m e ⌝ }
+    ensures { λ r. ⌜ Packed (now (w .entry)) n m q r × (entryOf r ≡ e) ⌝ }
+{
+    distance_at(w, n, m, q, e) / 131072 * 131072 + e
+}
+
+// Whether e comes before f, by their distances.
+fn is_before(w: &[i32], n: usize, m: usize, q: Spot, e: u64, f: u64) -> bool
+    requires { ⌜ Opens (now w) n m × SpotIn q × Kind n m e × Kind n m f ⌝ }
     ensures { λ r. ⌜ r ≡ before (now (w .entry)) n m q e f ⌝ }
 {
+    let d = distance_at(w, n, m, q, e);
     let g = distance_at(w, n, m, q, f);
     (d < g) | ((d == g) & (e < f))
+}
+
+// Whether what waits under x comes before what waits under y: by the bits above where these differ, and else by the distances.
+fn comes_before(w: &[i32], n: usize, m: usize, q: Spot, x: u64, y: u64) -> bool
+    requires { ⌜ Opens (now w) n m × SpotIn q × Packed (now w) n m q x × Packed (now w) n m q y ⌝ }
+    ensures { λ r. ⌜ r ≡ before (now (w .entry)) n m q (entryOf x) (entryOf y) ⌝ }
+{
+    let d = x / 131072;
+    let g = y / 131072;
+    if d < g {
+        return true;
+    }
+    if g < d {
+        return false;
+    }
+    is_before(w, n, m, q, x % 131072, y % 131072)
 }
 
 // The place above place k.
@@ -51,61 +78,59 @@ fn above(k: usize) -> usize
     (k - 1) / 2
 }
 
-// The number e is put in among the first `count`: from the place after them, those above that it comes before move down.
+// What has the number e is put in among the first `count`: from the place after them, those above that it comes before move down.
 fn put(w: &[i32], n: usize, m: usize, q: Spot, e: u64, waiting: &mut [u64], count: usize)
-    requires { ⌜ Opens (now w) n m × SpotIn q × Kind n m e × Each (Kind n m) (listed (now w) n m q (now waiting) count) × Heaped (now w) n m q (now waiting) count × (count < n + m) × (n + m ≤ length (now waiting)) ⌝ }
+    requires { ⌜ Opens (now w) n m × SpotIn q × Kind n m e × Heaped (now w) n m q (now waiting) count × (count < n + m) × (n + m ≤ length (now waiting)) ⌝ }
     ensures { λ _. ⌜ (listed (now (w .entry)) n m q (now (waiting .exit)) (count + 1) ≡ insert (now (w .entry)) n m q e (listed (now (w .entry)) n m q (now (waiting .entry)) count)) × Heaped (now (w .entry)) n m q (now (waiting .exit)) (count + 1) × Past (n + m) (now (waiting .entry)) (now (waiting .exit)) ⌝ }
 {
-    let d = distance_at(w, n, m, q, e);
+    let x = key(w, n, m, q, e);
     let mut k = count;
     while k > 0 {
         let i = above(k);
         let f = waiting[i];
-        if comes_before(w, n, m, q, e, d, f) {
+        if comes_before(w, n, m, q, x, f) {
             waiting[k] = f;
             k = i;
             continue;
         }
-        waiting[k] = e;
+        waiting[k] = x;
         return;
     }
-    waiting[k] = e;
+    waiting[k] = x;
 }
 
-// The one of the places j and j + 1 whose number comes first, among the first `count`.
+// The one of the places j and j + 1, among the first `count`, at which stands what comes first.
 fn lesser(w: &[i32], n: usize, m: usize, q: Spot, waiting: &[u64], count: usize, j: usize) -> usize
-    requires { ⌜ Opens (now w) n m × SpotIn q × Kinds n m (now waiting) count × (j < count) × (count ≤ n + m) × (n + m ≤ length (now waiting)) ⌝ }
+    requires { ⌜ Opens (now w) n m × SpotIn q × Keys (now w) n m q (now waiting) count × (j < count) × (count ≤ n + m) × (n + m ≤ length (now waiting)) ⌝ }
     ensures { λ r. ⌜ Lesser (now (w .entry)) n m q (now (waiting .entry)) count j r ⌝ }
 {
     if j + 1 < count {
-        let e = waiting[j + 1];
-        let d = distance_at(w, n, m, q, e);
-        let f = waiting[j];
-        if comes_before(w, n, m, q, e, d, f) {
+        let x = waiting[j + 1];
+        let y = waiting[j];
+        if comes_before(w, n, m, q, x, y) {
             return j + 1;
         }
     }
     j
 }
 
-// The number e stands for the one at place 0 of the first `count`: from there, those below that it does not come before move up.
-fn sink(w: &[i32], n: usize, m: usize, q: Spot, e: u64, waiting: &mut [u64], count: usize)
-    requires { ⌜ Opens (now w) n m × SpotIn q × Kind n m e × Kinds n m (now waiting) count × Heaped (now w) n m q (now waiting) count × (count < n + m) × (n + m ≤ length (now waiting)) ⌝ }
-    ensures { λ _. ⌜ (listed (now (w .entry)) n m q (now (waiting .exit)) count ≡ listed (now (w .entry)) n m q (set (now (waiting .entry)) 0 e) count) × Heaped (now (w .entry)) n m q (now (waiting .exit)) count × Past (n + m) (now (waiting .entry)) (now (waiting .exit)) ⌝ }
+// The lent number x stands for the one at place 0 of the first `count`: from there, those below that it does not come before move up.
+fn sink(w: &[i32], n: usize, m: usize, q: Spot, x: u64, waiting: &mut [u64], count: usize)
+    requires { ⌜ Opens (now w) n m × SpotIn q × Packed (now w) n m q x × Heaped (now w) n m q (now waiting) count × (count < n + m) × (n + m ≤ length (now waiting)) ⌝ }
+    ensures { λ _. ⌜ (listed (now (w .entry)) n m q (now (waiting .exit)) count ≡ listed (now (w .entry)) n m q (set (now (waiting .entry)) 0 x) count) × Heaped (now (w .entry)) n m q (now (waiting .exit)) count × Past (n + m) (now (waiting .entry)) (now (waiting .exit)) ⌝ }
 {
-    let d = distance_at(w, n, m, q, e);
     let mut k = 0;
     while k + k + 1 < count {
         let j = lesser(w, n, m, q, waiting, count, k + k + 1);
         let f = waiting[j];
-        if comes_before(w, n, m, q, e, d, f) {
-            waiting[k] = e;
+        if comes_before(w, n, m, q, x, f) {
+            waiting[k] = x;
             return;
         }
         waiting[k] = f;
         k = j;
     }
-    waiting[k] = e;
+    waiting[k] = x;
 }
 
 // The nearest of the first `count` is taken out; the others are the first `count` - 1.
@@ -117,13 +142,13 @@ pub(crate) fn take_out(
     waiting: &mut [u64],
     count: usize,
 ) -> u64
-    requires { ⌜ Opens (now w) n m × SpotIn q × Each (Kind n m) (listed (now w) n m q (now waiting) count) × Heaped (now w) n m q (now waiting) count × (0 < count) × (count ≤ n + m) × (n + m ≤ length (now waiting)) ⌝ }
+    requires { ⌜ Opens (now w) n m × SpotIn q × Heaped (now w) n m q (now waiting) count × (0 < count) × (count ≤ n + m) × (n + m ≤ length (now waiting)) ⌝ }
     ensures { λ r. ⌜ Taken (now (w .entry)) n m q (now (waiting .entry)) (now (waiting .exit)) count r ⌝ }
 {
-    let e = waiting[0];
-    let f = waiting[count - 1];
-    sink(w, n, m, q, f, waiting, count - 1);
-    e
+    let first = waiting[0];
+    let last = waiting[count - 1];
+    sink(w, n, m, q, last, waiting, count - 1);
+    first % 131072
 }
 
 // What node j covers at k.
@@ -147,7 +172,7 @@ pub(crate) fn put_covered(
     waiting: &mut [u64],
     count: usize,
 ) -> usize
-    requires { ⌜ Opens (now w) n m × SpotIn q × (j < m) × Each (Kind n m) (listed (now w) n m q (now waiting) count) × Heaped (now w) n m q (now waiting) count × (count + countOf (now w) n j ≤ n + m) × (n + m ≤ length (now waiting)) ⌝ }
+    requires { ⌜ Opens (now w) n m × SpotIn q × (j < m) × Heaped (now w) n m q (now waiting) count × (count + countOf (now w) n j ≤ n + m) × (n + m ≤ length (now waiting)) ⌝ }
     ensures { λ r. ⌜ (listed (now (w .entry)) n m q (now (waiting .exit)) r ≡ withCovered (now (w .entry)) n m q j (listed (now (w .entry)) n m q (now (waiting .entry)) count)) × Heaped (now (w .entry)) n m q (now (waiting .exit)) r × (r ≡ count + countOf (now (w .entry)) n j) × Past (n + m) (now (waiting .entry)) (now (waiting .exit)) ⌝ }
 {
     let level = sheet::reads::level_at(w, n, m, j);
@@ -163,14 +188,15 @@ pub(crate) fn put_covered(
 }
 
 // The root waits, if there is one; how many wait.
-pub(crate) fn put_root(m: usize, waiting: &mut [u64]) -> usize
-    requires { ⌜ m ≤ length (now waiting) ⌝ }
-    ensures { λ r. ⌜ Rooted m (now (waiting .exit)) r × Past m (now (waiting .entry)) (now (waiting .exit)) ⌝ }
+pub(crate) fn put_root(w: &[i32], n: usize, m: usize, q: Spot, waiting: &mut [u64]) -> usize
+    requires { ⌜ Opens (now w) n m × SpotIn q × (m ≤ length (now waiting)) ⌝ }
+    ensures { λ r. ⌜ (listed (now (w .entry)) n m q (now (waiting .exit)) r ≡ rootWaits m) × Heaped (now (w .entry)) n m q (now (waiting .exit)) r × Past m (now (waiting .entry)) (now (waiting .exit)) ⌝ }
 {
     if m == 0 {
         return 0;
     }
-    waiting[0] = m as u64;
+    let x = key(w, n, m, q, m as u64);
+    waiting[0] = x;
     1
 }
 

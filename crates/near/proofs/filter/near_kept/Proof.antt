@@ -4,7 +4,7 @@ use native.Mathlib.Omega.{arith}
 use lib.ListN.{length}
 use Rattle.walk.proofs.FilterCode.{still-holds}
 use Rattle.near.proofs.WaitingLaws.{kind-point}
-use Rattle.near.proofs.WalkCode.{load, going-fits, going-kind, going-rest, going-node, going-room}
+use Rattle.near.proofs.WalkCode.{load, going-fits, going-kind, going-node, going-room}
 use Rattle.near.proofs.FilterCode.{Sifting, sifting-start, sifting-end, sifting-less, sifting-skip, sifting-meet, sifting-under, sifting-open, wiped-all}
 use Rattle.near.proofs.filter.near_kept.Statement.{statement}
 use Rattle.near.proofs.filter.near_kept.Tie as tie
@@ -28,27 +28,27 @@ cleared l = l .before .before .before .before .before .before .before .clear .ke
 same-bits : (l : At) → length (l .loop .bits) ≡ length (start l .args .bits .now)
 same-bits l = l .loop .inv .long ∙ cleared l
 
-root-long : (l : At) → length (l .before .before .before .put-root .last .1 .0) ≡ length (start l .args .waiting .now)
-root-long l = l .before .before .before .put-root .ensures .1 .long
+root-long : (l : At) → length (l .before .before .before .put-root .last .1 .1 .1 .1 .0) ≡ length (start l .args .waiting .now)
+root-long l = l .before .before .before .put-root .ensures .2 .long
 
 clear-requires : tie.Need-clear-requires Inv-loop μ-loop
 clear-requires c κs = tt
 
 put-root-requires : tie.Need-put-root-requires Inv-loop μ-loop
-put-root-requires c κs = let p = c .before .before .before .before .before .before .before .pre in omega (arith, p .3)
+put-root-requires c κs = let p = c .before .before .before .before .before .before .before .pre in (p .0, p .1, omega (arith, p .3))
 
 loop-holds : tie.Need-loop-holds Inv-loop μ-loop
 loop-holds c =
     let r = c .before .before in
     let k = c .before .before .before .before .before .before in
-    sifting-start _ _ _ _ (c .before .before .before .before .before .before .before .before .before .before .pre .0) _ _ _ _ _ (k .clear .ensures) (k .clear .kept .0) (r .put-root .ensures .0) (r .put-root .ensures .1)
+    sifting-start _ _ _ _ (c .before .before .before .before .before .before .before .before .before .before .pre .0) _ _ _ _ _ (k .clear .ensures) (k .clear .kept .0) (r .put-root .ensures .0) (r .put-root .ensures .1) (r .put-root .ensures .2)
 
 take-out-requires : tie.Need-take-out-requires Inv-loop μ-loop
 take-out-requires c κs =
     let l = c .before .before in
     let p = start l .pre in
     let g = l .loop .inv .going in
-    (p .0, p .1, g .kinds, g .heap, c .before .loop-test .taken, going-fits _ _ _ _ _ _ _ (p .0) _ _ _ _ _ g, omega (arith, p .3, g .past .long, root-long l))
+    (p .0, p .1, g .heap, c .before .loop-test .taken, going-fits _ _ _ _ _ _ _ (p .0) _ _ _ _ _ g, omega (arith, p .3, g .past .long, root-long l))
 
 sub-count : tie.Need-sub-count Inv-loop μ-loop
 sub-count c = c .before .before .before .before .loop-test .taken
@@ -99,7 +99,6 @@ put-covered-requires c κs =
       p .0,
       p .1,
       going-node _ _ _ _ _ _ _ (p .0) _ _ _ _ _ (l .loop .inv .going) _ _ t u .1,
-      going-rest _ _ _ _ _ _ _ (p .0) _ _ _ _ _ (l .loop .inv .going) _ _ t,
       t .heap,
       going-room _ _ _ _ _ _ _ (p .0) _ _ _ _ _ (l .loop .inv .going) _ _ t u,
       omega (arith, p .3, l .loop .inv .going .past .long, root-long l, t .past .long),
@@ -157,7 +156,7 @@ returns c =
     let l = c .before .before .before .before .before in
     let p = start l .pre in
     let e = sifting-end _ _ _ _ (p .0) _ _ _ _ _ _ (l .loop .inv) _ (cleared l) (c .before .before .before .before .loop-test .left) in
-    (e .0, e .1, wiped-all _ _ _ _ _ _ (l .before .before .before .put-root .ensures .1) (l .loop .inv .going .past) (c .before .before .wipe .ensures))
+    (e .0, e .1, wiped-all _ _ _ _ _ _ (l .before .before .before .put-root .ensures .2) (l .loop .inv .going .past) (c .before .before .wipe .ensures))
 
 pub near-kept-spec : {M : Type 1} → statement M
 near-kept-spec =

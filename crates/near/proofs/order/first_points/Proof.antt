@@ -6,7 +6,7 @@ use lib.Dec.{ltb}
 use lib.ListN.{length}
 use borrow.Author.Tests.{ltb-true}
 use Rattle.integers.proofs.Bools.{and-left, and-right}
-use Rattle.near.proofs.WalkCode.{load, going-fits, going-rest, going-node, going-room}
+use Rattle.near.proofs.WalkCode.{load, going-fits, going-node, going-room}
 use Rattle.near.proofs.FilterCode.{wiped-all}
 use Rattle.near.proofs.OrderCode.{Giving, giving-start, giving-less, giving-meet, giving-under, giving-open, giving-done}
 use Rattle.near.proofs.order.first_points.Statement.{statement}
@@ -25,8 +25,8 @@ abbrev start : At → tie.Start Inv-loop μ-loop
 start l = l .before .before .before .before .before .before
 
 -- as many numbers as were lent
-root-long : (l : At) → length (l .before .before .before .put-root .last .1 .0) ≡ length (start l .args .waiting .now)
-root-long l = l .before .before .before .put-root .ensures .1 .long
+root-long : (l : At) → length (l .before .before .before .put-root .last .1 .1 .1 .1 .0) ≡ length (start l .args .waiting .now)
+root-long l = l .before .before .before .put-root .ensures .2 .long
 
 -- something waits, and more are wanted
 waits : (c : tie.In-loop Inv-loop μ-loop) → 0 < c .before .loop .count
@@ -36,19 +36,19 @@ wanted : (c : tie.In-loop Inv-loop μ-loop) → c .before .loop .got < start (c 
 wanted c = ltb-true (c .before .loop .got) (start (c .before) .args .size) (and-right (ltb 0 (c .before .loop .count)) _ (c .loop-test .taken))
 
 put-root-requires : tie.Need-put-root-requires Inv-loop μ-loop
-put-root-requires c κs = omega (arith, c .before .before .pre .3)
+put-root-requires c κs = let p = c .before .before .pre in (p .0, p .1, omega (arith, p .3))
 
 loop-holds : tie.Need-loop-holds Inv-loop μ-loop
 loop-holds c =
     let r = c .before .before in
-    (giving-start _ _ _ _ (c .before .before .before .before .before .pre .0) _ _ _ (r .put-root .ensures .0) (r .put-root .ensures .1), omega arith)
+    (giving-start _ _ _ _ (c .before .before .before .before .before .pre .0) _ _ _ (r .put-root .ensures .0) (r .put-root .ensures .1) (r .put-root .ensures .2), omega arith)
 
 take-out-requires : tie.Need-take-out-requires Inv-loop μ-loop
 take-out-requires c κs =
     let l = c .before .before in
     let p = start l .pre in
     let g = l .loop .inv .0 .going in
-    (p .0, p .1, g .kinds, g .heap, waits (c .before), going-fits _ _ _ _ _ _ _ (p .0) _ _ _ _ _ g, omega (arith, p .3, g .past .long, root-long l))
+    (p .0, p .1, g .heap, waits (c .before), going-fits _ _ _ _ _ _ _ (p .0) _ _ _ _ _ g, omega (arith, p .3, g .past .long, root-long l))
 
 sub-count : tie.Need-sub-count Inv-loop μ-loop
 sub-count c = waits (c .before .before .before .before)
@@ -71,7 +71,6 @@ put-covered-requires c κs =
       p .0,
       p .1,
       going-node _ _ _ _ _ _ _ (p .0) _ _ _ _ _ (l .loop .inv .0 .going) _ _ t u .1,
-      going-rest _ _ _ _ _ _ _ (p .0) _ _ _ _ _ (l .loop .inv .0 .going) _ _ t,
       t .heap,
       going-room _ _ _ _ _ _ _ (p .0) _ _ _ _ _ (l .loop .inv .0 .going) _ _ t u,
       omega (arith, p .3, l .loop .inv .0 .going .past .long, root-long l, t .past .long),
@@ -126,7 +125,7 @@ returns : tie.Need-returns Inv-loop μ-loop
 returns c =
     let l = c .before .before .before .before .before in
     let e = giving-done _ _ _ _ (start l .pre .0) _ _ _ _ _ (l .loop .inv .0) _ (l .loop .inv .1) (start l .pre .2) (c .before .before .before .before .loop-test .left) in
-    (e .0, e .1, wiped-all _ _ _ _ _ _ (l .before .before .before .put-root .ensures .1) (l .loop .inv .0 .going .past) (c .before .before .wipe .ensures))
+    (e .0, e .1, wiped-all _ _ _ _ _ _ (l .before .before .before .put-root .ensures .2) (l .loop .inv .0 .going .past) (c .before .before .wipe .ensures))
 
 pub first-points-spec : {M : Type 1} → statement M
 first-points-spec =

@@ -1,14 +1,20 @@
 -- `near::waiting::comes_before` meets its contract. Assumes nothing.
-use Rattle.near.proofs.WaitingLaws.{before-is}
+use Rattle.near.proofs.WaitingLaws.{before-high, before-low}
 use borrow.Author.Needs.{needs}
 use Rattle.near.proofs.waiting.comes_before.Statement.{statement}
 use Rattle.near.proofs.waiting.comes_before.Tie as tie
 
-distance-at-requires : tie.Need-distance-at-requires
-distance-at-requires c κs = search needs
-
 returns : tie.Need-returns
-returns c = before-is _ _ _ _ _ _ _ _ (c .before .pre .3) (c .distance-at .ensures)
+returns c = let p = c .before .pre in before-high _ _ _ _ _ _ (p .2) (p .3) (c .if1 .taken)
+
+returns-2 : tie.Need-returns-2
+returns-2 c = let p = c .before .before .pre in before-low _ _ _ _ _ _ (p .2) (p .3) (c .if2 .taken)
+
+is-before-requires : tie.Need-is-before-requires
+is-before-requires c κs = search needs
+
+returns-3 : tie.Need-returns-3
+returns-3 c = search needs
 
 pub comes-before-spec : {M : Type 1} → statement M
-comes-before-spec = tie.close (tie.spec distance-at-requires returns)
+comes-before-spec = tie.close (tie.spec returns returns-2 is-before-requires returns-3)

@@ -8,35 +8,32 @@ use Rattle.near.proofs.waiting.lesser.Tie as tie
 add-if1 : tie.Need-add-if1
 add-if1 c = search needs
 
-add-e : tie.Need-add-e
-add-e c = search needs
+add-x : tie.Need-add-x
+add-x c = search needs
 
-mul-e : tie.Need-mul-e
-mul-e c = search needs
+mul-x : tie.Need-mul-x
+mul-x c = search needs
 
-shared-slice-read-e : tie.Need-shared-slice-read-e
-shared-slice-read-e c = search needs
+shared-slice-read-x : tie.Need-shared-slice-read-x
+shared-slice-read-x c = search needs
 
-distance-at-requires : tie.Need-distance-at-requires
-distance-at-requires c κs = let p = c .before .before .before .pre in (p .0, p .1, p .2 .each _ (c .before .if1 .taken))
+mul-y : tie.Need-mul-y
+mul-y c = search needs
 
-mul-f : tie.Need-mul-f
-mul-f c = search needs
-
-shared-slice-read-f : tie.Need-shared-slice-read-f
-shared-slice-read-f c = search needs
+shared-slice-read-y : tie.Need-shared-slice-read-y
+shared-slice-read-y c = search needs
 
 comes-before-requires : tie.Need-comes-before-requires
-comes-before-requires c κs = let p = c .before .before .before .before .before .pre in (p .0, p .1, p .2 .each _ (p .3), c .before .distance-at .ensures)
+comes-before-requires c κs = let p = c .before .before .before .before .pre in (p .0, p .1, p .2 .each _ (c .before .before .if1 .taken), p .2 .each _ (p .3))
 
 add-result : tie.Need-add-result
 add-result c = search needs
 
 returns : tie.Need-returns
-returns c = lesser-second _ _ _ _ _ _ _ (c .before .before .before .before .before .if1 .taken) (sym (c .before .comes-before .ensures) ∙ c .if2 .taken)
+returns c = lesser-second _ _ _ _ _ _ _ (c .before .before .before .before .if1 .taken) (sym (c .before .comes-before .ensures) ∙ c .if2 .taken)
 
 returns-2 : tie.Need-returns-2
-returns-2 c = lesser-first _ _ _ _ _ _ _ (c .before .before .before .before .before .if1 .taken) (sym (c .before .comes-before .ensures) ∙ c .if2 .left)
+returns-2 c = lesser-first _ _ _ _ _ _ _ (c .before .before .before .before .if1 .taken) (sym (c .before .comes-before .ensures) ∙ c .if2 .left)
 
 returns-3 : tie.Need-returns-3
 returns-3 c = lesser-one _ _ _ _ _ _ _ (c .before .before .pre .3) (c .if1 .left)
@@ -46,12 +43,11 @@ lesser-spec =
     tie.close
     (tie.spec
     add-if1
-    add-e
-    mul-e
-    shared-slice-read-e
-    distance-at-requires
-    mul-f
-    shared-slice-read-f
+    add-x
+    mul-x
+    shared-slice-read-x
+    mul-y
+    shared-slice-read-y
     comes-before-requires
     add-result
     returns

@@ -1,26 +1,26 @@
--- `near::waiting::put` meets its contract. The loop's invariant is `Moved`: e is on its way up, and is to be written at k or above. Assumes nothing.
+-- `near::waiting::put` meets its contract. The loop's invariant is `Moved`: x is on its way up, and is to be written at k or above. Assumes nothing.
 use mathlib.Core.Path.{sym, _∙_}
 use Prim.Native.Nat.{_<_}
 use native.Mathlib.Omega.{arith}
 use lib.ListN.{length, length-set}
-use Rattle.near.proofs.WaitingLaws.{Moved, moved-start, moved-fits, moved-kind, moved-step, moved-stop, moved-end}
+use Rattle.near.proofs.WaitingLaws.{Moved, moved-start, moved-fits, moved-key, moved-step, moved-stop, moved-end}
 use Rattle.near.proofs.waiting.put.Statement.{statement}
 use Rattle.near.proofs.waiting.put.Tie as tie
 
 abbrev Inv-loop : tie.InvT-loop
-Inv-loop w n m q e waiting₀ count d k₀ waiting k = Moved w n m q e count waiting₀ waiting k
+Inv-loop w n m q e waiting₀ count x k₀ waiting k = Moved w n m q x e count waiting₀ waiting k
 
 abbrev μ-loop : tie.MeasureT-loop
-μ-loop w n m q e waiting₀ count d k₀ waiting k = k
+μ-loop w n m q e waiting₀ count x k₀ waiting k = k
 
 fits : (l : tie.At-loop Inv-loop μ-loop) → l .loop .k < length (l .loop .waiting)
-fits l = let p = l .before .before .before .pre in moved-fits _ _ _ _ _ _ _ _ _ (p .5) (p .6) (l .loop .inv)
+fits l = let p = l .before .before .before .pre in moved-fits _ _ _ _ _ (l .before .key .ensures .0) _ _ _ _ _ (p .4) (p .5) (l .loop .inv)
 
-distance-at-requires : tie.Need-distance-at-requires Inv-loop μ-loop
-distance-at-requires c κs = let p = c .before .pre in (p .0, p .1, p .2)
+key-requires : tie.Need-key-requires Inv-loop μ-loop
+key-requires c κs = let p = c .before .pre in (p .0, p .1, p .2)
 
 loop-holds : tie.Need-loop-holds Inv-loop μ-loop
-loop-holds c = let p = c .before .before .pre in moved-start _ _ _ _ _ _ _ (omega (arith, p .5, p .6)) (p .3) (p .4)
+loop-holds c = let p = c .before .before .pre in moved-start _ _ _ _ _ _ _ _ (omega (arith, p .4, p .5)) (c .key .ensures .1) (p .3)
 
 above-requires : tie.Need-above-requires Inv-loop μ-loop
 above-requires c κs = omega arith
@@ -36,7 +36,7 @@ comes-before-requires c κs =
     let l = c .before .before .before in
     let p = l .before .before .before .pre in
     let a = c .before .above .ensures in
-    (p .0, p .1, moved-kind _ _ _ _ _ _ _ _ _ (p .5) (p .6) (l .loop .inv) _ (a .0) (a .1), l .before .distance-at .ensures)
+    (p .0, p .1, l .before .key .ensures .0, moved-key _ _ _ _ _ (l .before .key .ensures .0) _ _ _ _ _ (p .4) (p .5) (l .loop .inv) _ (a .0) (a .1))
 
 mul-waiting : tie.Need-mul-waiting Inv-loop μ-loop
 mul-waiting c = let l = c .before .before .before .before .before in omega (arith, fits l)
@@ -52,7 +52,7 @@ loop-again c =
     let l = c .before .before .before .before .before in
     let p = l .before .before .before .pre in
     let a = c .before .before .before .above .ensures in
-    moved-step _ _ _ _ _ _ _ _ _ (p .5) (p .6) (l .loop .inv) _ (a .0) (a .1) (sym (c .before .comes-before .ensures) ∙ c .if1 .taken)
+    moved-step _ _ _ _ _ (l .before .key .ensures .0) _ _ _ _ _ (p .4) (p .5) (l .loop .inv) _ (a .0) (a .1) (sym (c .before .comes-before .ensures) ∙ c .if1 .taken)
 
 mul-waiting-2 : tie.Need-mul-waiting-2 Inv-loop μ-loop
 mul-waiting-2 c = let l = c .before .before .before .before .before in omega (arith, fits l)
@@ -63,14 +63,14 @@ slice-write-waiting-2 c = fits (c .before .before .before .before .before)
 same-length : tie.Need-same-length Inv-loop μ-loop
 same-length c =
     let l = c .before .before .before .before .before in
-    length-set (l .loop .waiting) (l .loop .k) (l .before .before .before .args .e) ∙ l .loop .inv .past .long
+    length-set (l .loop .waiting) (l .loop .k) (l .before .key .result) ∙ l .loop .inv .past .long
 
 returns : tie.Need-returns Inv-loop μ-loop
 returns c =
     let l = c .before .before .before .before .before in
     let p = l .before .before .before .pre in
     let a = c .before .before .before .above .ensures in
-    moved-stop _ _ _ _ _ _ _ _ _ (p .5) (p .6) (l .loop .inv) _ (a .0) (a .1) (sym (c .before .comes-before .ensures) ∙ c .if1 .left)
+    moved-stop _ _ _ _ _ (l .before .key .ensures .0) _ _ _ _ _ (p .4) (p .5) (l .loop .inv) _ (a .0) (a .1) (sym (c .before .comes-before .ensures) ∙ c .if1 .left)
 
 mul-waiting-3 : tie.Need-mul-waiting-3 Inv-loop μ-loop
 mul-waiting-3 c = let l = c .before in omega (arith, fits l)
@@ -81,13 +81,13 @@ slice-write-waiting-3 c = fits (c .before)
 same-length-2 : tie.Need-same-length-2 Inv-loop μ-loop
 same-length-2 c =
     let l = c .before in
-    length-set (l .loop .waiting) (l .loop .k) (l .before .before .before .args .e) ∙ l .loop .inv .past .long
+    length-set (l .loop .waiting) (l .loop .k) (l .before .key .result) ∙ l .loop .inv .past .long
 
 returns-2 : tie.Need-returns-2 Inv-loop μ-loop
 returns-2 c =
     let l = c .before in
     let p = l .before .before .before .pre in
-    moved-end _ _ _ _ _ _ _ _ _ (p .5) (p .6) (l .loop .inv) (omega arith)
+    moved-end _ _ _ _ _ (l .before .key .ensures .0) _ _ _ _ _ (p .4) (p .5) (l .loop .inv) (omega arith)
 
 pub put-spec : {M : Type 1} → statement M
 put-spec =
@@ -95,7 +95,7 @@ put-spec =
     (tie.spec
     Inv-loop
     μ-loop
-    distance-at-requires
+    key-requires
     loop-holds
     above-requires
     mul-f

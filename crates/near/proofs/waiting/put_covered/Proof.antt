@@ -25,7 +25,7 @@ count-at-requires : tie.Need-count-at-requires Inv-loop μ-loop
 count-at-requires c κs = search needs
 
 loop-holds : tie.Need-loop-holds Inv-loop μ-loop
-loop-holds c = let p = c .before .before .before .before .pre in filled-start _ _ _ _ _ _ _ _ _ (p .3) (p .4)
+loop-holds c = let p = c .before .before .before .before .pre in filled-start _ _ _ _ _ _ _ _ _ (p .3)
 
 add-covered-at : tie.Need-add-covered-at Inv-loop μ-loop
 add-covered-at c =
@@ -43,7 +43,7 @@ add-put : tie.Need-add-put Inv-loop μ-loop
 add-put c =
     let l = c .before .before .before in
     let p = start l .pre in
-    omega (arith, c .before .before .loop-test .taken, p .5, l .before .count-at .ensures, p .0 .n-le, p .0 .m-le)
+    omega (arith, c .before .before .loop-test .taken, p .4, l .before .count-at .ensures, p .0 .n-le, p .0 .m-le)
 
 put-requires : tie.Need-put-requires Inv-loop μ-loop
 put-requires c κs =
@@ -52,14 +52,13 @@ put-requires c κs =
       p .0,
       p .1,
       filled-kind _ _ _ _ _ (p .0) (p .2) _ _ _ _ _ _ (l .before .before .first-at .ensures) (l .before .count-at .ensures) (l .loop .inv) (c .before .before .loop-test .taken) _ (c .before .covered-at .ensures),
-      l .loop .inv .kinds,
       l .loop .inv .heap,
-      omega (arith, c .before .before .loop-test .taken, p .5, l .before .count-at .ensures),
-      omega (arith, p .6, l .loop .inv .past .long),
+      omega (arith, c .before .before .loop-test .taken, p .4, l .before .count-at .ensures),
+      omega (arith, p .5, l .loop .inv .past .long),
     )
 
 add-i : tie.Need-add-i Inv-loop μ-loop
-add-i c = let l = c .before .before .before .before .before .before in let p = start l .pre in omega (arith, c .before .before .before .before .before .loop-test .taken, p .5, l .before .count-at .ensures, p .0 .n-le, p .0 .m-le)
+add-i c = let l = c .before .before .before .before .before .before in let p = start l .pre in omega (arith, c .before .before .before .before .before .loop-test .taken, p .4, l .before .count-at .ensures, p .0 .n-le, p .0 .m-le)
 
 loop-less : tie.Need-loop-less Inv-loop μ-loop
 loop-less c = omega (arith, c .before .before .before .before .before .loop-test .taken)
@@ -75,7 +74,7 @@ add-result : tie.Need-add-result Inv-loop μ-loop
 add-result c =
     let l = c .before in
     let p = start l .pre in
-    omega (arith, p .5, l .before .count-at .ensures, p .0 .n-le, p .0 .m-le)
+    omega (arith, p .4, l .before .count-at .ensures, p .0 .n-le, p .0 .m-le)
 
 same-length : tie.Need-same-length Inv-loop μ-loop
 same-length c = c .before .loop .inv .past .long
