@@ -3,6 +3,7 @@
 // dropper drops is passed over, and any other place is a candidate, and a dropper from then on. Which droppers there are is free, since each that drops is a record that blocks.
 mod guess;
 mod line;
+pub mod scan;
 mod walks;
 
 use line::Line;

@@ -290,10 +290,10 @@ fn retry_all(
     requires { ⌜ Opens (now w) n m × SpotIn q × Holds (now bits) n × Lined SpotIn (now xs) (now ys) (line .count) ⌝ }
     ensures { λ _. ⌜ Retries (Among (now (xs .entry)) (now (ys .entry)) (line .count)) (now (w .entry)) q (now (bits .entry)) (now (bits .exit)) ⌝ }
 {
-    let mut i = bits::next_from(bits, 0);
+    let mut i = crate::scan::next_from(bits, 0);
     while i < n {
         retry(w, n, m, q, i, bits, xs, ys, line);
-        i = bits::next_from(bits, i + 1);
+        i = crate::scan::next_from(bits, i + 1);
     }
 }
 
