@@ -12,7 +12,7 @@ use lib.IntN.{ℤ}
 use Rattle.integers.proofs.Bools.{clash, test-iff, decide, failed, passed}
 use Rattle.plane.specs.declared.Spot.{Spot}
 use Rattle.plane.specs.Profile.{Profile, profileOf}
-use Rattle.plane.proofs.ProfileLaws.{Lawful, profile-lawful}
+use Rattle.plane.proofs.ProfileLaws.{Lawful}
 use Rattle.sheet.specs.Layout.{points}
 use Rattle.sheet.specs.Order.{orderOf, rankOf}
 use Rattle.sheet.specs.Nodes.{levelOf}

@@ -62,6 +62,17 @@ pub fn candidates(p: &[i32], hp: Size, q: &[i32], hq: Size, j: usize, bits: &mut
         noted: 0,
     };
     let root = hp.m - 1;
-    let all = walks::walk_node(p, hp.n, hp.m, z, root, bits, &mut found, &mut xs, &mut ys, none);
+    let all = walks::walk_node(
+        p,
+        hp.n,
+        hp.m,
+        z,
+        root,
+        bits,
+        &mut found,
+        &mut xs,
+        &mut ys,
+        none,
+    );
     walks::try_again(p, hp.n, hp.m, z, bits, &found, &xs, &ys, all);
 }

@@ -2,7 +2,7 @@
 use crate::line::Line;
 use plane::Spot;
 ghost use mathlib.Core.Path.{_≡_};
-ghost use Prim.Native.Nat.{ℕ, _+_, _≤_, _<_};
+ghost use Prim.Native.Nat.{_+_, _≤_, _<_};
 ghost use Rattle.plane.specs.Rule.{SpotIn, dropsBox};
 ghost use Rattle.sheet.specs.Nodes.{levelOf};
 ghost use Rattle.sheet.specs.Places.{boxOf};

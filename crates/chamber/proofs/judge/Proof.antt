@@ -22,9 +22,10 @@ seen-at-requires c κs =
 
 returns-2 : tie.Need-returns-2
 returns-2 c =
-    let s = c .before .before .before .before in
+    let s = c .before .before .before .before .before in
     let p = s .pre in
-    (small-free (s .args .largest) (s .args .terms) _ _ _ _ _ (c .before .before .before .may-be .ensures) _ _ (p .0) (p .4) (c .before .before .if1 .left) _ _ (p .5) (c .before .spot-at .ensures) _ (SA .ensures .2), SA .ensures .0, SA .ensures .1)
+    let t = c .before .seen-at .ensures in
+    (small-free (s .args .largest) (s .args .terms) _ _ _ _ _ (c .before .before .before .before .may-be .ensures) _ _ (p .0) (p .4) (c .before .before .before .if1 .left) _ _ (p .5) (c .before .before .spot-at .ensures) _ (t .2), t .0, t .1)
 
 pub judge-spec : {M : Type 1} → statement M
 judge-spec =

@@ -62,7 +62,7 @@ clear-below-count-at-requires : (t : ℕ) → clear-below-lts.Need-count-at-requ
 clear-below-count-at-requires t c κs = let p = c .before .before .pre .1 in (p .0, p .3)
 
 clear-below-clear-places-requires : (t : ℕ) → clear-below-lts.Need-clear-places-requires (claims t) (clear-below-at t) clear-below.Post clear-below-Inv-loop clear-below-μ-loop
-clear-below-clear-places-requires t c κs = 
+clear-below-clear-places-requires t c κs =
     let p = start t (c .before) .pre .1 in
     (p .0, p .1, p .2, leaf-fits _ _ _ _ _ _ _ (node t (c .before)) (c .if1 .taken))
 
@@ -73,23 +73,23 @@ clear-below-loop-holds : (t : ℕ) → clear-below-lts.Need-loop-holds (claims t
 clear-below-loop-holds t c = clears-none _ _ _ _ _ _ (λ k x. omega (arith, x .1, x .2))
 
 clear-below-add-far-at : (t : ℕ) → clear-below-lts.Need-add-far-at (claims t) (clear-below-at t) clear-below.Post clear-below-Inv-loop clear-below-μ-loop
-clear-below-add-far-at t c = 
+clear-below-add-far-at t c =
     let r = c .before .before .before in
     omega (arith, kid _ _ _ _ _ _ _ (node t r) (c .before .before .if1 .left) (c .before .loop .i) (c .loop-test .taken) .0, start t r .pre .1 .0 .m-le)
 
 clear-below-far-at-requires : (t : ℕ) → clear-below-lts.Need-far-at-requires (claims t) (clear-below-at t) clear-below.Post clear-below-Inv-loop clear-below-μ-loop
-clear-below-far-at-requires t c κs = 
+clear-below-far-at-requires t c κs =
     let r = c .before .before .before in
     let p = start t r .pre .1 in
     (p .0, p .1, p .2, kid _ _ _ _ _ _ _ (node t r) (c .before .before .if1 .left) (c .before .loop .i) (c .loop-test .taken) .0)
 
 clear-below-add-clear-below : (t : ℕ) → clear-below-lts.Need-add-clear-below (claims t) (clear-below-at t) clear-below.Post clear-below-Inv-loop clear-below-μ-loop
-clear-below-add-clear-below t c = 
+clear-below-add-clear-below t c =
     let r = c .before .before .before .before .before in
     omega (arith, kid _ _ _ _ _ _ _ (node t r) (c .before .before .before .before .if1 .left) (c .before .before .before .loop .i) (c .before .before .loop-test .taken) .0, start t r .pre .1 .0 .m-le)
 
 clear-below-clear-below-requires : (t : ℕ) → clear-below-lts.Need-clear-below-requires (claims t) (clear-below-at t) clear-below.Post clear-below-Inv-loop clear-below-μ-loop
-clear-below-clear-below-requires t c κs = 
+clear-below-clear-below-requires t c κs =
     let r = c .before .before .before .before .before in
     let p = start t r .pre .1 in
     let z = c .before .before .before .before .if1 .left in
@@ -106,7 +106,7 @@ clear-below-loop-less : (t : ℕ) → clear-below-lts.Need-loop-less (claims t) 
 clear-below-loop-less t c = omega (arith, c .before .before .loop-test .taken)
 
 clear-below-loop-again : (t : ℕ) → clear-below-lts.Need-loop-again (claims t) (clear-below-at t) clear-below.Post clear-below-Inv-loop clear-below-μ-loop
-clear-below-loop-again t c = 
+clear-below-loop-again t c =
     let l = c .before .before .before in
     let r = l .before .before in
     let o = start t r .pre .1 .0 in
@@ -117,7 +117,7 @@ clear-below-loop-again t c =
     (c .if2 .came)
 
 clear-below-returns-3 : (t : ℕ) → clear-below-lts.Need-returns-3 (claims t) (clear-below-at t) clear-below.Post clear-below-Inv-loop clear-below-μ-loop
-clear-below-returns-3 t c = 
+clear-below-returns-3 t c =
     let i = c .before .before in
     tells-yes _ _ _ _ _ _ (clears-as _ _ _ _ _ _ _ (λ r x. let y = below-node _ _ _ _ _ _ _ (node t (i .before)) (i .if1 .left) r x in (y .0, y .1, omega (arith, y .2, c .loop-test .left), y .3)) (c .before .loop .inv))
 

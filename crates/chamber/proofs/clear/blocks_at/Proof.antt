@@ -1,6 +1,6 @@
 -- `chamber::clear::blocks_at` meets its contract. Assumes nothing.
 use mathlib.Core.Path.{ap, _∙_}
-use Prim.Native.Nat.{ℕ, _<_}
+use Prim.Native.Nat.{_<_}
 use Rattle.plane.specs.declared.Spot.{Spot}
 use Rattle.plane.specs.Profile.{profileOf}
 use Rattle.sheet.specs.Places.{spotOf}

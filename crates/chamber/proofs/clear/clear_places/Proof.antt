@@ -1,6 +1,6 @@
 -- `chamber::clear::clear_places` meets its contract: after i turns none of the first i places has a record that blocks. Assumes nothing.
-use mathlib.Core.Path.{_≡_, refl, sym, _∙_}
-use Prim.Native.Nat.{ℕ, _+_, _-_, _≤_, _<_}
+use mathlib.Core.Path.{refl, sym, _∙_}
+use Prim.Native.Nat.{_+_, _-_, _≤_, _<_}
 use native.Mathlib.Omega.{arith}
 use Rattle.plane.specs.Profile.{profileOf}
 use Rattle.walk.proofs.NodeLaws.{position-fits}

@@ -1,7 +1,6 @@
 -- `seeds::scan::start` meets its contract. Assumes nothing.
 use mathlib.Core.Path.{refl}
 use native.Mathlib.Omega.{arith}
-use borrow.Author.Needs.{needs}
 use Rattle.seeds.proofs.ScanLaws.{skip-rest}
 use Rattle.seeds.proofs.scan.start.Statement.{statement}
 use Rattle.seeds.proofs.scan.start.Tie as tie
