@@ -86,13 +86,7 @@ fn print_wanted(wanted: Wanted, bytes: usize, n: usize) {
     let key = wanted.key;
     say::say(b"pairs");
     pages::print_key(key);
-    print_which(
-        wanted.largest,
-        wanted.threshold,
-        wanted.grid,
-        wanted.contractor,
-        bytes,
-    );
+    print_which(wanted.largest, wanted.threshold, wanted.grid, wanted.contractor, bytes);
     say::number(n as u64);
     say::say(b":");
 }
