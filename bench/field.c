@@ -17,7 +17,7 @@ int strcmp(const char *a, const char *b);
 
 #define MOST 60000
 #define ROOM (5 * MOST + 7 * 4100 + 6)
-#define SLOTS 1000000
+#define SLOTS 1100000
 #define SMALL 1000
 #define ALL 8000000000000000000ull
 
@@ -246,7 +246,62 @@ static void measure(const char *name, const char *order, size_t n)
     differ |= !agree;
 }
 
+/* ---- worst cases: many records on one spot or two, or on a line */
+
+static void one_spot(int32_t *a, size_t n, int64_t edge, int side)
+{
+    (void)edge, (void)side;
+    for (size_t i = 0; i < n; i++) put(a + 3 * i, 5, 5);
+}
+
+/* ids of both spots in turn */
+static void two_spots(int32_t *a, size_t n, int64_t edge, int side)
+{
+    (void)edge, (void)side;
+    for (size_t i = 0; i < n; i++) put(a + 3 * i, i & 1 ? 5 : 105, 5);
+}
+
+static size_t by_shortest(void)
+{
+    RingShortlist r = ring_shortest(P->words, P->len, Q->words, Q->len, 16, bits, RING_WORDS(P->n));
+    return r.number ? ~(size_t)0 : r.count;
+}
+
+static size_t by_partners(void)
+{
+    size_t all = 0;
+    for (size_t j = 0; j < Q->n; j++) {
+        RingPartners r = ring_partners(P->words, P->len, Q->words, Q->len, (uint32_t)Q->points[3 * j], 100, bits, RING_WORDS(P->n));
+        if (r.number) return ~(size_t)0;
+        all += r.count;
+    }
+    return all;
+}
+
 typedef void (*maker)(int32_t *, size_t, int64_t, int);
+
+static void worst(const char *name, maker points, size_t np, size_t nq)
+{
+    state = 88172645463325252ull;
+    for (int side = 0; side < 2; side++) {
+        sheet *s = side ? Q : P;
+        s->n = side ? nq : np;
+        points(s->points, s->n, 1000000, side);
+        for (size_t i = 0; i < s->n; i++) s->points[3 * i] = (int32_t)(2 * i + 1) + side;
+        curve(s->points, s->n, s->order);
+        pack(s, 1, 7 + (unsigned)side);
+    }
+    size_t listed, count, known;
+    long took = best(by_count, 3, &listed);
+    printf("worst %s %zu+%zu call=count units=%zu took=%ld %s\n", name, np, nq, listed, took, listed <= SLOTS ? "agree" : "DIFFER");
+    took = best(by_pairs, 3, &count);
+    printf("worst %s %zu+%zu call=pairs units=%zu took=%ld %s\n", name, np, nq, count, took, count == listed ? "agree" : "DIFFER");
+    differ |= count != listed;
+    took = best(by_shortest, 1, &known);
+    printf("worst %s %zu+%zu call=shortest units=%zu took=%ld %s\n", name, np, nq, listed, took, known == (listed < 16 ? listed : 16) ? "agree" : "DIFFER");
+    took = best(by_partners, 1, &known);
+    printf("worst %s %zu+%zu call=partners units=%zu took=%ld %s\n", name, np, nq, known, took, known <= listed ? "agree" : "DIFFER");
+}
 static const char *kinds[] = {"uniform", "clustered", "grid", "line", "columns", "circle"};
 static const maker makers[] = {uniform, clustered, grid, straight, columns, circle};
 static const char *orders[] = {"curve", "random"};
@@ -286,5 +341,10 @@ int main(int count, char **words)
                 else if (!strcmp(words[2], "pairs")) by_pairs();
                 else if (!strcmp(words[2], "seeded")) by_seeds();
             }
+    if (!once && !size) {
+        worst("one-spot", one_spot, 1000, 16), worst("one-spot", one_spot, 16, 1000), worst("one-spot", one_spot, 1000, 1000);
+        worst("two-spots", two_spots, 1000, 16), worst("two-spots", two_spots, 1000, 1000);
+        worst("one-line", straight, 1000, 1000);
+    }
     return differ;
 }

@@ -15,12 +15,9 @@ use Rattle.integers.proofs.Bools.{and-left, and-right, decide, clash, test-iff,
 use Rattle.plane.specs.declared.Spot.{Spot}
 use Rattle.plane.specs.Rule.{SpotIn, same, sameSpot}
 use Rattle.plane.specs.Point.{idAt, spotAt}
-use Rattle.plane.specs.Profile.{profileOf}
-use Rattle.plane.proofs.ProfileLaws.{profile-lawful}
 use Rattle.sheet.specs.Layout.{points}
 use Rattle.sheet.specs.Open.{Opens}
 use Rattle.sheet.specs.Places.{spotOf, pointsOf}
-use Rattle.sheet.proofs.SheetLaws.{by-counts}
 use Rattle.sheet.proofs.RangeLaws.{spot-in}
 use Rattle.sheet.proofs.PointsLaws.{spot-of}
 use Rattle.bits.specs.Set.{kept, without, nextFrom}
@@ -31,9 +28,6 @@ use Rattle.list.specs.declared.Terms.{Terms}
 use Rattle.list.specs.Rows.{row}
 use Rattle.list.specs.RingList.{unblocked, ringPairBy, pairBy}
 use Rattle.list.specs.Terms.{profileFor, pairFor}
-use Rattle.walk.specs.declared.Answer.{Answer}
-use Rattle.walk.specs.RingWalk.{clear, clearAt, ringOn, ringWalk}
-use Rattle.walk.proofs.Meaning.{walk-clear-iff}
 use Rattle.join.specs.Sheets.{Alone}
 use Rattle.seeds.specs.Covers.{Covers}
 use Rattle.chamber.specs.Sized.{smallFor}
@@ -55,11 +49,6 @@ same-place a b e =
     λ i. record { x = x i; y = y i }
 
 -- ---- whether a pair is free
-
--- a walk of one sheet tells whether a record of it blocks
-pub walk-free : (g : Bool) (set : ℕ) (w : List ℤ) (n m : ℕ) → Opens w n m → (a b : Spot) (x : Answer) → x ≡ ringOn (profileOf g) set w a b (clearAt 0) → (t : Bool) → t ≡ clear (x .hit) → t ≡ unblocked (profileOf g) (pointsOf w) a b
-unfolding ringWalk
-walk-free g set w n m o a b x e t f = f ∙ ap (λ (y : Answer). clear (y .hit)) e ∙ walk-clear-iff (profileOf g) (profile-lawful g) set w (by-counts o) a b
 
 module _ (t : Terms) (P Q : List ℤ) (a b : Spot) (u : Bool) (e : u ≡ unblocked (profileFor t) (pointsOf Q) a b) where
   pub free-no : not u ≡ true → false ≡ freeOf t P Q a b
@@ -85,8 +74,8 @@ module _ (t : Terms) (P Q : List ℤ) (a : Spot) where
   right-new b n c e = record { near = n; is = λ x. e }
 
   -- the place found last is the one asked for
-  pub right-same : (known : Bool) (at : Spot) (c : Bool) → Right t P Q a known at c → (b : Spot) (s : Bool) → s ≡ sameSpot at b → (known && s) ≡ true → c ≡ freeOf t P Q a b
-  right-same known at c r b s e h = r .is (and-left known s h) ∙ ap (freeOf t P Q a) (same-place at b (sym e ∙ and-right known s h))
+  pub right-same : (known : Bool) (at : Spot) (c : Bool) → Right t P Q a known at c → (b : Spot) (r : Bool) → r ≡ (known && sameSpot at b) → r ≡ true → c ≡ freeOf t P Q a b
+  right-same known at c r b s e h = let y = sym e ∙ h in r .is (and-left known (sameSpot at b) y) ∙ ap (freeOf t P Q a) (same-place at b (and-right known (sameSpot at b) y))
 
 -- the chamber stands in range
 pub chamber-spot-in : (Q : List ℤ) (n m : ℕ) → Opens Q n m → (j : ℕ) → j < n → (a : Spot) → a ≡ spotAt (pointsOf Q) j → SpotIn a

@@ -1,4 +1,6 @@
 // The pairs of one chamber, kept on lent words: exactly those that the rule makes.
+mod clear;
+
 use list::Terms;
 use plane::Spot;
 use sheet::Size;
@@ -6,7 +8,7 @@ ghost use mathlib.Core.Path.{_≡_};
 ghost use mathlib.Core.Bool.{not, _&&_, _||_};
 ghost use Prim.Native.Nat.{_<_};
 ghost use lib.Dec.{leb, ltb};
-ghost use Rattle.plane.specs.Rule.{SpotIn};
+ghost use Rattle.plane.specs.Rule.{SpotIn, sameSpot};
 ghost use Rattle.plane.specs.Point.{idAt, spotAt};
 ghost use Rattle.sheet.specs.Open.{Opens};
 ghost use Rattle.sheet.specs.Places.{pointsOf};
@@ -18,11 +20,17 @@ ghost use Rattle.seeds.specs.Covers.{Covers};
 ghost use Rattle.chamber.specs.Sized.{smallFor, listedTo};
 ghost use Rattle.chamber.specs.Chamber.{freeOf, Right, PairsOn, ListedOn};
 
-// What was found of the place tried last: where it is, and whether its pair with the chamber is clear. For a record at the same place no walk is made again.
-pub(crate) struct Seen {
+// What was found of a place: where it is, and whether its pair with the chamber is clear.
+pub(crate) struct Found {
     known: bool,
     at: Spot,
     clear: bool,
+}
+
+// What was found of the two places tried last. For a record at the place of either no walk is made again.
+pub(crate) struct Seen {
+    last: Found,
+    other: Found,
 }
 
 // Whether a pair is one of those asked for, and what was found last.
@@ -38,18 +46,25 @@ fn is_free(p: &[i32], hp: Size, q: &[i32], hq: Size, terms: Terms, a: Spot, b: S
 {
     let grid = terms.grid;
     let own = terms.own;
-    let x = walk::ring::ring_on(q, hq.n, hq.m, 1, a, b, 0, grid);
-    if !walk::clear_after(x) {
+    if !clear::clear_on(q, hq.n, hq.m, a, b, grid) {
         return false;
     }
     if own {
         return true;
     }
-    let y = walk::ring::ring_on(p, hp.n, hp.m, 0, a, b, 0, grid);
-    walk::clear_after(y)
+    clear::clear_on(p, hp.n, hp.m, a, b, grid)
 }
 
-// The same, by what was found last where it was of the place b.
+// Whether something was found of the place b.
+fn is_of(found: Found, b: Spot) -> bool
+    requires { ⌜ SpotIn (found .at) × SpotIn b ⌝ }
+    ensures { λ r. ⌜ r ≡ (found .known && sameSpot (found .at) b) ⌝ }
+{
+    let at = found.at;
+    found.known & plane::is_same(at, b)
+}
+
+// The same, by what was found of the place b where it is one of the two tried last: it is the last from now on.
 fn seen_at(
     p: &[i32],
     hp: Size,
@@ -60,17 +75,27 @@ fn seen_at(
     b: Spot,
     seen: Seen,
 ) -> Seen
-    requires { ⌜ Opens (now p) (hp .n) (hp .m) × Opens (now q) (hq .n) (hq .m) × Alone terms (now p) (now q) × SpotIn a × SpotIn b × Right terms (now p) (now q) a (seen .known) (seen .at) (seen .clear) ⌝ }
-    ensures { λ r. ⌜ Right terms (now (p .entry)) (now (q .entry)) a (r .known) (r .at) (r .clear) × (r .clear ≡ freeOf terms (now (p .entry)) (now (q .entry)) a b) ⌝ }
+    requires { ⌜ Opens (now p) (hp .n) (hp .m) × Opens (now q) (hq .n) (hq .m) × Alone terms (now p) (now q) × SpotIn a × SpotIn b × Right terms (now p) (now q) a (seen .last .known) (seen .last .at) (seen .last .clear) × Right terms (now p) (now q) a (seen .other .known) (seen .other .at) (seen .other .clear) ⌝ }
+    ensures { λ r. ⌜ Right terms (now (p .entry)) (now (q .entry)) a (r .last .known) (r .last .at) (r .last .clear) × Right terms (now (p .entry)) (now (q .entry)) a (r .other .known) (r .other .at) (r .other .clear) × (r .last .clear ≡ freeOf terms (now (p .entry)) (now (q .entry)) a b) ⌝ }
 {
-    let at = seen.at;
-    if seen.known & plane::is_same(at, b) {
+    let last = seen.last;
+    let other = seen.other;
+    if is_of(last, b) {
         return seen;
     }
+    if is_of(other, b) {
+        return Seen {
+            last: other,
+            other: last,
+        };
+    }
     Seen {
-        known: true,
-        at: b,
-        clear: is_free(p, hp, q, hq, terms, a, b),
+        last: Found {
+            known: true,
+            at: b,
+            clear: is_free(p, hp, q, hq, terms, a, b),
+        },
+        other: last,
     }
 }
 
@@ -106,8 +131,8 @@ fn judge(
     a: Spot,
     seen: Seen,
 ) -> Judged
-    requires { ⌜ Opens (now p) (hp .n) (hp .m) × Opens (now q) (hq .n) (hq .m) × Alone terms (now p) (now q) × (j < hq .n) × (i < hp .n) × (a ≡ spotAt (pointsOf (now q)) j) × Right terms (now p) (now q) a (seen .known) (seen .at) (seen .clear) ⌝ }
-    ensures { λ r. ⌜ (r .holds ≡ smallFor largest terms (pointsOf (now (p .entry))) (pointsOf (now (q .entry))) j i) × Right terms (now (p .entry)) (now (q .entry)) a (r .seen .known) (r .seen .at) (r .seen .clear) ⌝ }
+    requires { ⌜ Opens (now p) (hp .n) (hp .m) × Opens (now q) (hq .n) (hq .m) × Alone terms (now p) (now q) × (j < hq .n) × (i < hp .n) × (a ≡ spotAt (pointsOf (now q)) j) × Right terms (now p) (now q) a (seen .last .known) (seen .last .at) (seen .last .clear) × Right terms (now p) (now q) a (seen .other .known) (seen .other .at) (seen .other .clear) ⌝ }
+    ensures { λ r. ⌜ (r .holds ≡ smallFor largest terms (pointsOf (now (p .entry))) (pointsOf (now (q .entry))) j i) × Right terms (now (p .entry)) (now (q .entry)) a (r .seen .last .known) (r .seen .last .at) (r .seen .last .clear) × Right terms (now (p .entry)) (now (q .entry)) a (r .seen .other .known) (r .seen .other .at) (r .seen .other .clear) ⌝ }
 {
     if !may_be(p, hp, q, hq, terms, largest, j, i) {
         return Judged {
@@ -117,7 +142,8 @@ fn judge(
     }
     let b = sheet::reads::spot_at(p, hp.n, hp.m, i);
     let s = seen_at(p, hp, q, hq, terms, a, b, seen);
-    let clear = s.clear;
+    let last = s.last;
+    let clear = last.clear;
     Judged {
         holds: clear,
         seen: s,
@@ -140,13 +166,17 @@ fn keep_pairs(
 {
     let n = hp.n;
     let a = sheet::reads::spot_at(q, hq.n, hq.m, j);
-    let mut seen = Seen {
+    let none = Found {
         known: false,
         at: a,
         clear: false,
     };
+    let mut seen = Seen {
+        last: none,
+        other: none,
+    };
     let mut count: usize = 0;
-    let mut i = bits::next_from(bits, 0);
+    let mut i = seeds::scan::next_from(bits, 0);
     while i < n {
         let r = judge(p, hp, q, hq, terms, largest, j, i, a, seen);
         seen = r.seen;
@@ -155,7 +185,7 @@ fn keep_pairs(
         } else {
             bits::remove(bits, i);
         }
-        i = bits::next_from(bits, i + 1);
+        i = seeds::scan::next_from(bits, i + 1);
     }
     count
 }

@@ -64,12 +64,12 @@ fn late_from(
     ensures { λ r. ⌜ Seeks (pointsOf (now (p .entry))) (pointsOf (now (q .entry))) key (now (bits .entry)) j (hp .n) i r ⌝ }
 {
     let n = hp.n;
-    let mut x = bits::next_from(bits, i);
+    let mut x = seeds::scan::next_from(bits, i);
     while x < n {
         if is_late(p, hp, q, hq, key, j, x) {
             return x;
         }
-        x = bits::next_from(bits, x + 1);
+        x = seeds::scan::next_from(bits, x + 1);
     }
     x
 }

@@ -16,9 +16,9 @@ use Rattle.integers.proofs.Bools.{and-left, and-right, clash}
 use Rattle.plane.specs.declared.Spot.{Spot}
 use Rattle.plane.specs.declared.Boxed.{Boxed}
 use Rattle.plane.specs.Rule.{SpotIn, drops, dropsBox, blocks}
-use Rattle.plane.specs.Profile.{circle, profileOf}
+use Rattle.plane.specs.Profile.{circle}
 use Rattle.plane.proofs.RuleLaws.{box-drops}
-use Rattle.sheet.specs.Layout.{points, nodes}
+use Rattle.sheet.specs.Layout.{points}
 use Rattle.sheet.specs.Order.{orderOf, rankOf}
 use Rattle.sheet.specs.Nodes.{levelOf}
 use Rattle.sheet.specs.Boxes.{Below}
@@ -245,5 +245,5 @@ module _ (P : List ℤ) (n m : ℕ) (op : Opens P n m) (Q : List ℤ) (nq mq : �
           (met i low)
 
 -- of a profile that is the circle
-pub covers-by : (P Q : List ℤ) (j : ℕ) (b : List ℕ) (g : Bool) → g ≡ false → Covers false P Q j b → Covers g P Q j b
-covers-by P Q j b g e c = subst (λ (x : Bool). Covers x P Q j b) (sym e) c
+pub covers-profile : (P Q : List ℤ) (j : ℕ) (b : List ℕ) (g : Bool) → g ≡ false → Covers false P Q j b → Covers g P Q j b
+covers-profile P Q j b g e c = subst (λ (x : Bool). Covers x P Q j b) (sym e) c

@@ -2,9 +2,9 @@
 -- Assumes nothing.
 use mathlib.Core.Path.{_≡_, refl, sym, ap, ap₂, subst, _∙_}
 use mathlib.Core.Bool.{Bool, true}
-use mathlib.Core.Logic.{_⊎_, inl, inr, ⊎-elim}
+use mathlib.Core.Logic.{inl, inr, ⊎-elim}
 use mathlib.Core.List.{List}
-use Prim.Native.Nat.{ℕ, _+_, _≤_, _<_}
+use Prim.Native.Nat.{ℕ, _≤_, _<_}
 use native.Mathlib.Omega.{arith}
 use native.Mathlib.Decide.{ℕ-discrete}
 use lib.IntN.{ℤ, pos}
@@ -84,8 +84,8 @@ module _ (New : Spot → Type 0) (T : Spot → Type 0) (xs ys : List ℤ) (c : �
   line-holds f xs′ ys′ c′ m = lined-all (Known New xs ys c) xs′ ys′ c′ m T (known-in T xs ys c l New f)
 
 -- no new one; new ones said in a wider way
-pub line-more : (New : Spot → Type 0) (xs ys : List ℤ) (c : ℕ) (xs′ ys′ : List ℤ) (c′ : ℕ) → Lined (Among xs ys c) xs′ ys′ c′ → Lined (Known New xs ys c) xs′ ys′ c′
-line-more New xs ys c xs′ ys′ c′ l = lined-all (Among xs ys c) xs′ ys′ c′ l (Known New xs ys c) (λ z a. inl a)
+pub line-kept : (New : Spot → Type 0) (xs ys : List ℤ) (c : ℕ) (xs′ ys′ : List ℤ) (c′ : ℕ) → Lined (Among xs ys c) xs′ ys′ c′ → Lined (Known New xs ys c) xs′ ys′ c′
+line-kept New xs ys c xs′ ys′ c′ l = lined-all (Among xs ys c) xs′ ys′ c′ l (Known New xs ys c) (λ z a. inl a)
 
 pub line-wider : (New Newer : Spot → Type 0) (xs ys : List ℤ) (c : ℕ) (xs′ ys′ : List ℤ) (c′ : ℕ) → ((z : Spot) → Newer z → New z) → Lined (Known Newer xs ys c) xs′ ys′ c′ → Lined (Known New xs ys c) xs′ ys′ c′
 line-wider New Newer xs ys c xs′ ys′ c′ f l =
@@ -111,8 +111,8 @@ pub drops-none : (test : Spot → Bool) (xs ys : List ℤ) (c : ℕ) → Drops t
 drops-none test xs ys c = record { holds = λ h. absurd (omega arith) }
 
 -- dropper r drops z
-pub dropped-by : (xs ys : List ℤ) (c r : ℕ) (q z : Spot) → r < c → Drops (λ y. drops q y z) xs ys c r → DroppedBy (Among xs ys c) q z
-dropped-by xs ys c r q z h d = (placeAt xs ys r, record { by = r; below = h; at = refl }, d .holds h)
+pub line-dropped-by : (xs ys : List ℤ) (c r : ℕ) (q z : Spot) → r < c → Drops (λ y. drops q y z) xs ys c r → DroppedBy (Among xs ys c) q z
+line-dropped-by xs ys c r q z h d = (placeAt xs ys r, record { by = r; below = h; at = refl }, d .holds h)
 
 -- one of the droppers is known
 pub known-by : (New : Spot → Type 0) (xs ys : List ℤ) (c r : ℕ) → r < c → Known New xs ys c (placeAt xs ys r)

@@ -3,6 +3,7 @@
 // dropper drops is passed over, and any other place is a candidate, and a dropper from then on. Which droppers there are is free, since each that drops is a record that blocks.
 mod guess;
 mod line;
+pub mod scan;
 mod walks;
 
 use line::Line;
@@ -61,6 +62,17 @@ pub fn candidates(p: &[i32], hp: Size, q: &[i32], hq: Size, j: usize, bits: &mut
         noted: 0,
     };
     let root = hp.m - 1;
-    let all = walks::walk_node(p, hp.n, hp.m, z, root, bits, &mut found, &mut xs, &mut ys, none);
+    let all = walks::walk_node(
+        p,
+        hp.n,
+        hp.m,
+        z,
+        root,
+        bits,
+        &mut found,
+        &mut xs,
+        &mut ys,
+        none,
+    );
     walks::try_again(p, hp.n, hp.m, z, bits, &found, &xs, &ys, all);
 }

@@ -125,7 +125,13 @@ fn farthest(q: Spot, xs: &[i64; 24], ys: &[i64; 24]) -> usize
 }
 
 // z is a dropper from now on, and those that it drops are none any more; where there are 24 the farthest goes. At q's own place nothing drops, and z is passed over.
-pub(crate) fn joined(q: Spot, z: Spot, xs: &mut [i64; 24], ys: &mut [i64; 24], count: usize) -> usize
+pub(crate) fn joined(
+    q: Spot,
+    z: Spot,
+    xs: &mut [i64; 24],
+    ys: &mut [i64; 24],
+    count: usize,
+) -> usize
     requires { ⌜ SpotIn q × SpotIn z × Lined SpotIn (now xs) (now ys) count ⌝ }
     ensures { λ r. ⌜ Lined (Known (At z) (now (xs .entry)) (now (ys .entry)) count) (now (xs .exit)) (now (ys .exit)) r ⌝ }
 {

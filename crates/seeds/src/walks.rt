@@ -2,7 +2,7 @@
 use crate::line::Line;
 use plane::Spot;
 ghost use mathlib.Core.Path.{_≡_};
-ghost use Prim.Native.Nat.{ℕ, _+_, _≤_, _<_};
+ghost use Prim.Native.Nat.{_+_, _≤_, _<_};
 ghost use Rattle.plane.specs.Rule.{SpotIn, dropsBox};
 ghost use Rattle.sheet.specs.Nodes.{levelOf};
 ghost use Rattle.sheet.specs.Places.{boxOf};
@@ -290,10 +290,10 @@ fn retry_all(
     requires { ⌜ Opens (now w) n m × SpotIn q × Holds (now bits) n × Lined SpotIn (now xs) (now ys) (line .count) ⌝ }
     ensures { λ _. ⌜ Retries (Among (now (xs .entry)) (now (ys .entry)) (line .count)) (now (w .entry)) q (now (bits .entry)) (now (bits .exit)) ⌝ }
 {
-    let mut i = bits::next_from(bits, 0);
+    let mut i = crate::scan::next_from(bits, 0);
     while i < n {
         retry(w, n, m, q, i, bits, xs, ys, line);
-        i = bits::next_from(bits, i + 1);
+        i = crate::scan::next_from(bits, i + 1);
     }
 }
 

@@ -18,7 +18,8 @@ use Rattle.chamber.proofs.keep_pairs.Tie as tie
 abbrev Inv-loop : tie.InvT-loop
 Inv-loop p hp q hq terms largest j bits₀ n a seen₀ count₀ i₀ bits seen count i =
     Keeping (smallFor largest terms (pointsOf p) (pointsOf q)) (pairBy (profileFor terms) (pointsOf p) (pointsOf q)) j (hp .n) bits₀ bits count i
-    × Right terms p q a (seen .known) (seen .at) (seen .clear)
+    × Right terms p q a (seen .last .known) (seen .last .at) (seen .last .clear)
+    × Right terms p q a (seen .other .known) (seen .other .at) (seen .other .clear)
 
 abbrev μ-loop : tie.MeasureT-loop
 μ-loop p hp q hq terms largest j bits₀ n a seen₀ count₀ i₀ bits seen count i = hp .n - i
@@ -34,14 +35,14 @@ loop-holds c =
     let z = c .before .before in
     let s = c .before .before .before .before in
     let p = s .pre in
-    (chamber-keep-start _ _ _ _ _ _ (λ y l e. small-covered (s .args .largest) (s .args .terms) _ _ _ _ (p .5) y (omega (arith, p .0 .n-is)) e) (c .next-from .ensures), right-start _ _ _ _ _ (spot-fits _ _ _ (p .1) _ _ (p .3) (z .spot-at .ensures)))
+    (chamber-keep-start _ _ _ _ _ _ (λ y l e. small-covered (s .args .largest) (s .args .terms) _ _ _ _ (p .5) y (omega (arith, p .0 .n-is)) e) (c .next-from .ensures), right-start _ _ _ _ _ (spot-fits _ _ _ (p .1) _ _ (p .3) (z .spot-at .ensures)), right-start _ _ _ _ _ (spot-fits _ _ _ (p .1) _ _ (p .3) (z .spot-at .ensures)))
 
 judge-requires : tie.Need-judge-requires Inv-loop μ-loop
 judge-requires c κs =
     let l = c .before in
     let s = c .before .before .before .before .before .before in
     let p = s .pre in
-    (p .0, p .1, p .2, p .3, c .loop-test .taken, c .before .before .before .before .spot-at .ensures ∙ sym (spot-of _ _ (omega (arith, p .3, p .1 .n-is))), l .loop .inv .1)
+    (p .0, p .1, p .2, p .3, c .loop-test .taken, c .before .before .before .before .spot-at .ensures ∙ sym (spot-of _ _ (omega (arith, p .3, p .1 .n-is))), l .loop .inv .1, l .loop .inv .2)
 
 add-count : tie.Need-add-count Inv-loop μ-loop
 add-count c =
@@ -80,7 +81,7 @@ loop-less : tie.Need-loop-less Inv-loop μ-loop
 loop-less c = omega (arith, from-le _ _ _ (c .next-from2 .ensures), c .before .before .before .before .before .loop-test .taken)
 
 loop-again : tie.Need-loop-again Inv-loop μ-loop
-loop-again c = (keep-next _ _ _ _ _ _ _ _ _ (c .next-from2 .ensures) (turn (c .before .before)), c .before .before .before .before .judge .ensures .1)
+loop-again c = (keep-next _ _ _ _ _ _ _ _ _ (c .next-from2 .ensures) (turn (c .before .before)), c .before .before .before .before .judge .ensures .1, c .before .before .before .before .judge .ensures .2)
 
 same-length : tie.Need-same-length Inv-loop μ-loop
 same-length c = c .before .loop .inv .0 .long

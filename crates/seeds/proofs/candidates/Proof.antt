@@ -1,14 +1,12 @@
 -- `seeds::candidates` meets its contract: `covers-walk` says why. Assumes nothing.
-use mathlib.Core.Path.{_≡_, refl, sym, subst, _∙_}
-use mathlib.Core.Bool.{Bool}
+use mathlib.Core.Path.{refl, _∙_}
 use native.Mathlib.Omega.{arith}
 use native.Mathlib.Nat.{pos-of-ne-zero}
 use Rattle.plane.specs.Rule.{SpotIn}
 use Rattle.walk.proofs.NodeLaws.{spot-fits}
 use Rattle.walk.proofs.FilterCode.{still-holds}
-use Rattle.seeds.specs.Covers.{Covers}
 use Rattle.seeds.proofs.LineLaws.{lined-all, line-holds}
-use Rattle.seeds.proofs.CoverLaws.{on-in, either-in, covers-all, covers-none, covers-walk, covers-by}
+use Rattle.seeds.proofs.CoverLaws.{on-in, either-in, covers-all, covers-none, covers-walk, covers-profile}
 use borrow.Author.Needs.{needs}
 use Rattle.seeds.proofs.candidates.Statement.{statement}
 use Rattle.seeds.proofs.candidates.Tie as tie
@@ -83,7 +81,7 @@ returns-3 c =
     let e = z .before in
     let s = e .before .before .before .before .before .before .before .before in
     let p = s .pre in
-    covers-by _ _ _ _ _ (e .before .before .before .before .before .before .if1 .left)
+    covers-profile _ _ _ _ _ (e .before .before .before .before .before .before .if1 .left)
     (covers-walk _ _ _ (p .0) _ _ _ (p .1) _ (p .2) _ (z .spot-at .ensures) _ _ _ (f .first-line .ensures) _ _ _ (e .if2 .left) (w .walk-node .ensures .1) _ _ _ (w .walk-node .ensures .0) (t .try-again .ensures))
 
 pub candidates-spec : {M : Type 1} → statement M

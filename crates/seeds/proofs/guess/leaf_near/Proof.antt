@@ -1,6 +1,6 @@
 -- `seeds::guess::leaf_near` answers a node, and ends, since the level falls. Assumes nothing.
 use mathlib.Core.Path.{_≡_}
-use Prim.Native.Nat.{_-_, _≤_, _<_}
+use Prim.Native.Nat.{_-_, _<_}
 use native.Mathlib.Omega.{arith}
 use Rattle.sheet.specs.Nodes.{levelOf}
 use Rattle.walk.proofs.NodeLaws.{Node}

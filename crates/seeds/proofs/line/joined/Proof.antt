@@ -4,7 +4,7 @@ use mathlib.Core.Logic.{inr}
 use native.Mathlib.Omega.{arith}
 use Rattle.plane.specs.Rule.{SpotIn}
 use Rattle.seeds.specs.Line.{Lined}
-use Rattle.seeds.proofs.LineLaws.{lined-all, lined-few, lined-at, among-in, lined-put, line-same, line-more}
+use Rattle.seeds.proofs.LineLaws.{lined-all, lined-few, lined-at, among-in, lined-put, line-same, line-kept}
 use borrow.Author.Needs.{needs}
 use Rattle.seeds.proofs.line.joined.Statement.{statement}
 use Rattle.seeds.proofs.line.joined.Tie as tie
@@ -27,7 +27,7 @@ add-result c = search needs
 returns-2 : tie.Need-returns-2
 returns-2 c =
     let i = c .before .before .before in
-    let l = line-more _ _ _ _ _ _ _ (i .before .sift .ensures) in
+    let l = line-kept _ _ _ _ _ _ _ (i .before .sift .ensures) in
     lined-put _ _ _ _ l _ (i .if2 .taken) _ (inr refl) _ _ (c .put .ensures .0) (c .put .ensures .1) _ (omega (arith, i .if2 .taken)) (λ k b n. omega arith)
 
 -- there are 24, in range
@@ -58,11 +58,11 @@ returns-3 : tie.Need-returns-3
 returns-3 c =
     let f = c .before .before .before .before .before .before .before .before .before in
     let s = f .before .before .before .before in
-    let l = line-more _ _ _ _ _ _ _ (s .sift .ensures) in
+    let l = line-kept _ _ _ _ _ _ _ (s .sift .ensures) in
     lined-put _ _ _ _ l _ (f .farthest .ensures) _ (inr refl) _ _ (c .put2 .ensures .0) (c .put2 .ensures .1) _ (l .few) (λ k b n. b)
 
 returns-4 : tie.Need-returns-4
-returns-4 c = line-more _ _ _ _ _ _ _ (c .before .before .before .before .before .before .before .before .before .before .sift .ensures)
+returns-4 c = line-kept _ _ _ _ _ _ _ (c .before .before .before .before .before .before .before .before .before .before .sift .ensures)
 
 pub joined-spec : {M : Type 1} → statement M
 joined-spec = tie.close (tie.spec is-same-requires returns sift-requires put-requires add-result returns-2 farthest-requires place-requires diameter-requires diameter-requires-2 put-requires-2 returns-3 returns-4)

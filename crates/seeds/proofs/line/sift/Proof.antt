@@ -1,7 +1,7 @@
 -- `seeds::line::sift` meets its contract: all through, each of the first `count` places is one of those at the start. Assumes nothing.
 use mathlib.Core.Path.{_∙_}
 use mathlib.Core.Logic.{⊎-elim}
-use Prim.Native.Nat.{_-_, _≤_, _<_}
+use Prim.Native.Nat.{_-_, _≤_}
 use native.Mathlib.Omega.{arith}
 use Rattle.plane.specs.Rule.{SpotIn}
 use Rattle.seeds.specs.Line.{Lined, Among}

@@ -73,7 +73,7 @@ walk-node-count-at-requires : (t : ℕ) → walk-node-lts.Need-count-at-requires
 walk-node-count-at-requires t c κs = let p = c .before .before .before .pre .1 in (p .0, p .2)
 
 walk-node-walk-places-requires : (t : ℕ) → walk-node-lts.Need-walk-places-requires (claims t) (walk-node-at t) walk-node.Post walk-node-Inv-loop walk-node-μ-loop
-walk-node-walk-places-requires t c κs = 
+walk-node-walk-places-requires t c κs =
     let i = c .before .before .before .before in
     let p = start t (i .before) .pre .1 in
     (p .0, p .1, leaf-fits _ _ _ _ _ _ _ (node t (i .before)) (i .if1 .taken), p .3, p .4)
@@ -82,23 +82,23 @@ walk-node-same-length : (t : ℕ) → walk-node-lts.Need-same-length (claims t) 
 walk-node-same-length t c = c .before .before .walk-places .kept .1 .1 .1 .1 .1 .1 .0
 
 walk-node-returns : (t : ℕ) → walk-node-lts.Need-returns (claims t) (walk-node-at t) walk-node.Post walk-node-Inv-loop walk-node-μ-loop
-walk-node-returns t c = 
+walk-node-returns t c =
     let f = c .before .before in
     let i = f .before .before .before .before .before in
     (f .walk-places .ensures .0, deals-as _ _ _ _ _ _ _ _ (below-leaf _ _ _ _ _ _ _ (node t (i .before)) (i .if1 .taken)) (f .walk-places .ensures .1))
 
 walk-node-loop-holds : (t : ℕ) → walk-node-lts.Need-loop-holds (claims t) (walk-node-at t) walk-node.Post walk-node-Inv-loop walk-node-μ-loop
-walk-node-loop-holds t c = 
+walk-node-loop-holds t c =
     let p = start t (c .before) .pre .1 in
     (line-same _ _ _ _ _ (p .4), deals-none _ _ _ _ _ _ (λ r x. omega (arith, x .1, x .2)), refl)
 
 walk-node-add-box-by : (t : ℕ) → walk-node-lts.Need-add-box-by (claims t) (walk-node-at t) walk-node.Post walk-node-Inv-loop walk-node-μ-loop
-walk-node-add-box-by t c = 
+walk-node-add-box-by t c =
     let r = c .before .before .before .before in
     omega (arith, kid _ _ _ _ _ _ _ (node t r) (c .before .before .before .if1 .left) (c .before .before .loop .i) (c .before .loop-test .taken) .0, start t r .pre .1 .0 .m-le)
 
 walk-node-box-by-requires : (t : ℕ) → walk-node-lts.Need-box-by-requires (claims t) (walk-node-at t) walk-node.Post walk-node-Inv-loop walk-node-μ-loop
-walk-node-box-by-requires t c κs = 
+walk-node-box-by-requires t c κs =
     let l = c .before .before .before .before in
     let r = l .before .before in
     let p = start t r .pre .1 in
@@ -108,12 +108,12 @@ walk-node-passed-requires : (t : ℕ) → walk-node-lts.Need-passed-requires (cl
 walk-node-passed-requires t c κs = search needs
 
 walk-node-add-walk-node : (t : ℕ) → walk-node-lts.Need-add-walk-node (claims t) (walk-node-at t) walk-node.Post walk-node-Inv-loop walk-node-μ-loop
-walk-node-add-walk-node t c = 
+walk-node-add-walk-node t c =
     let r = c .before .before .before .before .before .before .before .before .before in
     omega (arith, kid _ _ _ _ _ _ _ (node t r) (c .before .before .before .before .before .before .before .before .if1 .left) (c .before .before .before .before .before .before .before .loop .i) (c .before .before .before .before .before .before .loop-test .taken) .0, start t r .pre .1 .0 .m-le)
 
 walk-node-walk-node-requires : (t : ℕ) → walk-node-lts.Need-walk-node-requires (claims t) (walk-node-at t) walk-node.Post walk-node-Inv-loop walk-node-μ-loop
-walk-node-walk-node-requires t c κs = 
+walk-node-walk-node-requires t c κs =
     let l = c .before .before .before .before .before .before .before .before .before .before .before in
     let r = l .before .before in
     let p = start t r .pre .1 in
@@ -130,29 +130,29 @@ walk-node-loop-less : (t : ℕ) → walk-node-lts.Need-loop-less (claims t) (wal
 walk-node-loop-less t c = omega (arith, c .before .before .before .before .before .before .loop-test .taken)
 
 walk-node-loop-again : (t : ℕ) → walk-node-lts.Need-loop-again (claims t) (walk-node-at t) walk-node.Post walk-node-Inv-loop walk-node-μ-loop
-walk-node-loop-again t c = 
+walk-node-loop-again t c =
     let l = c .before .before .before .before .before .before .before in
     let r = l .before .before in
     let v = l .loop .inv in
     let k = kid _ _ _ _ _ _ _ (node t r) (l .before .if1 .left) (l .loop .i) (c .before .before .before .before .before .before .loop-test .taken) in
     ⊎-elim
     (λ x.
-        turn-as _ _ _ _ _ _ _ _ _ _ _ _ _ _ (x .2) (x .4) (x .5) (ap (λ (u : Course). u .line .count) (x .6) ∙ x .1 .ensures)
-        (v .0)
-        (deals-kid _ _ _ _ _ _ _ _ _ _ _ (k .1) (λ y e. e) (v .1) (deals-box _ _ _ _ _ (start t r .pre .1 .0) _ (k .0) _ refl _ (v .0 .each _ (x .0 .taken)) (c .before .before .box-by .ensures .holds (x .0 .taken)) _))
-        (v .2))
+    turn-as _ _ _ _ _ _ _ _ _ _ _ _ _ _ (x .2) (x .4) (x .5) (ap (λ (u : Course). u .line .count) (x .6) ∙ x .1 .ensures)
+    (v .0)
+    (deals-kid _ _ _ _ _ _ _ _ _ _ _ (k .1) (λ y e. e) (v .1) (deals-box _ _ _ _ _ (start t r .pre .1 .0) _ (k .0) _ refl _ (v .0 .each _ (x .0 .taken)) (c .before .before .box-by .ensures .holds (x .0 .taken)) _))
+    (v .2))
     (λ x.
-        turn-as _ _ _ _ _ _ _ _ _ _ _ _ _ _ (x .8) (x .10) (x .11) (ap (λ (u : Course). u .line .count) (x .12))
-        (line-after _ _ _ _ _ _ _ _ _ _ _ (λ y e. e) (v .0) (x .5 .ensures .0))
-        (deals-kid _ _ _ _ _ _ _ _ _ _ _ (k .1) (known-in _ _ _ _ (v .0) _ (λ y e. inr e)) (v .1) (x .5 .ensures .1))
-        (x .5 .kept .1 .1 .1 .1 .1 .0 ∙ v .2))
+    turn-as _ _ _ _ _ _ _ _ _ _ _ _ _ _ (x .8) (x .10) (x .11) (ap (λ (u : Course). u .line .count) (x .12))
+    (line-after _ _ _ _ _ _ _ _ _ _ _ (λ y e. e) (v .0) (x .5 .ensures .0))
+    (deals-kid _ _ _ _ _ _ _ _ _ _ _ (k .1) (known-in _ _ _ _ (v .0) _ (λ y e. inr e)) (v .1) (x .5 .ensures .1))
+    (x .5 .kept .1 .1 .1 .1 .1 .0 ∙ v .2))
     (c .if2 .came)
 
 walk-node-same-length-2 : (t : ℕ) → walk-node-lts.Need-same-length-2 (claims t) (walk-node-at t) walk-node.Post walk-node-Inv-loop walk-node-μ-loop
 walk-node-same-length-2 t c = c .before .loop .inv .2
 
 walk-node-returns-2 : (t : ℕ) → walk-node-lts.Need-returns-2 (claims t) (walk-node-at t) walk-node.Post walk-node-Inv-loop walk-node-μ-loop
-walk-node-returns-2 t c = 
+walk-node-returns-2 t c =
     let v = c .before .loop .inv in
     let i = c .before .before in
     (v .0, deals-as _ _ _ _ _ _ _ _ (λ r x. let y = below-node _ _ _ _ _ _ _ (node t (i .before)) (i .if1 .left) r x in (y .0, y .1, omega (arith, y .2, c .loop-test .left), y .3)) (v .1))

@@ -1,7 +1,7 @@
 -- `seeds::walks::retry` meets its contract: what is taken out, a dropper drops. Assumes nothing.
 use native.Mathlib.Omega.{arith}
 use Rattle.walk.proofs.NodeLaws.{spot-fits}
-use Rattle.seeds.proofs.LineLaws.{dropped-by}
+use Rattle.seeds.proofs.LineLaws.{line-dropped-by}
 use Rattle.seeds.proofs.CoverLaws.{retries-none, retries-gone}
 use borrow.Author.Needs.{needs}
 use Rattle.seeds.proofs.walks.retry.Statement.{statement}
@@ -22,7 +22,7 @@ same-length c = search needs
 returns : tie.Need-returns
 returns c =
     let s = c .before .before .before .before .before .before .before .before in
-    retries-gone _ _ _ _ _ _ _ _ (omega (arith, s .pre .2, s .pre .3 .enough)) (c .before .before .remove .ensures) (c .before .before .before .before .before .before .spot-at .ensures) (dropped-by _ _ _ _ _ _ (c .before .before .before .before .if1 .taken) (c .before .before .before .before .before .spot-dropper .ensures)) (retries-none _ _ _ _)
+    retries-gone _ _ _ _ _ _ _ _ (omega (arith, s .pre .2, s .pre .3 .enough)) (c .before .before .remove .ensures) (c .before .before .before .before .before .before .spot-at .ensures) (line-dropped-by _ _ _ _ _ _ (c .before .before .before .before .if1 .taken) (c .before .before .before .before .before .spot-dropper .ensures)) (retries-none _ _ _ _)
 
 returns-2 : tie.Need-returns-2
 returns-2 c = retries-none _ _ _ _

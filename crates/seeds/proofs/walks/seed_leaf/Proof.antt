@@ -1,9 +1,7 @@
 -- `seeds::walks::seed_leaf` meets its contract. Assumes nothing.
-use mathlib.Core.Path.{_≡_}
 use native.Mathlib.Omega.{arith}
 use Rattle.walk.proofs.NodeLaws.{Node, leaf-fits}
 use Rattle.seeds.proofs.LineLaws.{line-same}
-use borrow.Author.Needs.{needs}
 use Rattle.seeds.proofs.walks.seed_leaf.Statement.{statement}
 use Rattle.seeds.proofs.walks.seed_leaf.Tie as tie
 

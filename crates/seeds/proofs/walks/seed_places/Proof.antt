@@ -2,7 +2,6 @@
 use mathlib.Core.Path.{_∙_}
 use Prim.Native.Nat.{_+_, _-_, _<_}
 use native.Mathlib.Omega.{arith}
-use Rattle.plane.specs.Rule.{SpotIn}
 use Rattle.walk.proofs.NodeLaws.{spot-fits, position-fits}
 use Rattle.seeds.specs.Line.{Lined, Known}
 use Rattle.seeds.specs.Covers.{On}

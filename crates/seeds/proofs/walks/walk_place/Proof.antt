@@ -1,11 +1,10 @@
 -- `seeds::walks::walk_place` meets its contract: the position is kept, or a dropper drops it. Assumes nothing.
-use mathlib.Core.Path.{refl, _∙_}
+use mathlib.Core.Path.{_∙_}
 use mathlib.Core.Logic.{inl}
 use Prim.Native.Nat.{_<_}
 use native.Mathlib.Omega.{arith}
-use Rattle.bits.proofs.SetLaws.{with-length}
 use Rattle.walk.proofs.NodeLaws.{spot-fits, position-fits}
-use Rattle.seeds.proofs.LineLaws.{line-same, line-wider, lined-count, dropped-by}
+use Rattle.seeds.proofs.LineLaws.{line-same, line-wider, lined-count, line-dropped-by}
 use Rattle.seeds.proofs.CoverLaws.{deals-dropped, deals-kept}
 use borrow.Author.Needs.{needs}
 use Rattle.seeds.proofs.walks.walk_place.Statement.{statement}
@@ -36,7 +35,7 @@ returns c =
     let z = t .before .before .before in
     let a = z .before in
     let s = a .before .before .before in
-    let d = dropped-by _ _ _ _ _ _ (c .before .if1 .taken) (t .spot-dropper .ensures) in
+    let d = line-dropped-by _ _ _ _ _ _ (c .before .if1 .taken) (t .spot-dropper .ensures) in
     (lined-count _ _ _ _ (line-same _ _ _ _ _ (s .pre .4)) _ (c .passed .ensures), deals-dropped _ _ _ _ _ _ _ _ (a .order-at .ensures) (z .spot-at .ensures) (d .0, inl (d .1), d .2))
 
 insert-requires : tie.Need-insert-requires
