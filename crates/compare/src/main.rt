@@ -390,7 +390,7 @@ fn next_page(p: &[i32], q: &[i32], owners: &[u8], ps: &[i32], qs: &[i32], l: Lis
         grid: l.grid,
     };
     let mut bits = [0u64; 16];
-    let r = ring::page::page(ps, qs, owners, request, &mut bits);
+    let r = ring::pages::page(ps, qs, owners, request, &mut bits);
     let page = r.page;
     let shown = page.key;
     let source = page.source;
@@ -912,8 +912,8 @@ fn tried(
     let lent = some_lent(seed);
     let mut one = [seed; 2];
     let mut two = [seed; 2];
-    let r = ring::page::page(ps, qs, owners, request, &mut one[..lent]);
-    let s = ring::page::page(pt, qt, moved, request, &mut two[..lent]);
+    let r = ring::pages::page(ps, qs, owners, request, &mut one[..lent]);
+    let s = ring::pages::page(pt, qt, moved, request, &mut two[..lent]);
     let page = r.page;
     let other = s.page;
     let good = (r.number == s.number)

@@ -309,16 +309,19 @@ busy-by nr n l w r w′ a = (
   λ ne. (a .0 ∙ answer-refused (busyGiven l) busyRefused nr nr refl ne, a .1 ∙ sym (wiped-refused w n nr nr refl ne)),
 )
 
+-- [BU9, BU10]
 pub busy-no : (P Q : List ℤ) (o : List ℕ) (ask : RankAsked) (w : List ℕ) (r : Busy) (w′ : List ℕ) → BusyAnswers P Q o ask w r w′
     → (r .number ≡ busyNo P Q o ask (length w)) × (Refuses (busyNo P Q o ask (length w)) → (r ≡ busyRefused (busyNo P Q o ask (length w))) × (w′ ≡ w))
 unfolding busyAnswer busyBits
 busy-no P Q o ask w r w′ a = busy-by (busyNo P Q o ask (length w)) (need P) (busiestOf P Q o ask) w r w′ (a .promised)
 
+-- [BU9, BU10]
 pub pump-no : (P Q : List ℤ) (k big : ℕ) (g : Bool) (w : List ℕ) (r : Busy) (w′ : List ℕ) → PumpAnswers P Q k big g w r w′
     → (r .number ≡ pumpNo P Q k big g (length w)) × (Refuses (pumpNo P Q k big g (length w)) → (r ≡ busyRefused (pumpNo P Q k big g (length w))) × (w′ ≡ w))
 unfolding pumpAnswer pumpBits
 pump-no P Q k big g w r w′ a = busy-by (pumpNo P Q k big g (length w)) (need Q) (busiestPumps P Q k big g) w r w′ (a .promised)
 
+-- [BU9, BU10]
 pub urgent-no : (P Q : List ℤ) (o ps qs : List ℕ) (ask : RankAsked) (w : List ℕ) (r : Urgent) (w′ : List ℕ) → UrgentAnswers P Q o ps qs ask w r w′
     → (r .number ≡ urgentNo P Q o ps qs ask (length w)) × (Refuses (urgentNo P Q o ps qs ask (length w)) → (r ≡ urgentRefused (urgentNo P Q o ps qs ask (length w))) × (w′ ≡ w))
 unfolding urgentAnswer urgentBits urgentGiven urgentRefused

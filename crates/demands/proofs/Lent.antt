@@ -23,7 +23,7 @@ use Rattle.sheet.proofs.SheetLaws.{sheet-facts}
 use Rattle.bits.specs.Set.{digit, at, kept, cardIn, wiped}
 use Rattle.bits.proofs.LentLaws.{words-enough}
 use Rattle.walk.proofs.Meaning.{kept-words}
-use Rattle.near.proofs.Meaning.{near-words}
+use Rattle.outward.proofs.Meaning.{near-words}
 use Rattle.ring.specs.declared.Filtered.{Filtered}
 use Rattle.ring.specs.Lent.{need, wipedBy}
 use Rattle.ring.specs.Numbers.{filterNo}
@@ -130,13 +130,13 @@ zeros-left : {n k : ℕ} {w w′ : List ℕ} → Works n k w w′ → k ≡ 0 �
 unfolding wiped
 zeros-left {n} {k} {w} x z = works-by x ∙ sym (wiped-given w n k z)
 
--- "any other call zeros" [Y10, MP12]
+-- "any other call zeros" [Y10, MP12, BU11]
 pub words-zero : {n k : ℕ} {w w′ : List ℕ} → Works n k w w′ → k ≡ 0 → take n w′ ≡ replicate n 0
 words-zero {n} {k} {w} {w′} x z = front-set (replicate n 0) w w′ n (length-replicate n 0) (zeros-left x z)
 
 -- ---- all of them
 
--- a refusal "leaves lent memory [..] as they stood" [Y11, MP12, MP15]
+-- a refusal "leaves lent memory [..] as they stood" [Y11, MP12, MP15, BU11]
 pub words-refused : {n k : ℕ} {w w′ : List ℕ} → Lends n k w w′ → (k ≡ 0 → ⊥) → w′ ≡ w
 words-refused (lends-filter x) ne = filter-refuses x ne
 words-refused {n} {k} {w} (lends-work x) ne = works-by x ∙ sym (wiped-refused w n k k refl ne)
@@ -145,7 +145,7 @@ past-given : {n k : ℕ} {w w′ : List ℕ} → Lends n k w w′ → k ≡ 0 �
 past-given (lends-filter {P} {set} {k} {w} {w′} x) z = let l = set-left x z in front-rest set w w′ (need P) (l .0) (l .1)
 past-given {n} {k} {w} {w′} (lends-work x) z = front-rest (replicate n 0) w w′ n (length-replicate n 0) (zeros-left x z)
 
--- "and none touches words past them" [Y11, MP12]
+-- "and none touches words past them" [Y11, MP12, BU11]
 pub words-past : {n k : ℕ} {w w′ : List ℕ} → Lends n k w w′ → drop n w′ ≡ drop n w
 words-past {n} {k} {w} {w′} x = go k refl
   where

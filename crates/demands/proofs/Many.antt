@@ -37,7 +37,7 @@ use Rattle.sheet.proofs.PointsLaws.{length-points, spot-of}
 use Rattle.list.specs.declared.Key.{Key}
 use Rattle.list.specs.declared.Pair.{Pair}
 use Rattle.list.specs.declared.Terms.{Terms}
-use Rattle.list.specs.Pairs.{start, none, keyOf, follows, ascends, after, lastOr, chamberPairs, isNone}
+use Rattle.list.specs.Pairs.{start, none, keyOf, follows, ascends, after, lastOr, isNone}
 use Rattle.list.specs.Pages.{shown, lastThreshold, thresholdNo}
 use Rattle.list.specs.Rows.{Rising}
 use Rattle.list.specs.Terms.{profileFor, listFor, aloneBy, ofKind}
@@ -57,17 +57,10 @@ use Rattle.many.specs.declared.Counted.{Counted}
 use Rattle.many.specs.Many.{lastLargest, largestNo, pairsNo, ownPairsNo, countNo, ownCountNo, pairsList, ownList, manyGiven, manyRefused, stored, pairsAnswer, pairsSlots, ownPairsAnswer, ownPairsSlots, countGiven, countRefused, countAnswer, ownCountAnswer}
 use Rattle.many.proofs.Meaning.{list-whole}
 use Rattle.demands.specs.Promises.{OwnPairsAnswers, OwnCountAnswers, wantedOf, whichOf, ManyOfKind, ManyAnswers, CountOfKind, NumberAnswers}
-use Rattle.demands.specs.Many.{atMost, anyNumber, Follow, calls, again}
+use Rattle.demands.specs.Many.{InRange, Belongs, anyNumber, Follow, calls, again}
 use Rattle.demands.proofs.Demand1.{pairs-no, own-pairs-no}
 use Rattle.demands.proofs.Demand2.{WellFormed, Whose}
 use Rattle.demands.proofs.SizedLaws.{at-most-iff, at-most-more, to-ascends, to-keys, to-size, sized-iff}
-
--- a key with ids 0 to 2,000,000,000, a t 0 to 60,000, and a largest size to 8,000,000,000,000,000,000
-pub record Fair (key : Key) (t big : ℕ) : Type 0 where
-  pub q-in : key .q ≤ lastId
-  pub p-in : key .p ≤ lastId
-  pub fair : t ≤ lastThreshold
-  pub fits : big ≤ lastLargest
 
 -- ---- lists
 
@@ -148,16 +141,8 @@ module _ (P Q : List ℤ) (p-opens : WellFormed P) (q-opens : WellFormed Q) (a :
   sized-ascends : ascends start Sized ≡ true
   sized-ascends = to-ascends big a o (pointsOf P) (pointsOf Q) p-rises q-rises
 
-  -- "of the list of these terms (t, contractor, profile) those pairs strictly after the key whose size is at most `largest` ([..] with t above 0 the chambers that have at least t such pairs, whatever the key)": what is
-  -- asked of a pair
-  pub record Asked (key : Key) (v : Pair) : Type 0 where
-    pub listed : List·Memᴰ v Whole
-    pub small : v .size ≤ big
-    pub many : a .threshold ≤ length (chamberPairs (v .q) (atMost big Whole))
-    pub late : follows key (keyOf v) ≡ true
-
   -- Those pairs of the list to a size that stand after a key are exactly these. [MP1, MP2]
-  pub pairs-exact : (key : Key) (v : Pair) → List·Memᴰ v (after key Sized) ↔ Asked key v
+  pub pairs-exact : (key : Key) (v : Pair) → List·Memᴰ v (after key Sized) ↔ Belongs a o P Q big key v
   pairs-exact key v =
       let s = sized-iff big a o (pointsOf P) (pointsOf Q) p-rises q-rises v in
       let t = at-most-iff big Whole v in
@@ -173,7 +158,7 @@ module _ (P Q : List ℤ) (p-opens : WellFormed P) (q-opens : WellFormed Q) (a :
       ap (λ (n : ℕ). listTo n a o (pointsOf P) (pointsOf Q)) e ∙ list-whole a o (pointsOf P) (pointsOf Q) (z .0) (z .1)
 
   -- and each of these pairs is one of the list of the terms, with their t: its chamber has at least t pairs of whatever size [MP1, MP2]
-  pub pairs-listed : big ≤ lastLargest → gridNo (a .grid) P Q ≡ 0 → (key : Key) (v : Pair) → Asked key v → List·Memᴰ v (listFor a o (pointsOf P) (pointsOf Q))
+  pub pairs-listed : big ≤ lastLargest → gridNo (a .grid) P Q ≡ 0 → (key : Key) (v : Pair) → Belongs a o P Q big key v → List·Memᴰ v (listFor a o (pointsOf P) (pointsOf Q))
   pairs-listed fits forms key v x =
       let z = forms-reach (a .grid) P Q p-opens q-opens forms in
       let s = sized-iff lastLargest a o (pointsOf P) (pointsOf Q) p-rises q-rises v in
@@ -203,7 +188,7 @@ module _ (P Q : List ℤ) (p-opens : WellFormed P) (q-opens : WellFormed Q) (a :
               x .4 .1 ∙ answer-given (stored slots (ownList P key big (a .grid))) (λ k. slots) (ownPairsNo P key big (a .grid) (length w)) nr ∙ ap (stored slots) l,
             )
 
-    module _ (h : Fair key (a .threshold) big) (of-whom : Whose (a .contractor) o (points Q)) (forms : gridNo (a .grid) P Q ≡ 0) (enough : need P ≤ length w) where
+    module _ (h : InRange key (a .threshold) big) (of-whom : Whose (a .contractor) o (points Q)) (forms : gridNo (a .grid) P Q ≡ 0) (enough : need P ≤ length w) where
       -- A key, a t, a contractor and a largest size in range are served, with the owner bytes of a contractor, of sheets of form 1 for the street grid, with words enough, however many slots there are.
       -- [MP13]
       pub many-served : r .number ≡ 0
@@ -243,7 +228,7 @@ module _ (P Q : List ℤ) (p-opens : WellFormed P) (q-opens : WellFormed Q) (a :
       pairs-untouched = ap₂ drop count-is slots-are ∙ drop-append-seam (take (length slots) (after key Sized)) _ ∙ ap (λ (n : ℕ). drop n slots) (sym count-is)
 
       -- Each pair that is stored is one that is asked for, [MP1]
-      pub pairs-only : (v : Pair) → List·Memᴰ v (take (r .count) slots′) → Asked key v
+      pub pairs-only : (v : Pair) → List·Memᴰ v (take (r .count) slots′) → Belongs a o P Q big key v
       pairs-only v m =
           pairs-exact key v .0
           (subst (List·Memᴰ v) (take-append-drop (length slots) (after key Sized)) (Memᴰ·append-left (drop (length slots) (after key Sized)) (subst (List·Memᴰ v) pairs-are m)))
@@ -283,10 +268,10 @@ module _ (P Q : List ℤ) (p-opens : WellFormed P) (q-opens : WellFormed Q) (a :
 
   module _ (of-whom : Whose (a .contractor) o (points Q)) (forms : gridNo (a .grid) P Q ≡ 0) where
     -- the key of the last pair stored is in range, as the key before it was
-    next-fair : (key : Key) → Fair key (a .threshold) big → (n : ℕ) → Fair (lastOr key (take n (after key Sized))) (a .threshold) big
+    next-fair : (key : Key) → InRange key (a .threshold) big → (n : ℕ) → InRange (lastOr key (take n (after key Sized))) (a .threshold) big
     unfolding shown
     next-fair key h n =
-        last-holds (λ (k : Key). Fair k (a .threshold) big) key (take n (after key Sized)) h
+        last-holds (λ (k : Key). InRange k (a .threshold) big) key (take n (after key Sized)) h
         (λ v m.
         let z = to-keys big a o (pointsOf P) (pointsOf Q) p-rises q-rises v (shown-member Sized key n v m) in
         record { q-in = z .0; p-in = z .1; fair = h .fair; fits = h .fits })
@@ -304,9 +289,9 @@ module _ (P Q : List ℤ) (p-opens : WellFormed P) (q-opens : WellFormed Q) (a :
     abbrev Left : Key → ℕ → List Pair → Bool → Type 0
     Left key n l more = (l ≡ take (length l) (drop n (after key Sized))) × ((more ≡ false) ↔ (l ≡ drop n (after key Sized)))
 
-    module _ (key : Key) (slots : List Pair) (w : List ℕ) (r : Many) (slots′ : List Pair) (w′ : List ℕ) (x : ManyAnswers a o P Q key big slots w r slots′ w′) (h : Fair key (a .threshold) big) (enough : need P ≤ length w) where
-      later-fair : Fair (lastOr key (take (r .count) slots′)) (a .threshold) big
-      later-fair = subst (λ (y : List Pair). Fair (lastOr key y) (a .threshold) big) (sym (pairs-given key slots w r slots′ w′ x h of-whom forms enough .1)) (next-fair key h (length slots))
+    module _ (key : Key) (slots : List Pair) (w : List ℕ) (r : Many) (slots′ : List Pair) (w′ : List ℕ) (x : ManyAnswers a o P Q key big slots w r slots′ w′) (h : InRange key (a .threshold) big) (enough : need P ≤ length w) where
+      later-fair : InRange (lastOr key (take (r .count) slots′)) (a .threshold) big
+      later-fair = subst (λ (y : List Pair). InRange (lastOr key y) (a .threshold) big) (sym (pairs-given key slots w r slots′ w′ x h of-whom forms enough .1)) (next-fair key h (length slots))
 
       later-told : (l : List Pair) (more : Bool) → Told (lastOr key (take (r .count) slots′)) l more → Left key (length slots) l more
       later-told l more z =
@@ -315,7 +300,7 @@ module _ (P Q : List ℤ) (p-opens : WellFormed P) (q-opens : WellFormed Q) (a :
 
     -- "following it gives the list, as pages do": calls that follow each other, each lent at least one slot, store a first part of the pairs after the first key. No more follow exactly if these are all.
     -- [MP7]
-    pub follow-list : {n : ℕ} {key : Key} {l : List Pair} {more : Bool} → Fair key (a .threshold) big → Follow a o P Q big n key l more
+    pub follow-list : {n : ℕ} {key : Key} {l : List Pair} {more : Bool} → InRange key (a .threshold) big → Follow a o P Q big n key l more
         → (l ≡ take (length l) (after key Sized)) × ((more ≡ false) ↔ (l ≡ after key Sized))
     follow-list h (calls key slots w r slots′ w′ some enough x) =
         let g = pairs-given key slots w r slots′ w′ x h of-whom forms enough in
@@ -326,8 +311,8 @@ module _ (P Q : List ℤ) (p-opens : WellFormed P) (q-opens : WellFormed Q) (a :
         (joined (take (r .count) slots′) l (after key Sized) (length slots) (g .1) (y .0), joined-all (take (r .count) slots′) l (after key Sized) (length slots) (g .1) more (y .1))
 
     -- Whoever follows them to the end has exactly the pairs that are asked for. [MP7]
-    pub follow-exact : {n : ℕ} {key : Key} {l : List Pair} → Fair key (a .threshold) big → Follow a o P Q big n key l false → (v : Pair) → List·Memᴰ v l ↔ Asked key v
-    follow-exact {key = key} h f v = subst (λ (x : List Pair). List·Memᴰ v x ↔ Asked key v) (sym (follow-list h f .1 .0 refl)) (pairs-exact key v)
+    pub follow-exact : {n : ℕ} {key : Key} {l : List Pair} → InRange key (a .threshold) big → Follow a o P Q big n key l false → (v : Pair) → List·Memᴰ v l ↔ Belongs a o P Q big key v
+    follow-exact {key = key} h f v = subst (λ (x : List Pair). List·Memᴰ v x ↔ Belongs a o P Q big key v) (sym (follow-list h f .1 .0 refl)) (pairs-exact key v)
 
     -- From the start, to the greatest size, it is the list of the terms, each pair once. [MP3, MP7]
     pub follow-whole : {n : ℕ} {l : List Pair} → a .threshold ≤ lastThreshold → big ≡ lastLargest → Follow a o P Q big n start l false → l ≡ listFor a o (pointsOf P) (pointsOf Q)
@@ -335,7 +320,7 @@ module _ (P Q : List ℤ) (p-opens : WellFormed P) (q-opens : WellFormed Q) (a :
         follow-list (record { q-in = omega arith; p-in = omega arith; fair = t; fits = omega (arith, e) }) f .1 .0 refl ∙ after-all start Sized sized-ascends ∙ pairs-whole e forms
 
     -- It does not go on for ever: as long as more follow, each call has stored a pair at least. [MP7]
-    pub follow-ends : {n : ℕ} {key : Key} {l : List Pair} {more : Bool} → Fair key (a .threshold) big → Follow a o P Q big n key l more → more ≡ true → n ≤ length l
+    pub follow-ends : {n : ℕ} {key : Key} {l : List Pair} {more : Bool} → InRange key (a .threshold) big → Follow a o P Q big n key l more → more ≡ true → n ≤ length l
     follow-ends h (calls key slots w r slots′ w′ some enough x) e =
         let g = pairs-given key slots w r slots′ w′ x h of-whom forms enough in
         omega (arith, some, ap length (g .1), length-take (length slots) (after key Sized), g .2 .0 e)
@@ -377,7 +362,7 @@ module _ (P Q : List ℤ) (p-opens : WellFormed P) (q-opens : WellFormed Q) (a :
     pub count-enough : (slots : List Pair) → length slots ≡ r .count → (v : List ℕ) → need P ≤ length v → (m : Many) (slots′ : List Pair) (v′ : List ℕ) → ManyAnswers a o P Q start big slots v m slots′ v′
         → (m .count ≡ r .count) × (take (m .count) slots′ ≡ Sized) × (m .more ≡ false)
     count-enough slots long v lent m slots′ v′ x =
-        let h : Fair start (a .threshold) big = record { q-in = omega arith; p-in = omega arith; fair = fair; fits = fits } in
+        let h : InRange start (a .threshold) big = record { q-in = omega arith; p-in = omega arith; fair = fair; fits = fits } in
         let g = pairs-given start slots v m slots′ v′ x h of-whom forms lent in
         let all = after-all start Sized sized-ascends in
         let as-many : length slots ≡ length (after start Sized) = long ∙ count-tells .2 in (

@@ -31,9 +31,9 @@ use Rattle.bits.specs.Set.{kept, wiped}
 use Rattle.bits.proofs.LentLaws.{words-enough}
 use Rattle.walk.specs.FilterWalk.{Kept}
 use Rattle.walk.specs.RingWalk.{clear, pairWalk}
-use Rattle.near.specs.NearWalk.{nearOrder, nearKept}
-use Rattle.near.specs.Claims.{NotAfter, times}
-use Rattle.near.proofs.Meaning as of-near
+use Rattle.outward.specs.NearWalk.{nearOrder, nearKept}
+use Rattle.outward.specs.Claims.{NotAfter, times}
+use Rattle.outward.proofs.Meaning as of-near
 use Rattle.walk.proofs.Meaning as of-walk
 use Rattle.ring.specs.declared.Filtered.{Filtered}
 use Rattle.ring.specs.declared.Walked.{Walked}

@@ -104,7 +104,7 @@ module _ (k : ℕ) (l : List Rank) (r : Busy) (is : r ≡ busyGiven (firstBy bus
 -- ---- the busiest chambers
 
 module _ (P Q : List ℤ) (p-opens : WellFormed P) (q-opens : WellFormed Q) (o : List ℕ) (ask : RankAsked) (w : List ℕ) (r : Busy) (w′ : List ℕ) (a : BusyAnswers P Q o ask w r w′) where
-  -- k from 1 to 16, a contractor with its owner bytes, a largest size in range, sheets of form 1 for the street grid, and words enough are served
+  -- k from 1 to 16, a contractor with its owner bytes, a largest size in range, sheets of form 1 for the street grid, and words enough are served [BU10]
   pub busiest-served : 1 ≤ ask .k → ask .k ≤ 16 → Whose (ask .contractor) o (points Q) → ask .largest ≤ lastLargest → gridNo (ask .grid) P Q ≡ 0 → need P ≤ length w → r .number ≡ 0
   unfolding busyNo largestNo first given
   busiest-served some most of-whom fits forms enough =
@@ -132,22 +132,23 @@ module _ (P Q : List ℤ) (p-opens : WellFormed P) (q-opens : WellFormed Q) (o :
     abbrev pub Busiest : List Rank
     Busiest = take (r .count) (r .rows)
 
-    -- "k 1 to 16, fewer if there are fewer"
+    -- "k 1 to 16, fewer if there are fewer" [BU1, BU3]
     pub busiest-given : (r .count ≡ min (ask .k) (length Ranked)) × (drop (r .count) (r .rows) ≡ replicate (16 - r .count) noRank)
     busiest-given = let z = ranks-given (ask .k) Ranked r busy-is in (z .1, z .2)
 
-    -- "each with its number of partners": each row is one of the contractor's chambers, and as many pairs of the list have its id
+    -- "each with its number of partners": each row is one of the contractor's chambers, and as many pairs of the list have its id [BU1, BU4]
     pub busiest-each : (v : Rank) → List·Memᴰ v Busiest → (j : ℕ) × (j < length (pointsOf Q)) × (mine (ask .contractor) o j ≡ true) × (v .id ≡ idAt (pointsOf Q) j) × (v .pairs ≡ length (chamberPairs (v .id) Listed))
     unfolding chamberRanks
     busiest-each v m =
         let z = ranks-only (mine (ask .contractor) o) (λ j. chamberRank Listed (idAt (pointsOf Q) j)) (length (pointsOf Q)) 0 v (ranks-listed (ask .k) Ranked r busy-is v m) in
         (z .place, omega (arith, z .to), z .taken, ap (λ (x : Rank). x .id) (z .is), ap (λ (x : Rank). x .pairs) (z .is) ∙ sym (ap (λ (x : Rank). length (chamberPairs (x .id) Listed)) (z .is)))
 
-    -- "in order, ties by id"
+    -- "in order, ties by id" [BU1, BU2]
     pub busiest-order : (b c : ℕ) → b < c → c < r .count → Busier (getD (r .rows) b noRank) (getD (r .rows) c noRank)
     busiest-order = ranks-order (ask .k) Ranked r busy-is busy-apart
 
     -- "the k chambers with the most ring partners": one of the contractor's chambers that is not given is less busy than each that is, whether it has any pair or none
+    -- [BU1, BU2, BU3]
     pub busiest-first : (j : ℕ) → j < length (pointsOf Q) → mine (ask .contractor) o j ≡ true → (List·Memᴰ (chamberRank Listed (idAt (pointsOf Q) j)) Busiest → ⊥) → (v : Rank) → List·Memᴰ v Busiest → Busier v (chamberRank Listed (idAt (pointsOf Q) j))
     unfolding chamberRanks
     busiest-first j h m out v n =
@@ -156,6 +157,7 @@ module _ (P Q : List ℤ) (p-opens : WellFormed P) (q-opens : WellFormed Q) (o :
 -- ---- the busiest pump houses
 
 module _ (P Q : List ℤ) (p-opens : WellFormed P) (q-opens : WellFormed Q) (k big : ℕ) (g : Bool) (w : List ℕ) (r : Busy) (w′ : List ℕ) (a : PumpAnswers P Q k big g w r w′) where
+  -- [BU10]
   pub pumps-served : 1 ≤ k → k ≤ 16 → big ≤ lastLargest → gridNo g P Q ≡ 0 → need Q ≤ length w → r .number ≡ 0
   unfolding pumpNo largestNo first given
   pumps-served some most fits forms enough =
@@ -181,19 +183,22 @@ module _ (P Q : List ℤ) (p-opens : WellFormed P) (q-opens : WellFormed Q) (k b
     abbrev pub BusiestPumps : List Rank
     BusiestPumps = take (r .count) (r .rows)
 
+    -- [BU5]
     pub pumps-given : (r .count ≡ min k (length PumpsRanked)) × (drop (r .count) (r .rows) ≡ replicate (16 - r .count) noRank)
     pumps-given = let z = ranks-given k PumpsRanked r pump-given-is in (z .1, z .2)
 
-    -- each row is a pump house, and as many pairs of the list have its id
+    -- each row is a pump house, and as many pairs of the list have its id [BU5]
     pub pumps-each : (v : Rank) → List·Memᴰ v BusiestPumps → (i : ℕ) × (i < length (pointsOf P)) × (v .id ≡ idAt (pointsOf P) i) × (v .pairs ≡ length (pumpPairs (v .id) Undivided))
     unfolding pumpRanks
     pumps-each v m =
         let z = ranks-only (λ i. true) (λ i. pumpRank Undivided (idAt (pointsOf P) i)) (length (pointsOf P)) 0 v (ranks-listed k PumpsRanked r pump-given-is v m) in
         (z .place, omega (arith, z .to), ap (λ (x : Rank). x .id) (z .is), ap (λ (x : Rank). x .pairs) (z .is) ∙ sym (ap (λ (x : Rank). length (pumpPairs (x .id) Undivided)) (z .is)))
 
+    -- [BU5]
     pub pumps-order : (b c : ℕ) → b < c → c < r .count → Busier (getD (r .rows) b noRank) (getD (r .rows) c noRank)
     pumps-order = ranks-order k PumpsRanked r pump-given-is pump-apart
 
+    -- [BU5]
     pub pumps-first : (i : ℕ) → i < length (pointsOf P) → (List·Memᴰ (pumpRank Undivided (idAt (pointsOf P) i)) BusiestPumps → ⊥) → (v : Rank) → List·Memᴰ v BusiestPumps → Busier v (pumpRank Undivided (idAt (pointsOf P) i))
     unfolding pumpRanks
     pumps-first i h out v n =
@@ -202,7 +207,7 @@ module _ (P Q : List ℤ) (p-opens : WellFormed P) (q-opens : WellFormed Q) (k b
 -- ---- the most urgent visits
 
 module _ (P Q : List ℤ) (p-opens : WellFormed P) (q-opens : WellFormed Q) (o ps qs : List ℕ) (ask : RankAsked) (w : List ℕ) (r : Urgent) (w′ : List ℕ) (a : UrgentAnswers P Q o ps qs ask w r w′) where
-  -- "a lent score a record, by position, for each sheet (0 to 1,000,000,000)"
+  -- "a lent score a record, by position, for each sheet (0 to 1,000,000,000)" [BU7, BU10]
   pub urgent-served : 1 ≤ ask .k → ask .k ≤ 16 → Whose (ask .contractor) o (points Q) → ask .largest ≤ lastLargest → gridNo (ask .grid) P Q ≡ 0 → scoresOk ps (points P) ≡ true → scoresOk qs (points Q) ≡ true → need P ≤ length w → r .number ≡ 0
   unfolding urgentNo largestNo scoresNo first given
   urgent-served some most of-whom fits forms p-scores q-scores enough =
@@ -247,6 +252,7 @@ module _ (P Q : List ℤ) (p-opens : WellFormed P) (q-opens : WellFormed Q) (o p
     unfolding first-visits
     visits-at b h = ap (λ (t : List Visit). getD t b noVisit) visits-rows ∙ at-sixteen ahead noVisit (firstBy ahead (ask .k) (map scoredVisit Urged)) b (omega (arith, visits-count))
 
+    -- [BU6]
     pub urgent-given : (r .count ≡ min (ask .k) (length Urged)) × (drop (r .count) (r .rows) ≡ replicate (16 - r .count) noVisit)
     unfolding first-visits sixteen
     urgent-given = (
@@ -254,26 +260,26 @@ module _ (P Q : List ℤ) (p-opens : WellFormed P) (q-opens : WellFormed Q) (o p
       (λ t. drop (visits-count t) (visits-rows t)) ∙ drop-append-seam (firstBy ahead (ask .k) (map scoredVisit Urged)) _ ∙ ap (λ (n : ℕ). replicate (16 - n) noVisit) (sym visits-count),
     )
 
-    -- each row is a pair of the list, with the sum of the scores of its chamber and its pump house
+    -- each row is a pair of the list, with the sum of the scores of its chamber and its pump house [BU6]
     pub urgent-listed : (v : Visit) → List·Memᴰ v Urgents → List·Memᴰ (v .pair) Urged × (v .score ≡ scoreOf (pointsOf Q) qs (v .pair .q) + scoreOf (pointsOf P) ps (v .pair .p))
     unfolding visitOf
     urgent-listed v m =
         let z = map-only scoredVisit v Urged (ranked-only ahead (ask .k) (map scoredVisit Urged) v (subst (List·Memᴰ v) visits-are m)) in
         rw (z .2) (z .1, refl)
 
-    -- which are those that were lent for their positions
+    -- which are those that were lent for their positions [BU7]
     pub urgent-score : scoresOk ps (points P) ≡ true → scoresOk qs (points Q) ≡ true → (v : Visit) → List·Memᴰ v Urgents → (j i : ℕ) → j < points Q → i < points P → v .pair .q ≡ idAt (pointsOf Q) j → v .pair .p ≡ idAt (pointsOf P) i → v .score ≡ getD qs j 0 + getD ps i 0
     urgent-score p-scores q-scores v m j i h e f d =
         urgent-listed v m .1
         ∙ (λ t. scoreOf (pointsOf Q) qs (f t) + scoreOf (pointsOf P) ps (d t))
         ∙ (λ t. score-of Q (points Q) (nodes Q) (sheet-facts Q q-opens) qs (scores-scored qs (points Q) q-scores) j h t + score-of P (points P) (nodes P) (sheet-facts P p-opens) ps (scores-scored ps (points P) p-scores) i e t)
 
-    -- "the highest sum of scores", "ties by q id and then p id"
+    -- "the highest sum of scores", "ties by q id and then p id" [BU6, BU8]
     pub urgent-order : (b c : ℕ) → b < c → c < r .count → Ahead (getD (r .rows) b noVisit) (getD (r .rows) c noVisit)
     unfolding first-visits
     urgent-order b c h e = rw (visits-at b (omega arith), visits-at c e) (ahead-says _ _ (first-rises ahead ahead-order (ask .k) (map scoredVisit Urged) urgent-apart noVisit b c h (omega (arith, visits-count))))
 
-    -- "no pair that could is passed over": a pair of the list that is not given comes after each that is
+    -- "no pair that could is passed over": a pair of the list that is not given comes after each that is [BU6, BU8]
     pub urgent-first : (u : Pair) → List·Memᴰ u Urged → (List·Memᴰ (scoredVisit u) Urgents → ⊥) → (v : Visit) → List·Memᴰ v Urgents → Ahead v (scoredVisit u)
     urgent-first u m out v n =
         ahead-says v (scoredVisit u) (first-ahead ahead ahead-order (ask .k) (map scoredVisit Urged) urgent-apart (scoredVisit u) v (Memᴰ·map scoredVisit m) (λ x. out (subst (List·Memᴰ (scoredVisit u)) (sym visits-are) x)) (subst (List·Memᴰ v) visits-are n))

@@ -48,8 +48,8 @@ use Rattle.many.specs.declared.Which.{Which}
 use Rattle.many.specs.declared.Wanted.{Wanted}
 use Rattle.many.specs.declared.Counted.{Counted}
 use Rattle.many.specs.declared.Many.{Many}
-use Rattle.many.proofs.pairs.pairs as many-pairs
-use Rattle.many.proofs.pairs.own_pairs as many-own-pairs
+use Rattle.many.proofs.batch.pairs as many-pairs
+use Rattle.many.proofs.batch.own_pairs as many-own-pairs
 use Rattle.view.proofs.open as view-open
 use Rattle.view.proofs.point_at as view-point
 use Rattle.view.proofs.filter_walk_at as view-filter

@@ -12,14 +12,14 @@ use contract.Lifetimes.{Lfts}
 use contract.Monad.{Fun}
 use Rattle.ring.proofs.open.open_no.Reads as open-no
 use Rattle.ring.proofs.open.head_of.Reads as head-of
-use Rattle.ring.proofs.point.point.Reads as point
-use Rattle.ring.proofs.position.position.Reads as position
+use Rattle.ring.proofs.reader.point.Reads as point
+use Rattle.ring.proofs.finder.position.Reads as position
 use Rattle.ring.proofs.filter.filter_walk.Reads as filter-walk
 use Rattle.ring.proofs.ringwalk.ring_walk.Reads as ring-walk
-use Rattle.ring.proofs.page.page.Reads as page
+use Rattle.ring.proofs.pages.page.Reads as page
 use Rattle.ring.proofs.own.own_page.Reads as own-page
 use Rattle.shortest.proofs.shortest.Reads as shortest
-use Rattle.ring.proofs.partners.partners.Reads as partners
+use Rattle.ring.proofs.least.partners.Reads as partners
 use Rattle.nearest.proofs.nearest.Reads as nearest
 use Rattle.nearest.proofs.near_filter.Reads as near-filter
 use Rattle.pack.proofs.pack.Reads as pack
@@ -32,8 +32,8 @@ use Rattle.depot.proofs.Depot.begin.Reads as depot-begin
 use Rattle.depot.proofs.forms_array.Reads as forms-array
 use Rattle.depot.proofs.take_array.Reads as store-array
 use Rattle.runs.proofs.run_array.Reads as run-array
-use Rattle.many.proofs.count.count.Reads as count
-use Rattle.many.proofs.count.own_count.Reads as own-count
+use Rattle.many.proofs.tally.count.Reads as count
+use Rattle.many.proofs.tally.own_count.Reads as own-count
 use Rattle.ranked.proofs.busiest.busiest.Reads as busiest
 use Rattle.ranked.proofs.busiest.busiest_pumps.Reads as busiest-pumps
 use Rattle.ranked.proofs.visits.urgent.Reads as urgent
@@ -44,8 +44,8 @@ use Rattle.book.proofs.Book.take as take
 use Rattle.depot.proofs.forms as forms
 use Rattle.depot.proofs.Depot.take as store
 use Rattle.runs.proofs.leaf_run as leaf-run
-use Rattle.many.proofs.pairs.pairs as pairs
-use Rattle.many.proofs.pairs.own_pairs as own-pairs
+use Rattle.many.proofs.batch.pairs as pairs
+use Rattle.many.proofs.batch.own_pairs as own-pairs
 use Rattle.view.proofs.open as view-open
 use Rattle.view.proofs.point_at as view-point
 use Rattle.view.proofs.filter_walk_at as view-filter

@@ -185,7 +185,7 @@ pub record OwnCountC (S : List ℤ) (big : ℕ) (g : Bool) (bits : List ℕ) (r 
   pub b-at : Place
   pub promised : own-count-c.Post κs (slice w-at S, (big, (g, (slice b-at bits, tt)))) r (slice w-at S, (big, (g, (slice b-at bits′, tt))))
 
--- `ring_busiest(P, Q, o, ask, bits)` answers r, and the lent words are `bits′` at its exit [C1, D8]
+-- `ring_busiest(P, Q, o, ask, bits)` answers r, and the lent words are `bits′` at its exit
 pub record BusyC (P Q : List ℤ) (o : List ℕ) (ask : RankAsked) (bits : List ℕ) (r : Busy) (bits′ : List ℕ) : Type 0 where
   pub κs : Lfts 4
   pub p-at : Place
@@ -197,7 +197,7 @@ pub record BusyC (P Q : List ℤ) (o : List ℕ) (ask : RankAsked) (bits : List 
       r
       (slice p-at P, (slice q-at Q, (slice o-at o, (ask, (slice b-at bits′, tt)))))
 
--- `ring_busiest_pumps(P, Q, k, big, grid, bits)` answers r, and the lent words are `bits′` at its exit [C1, D8]
+-- `ring_busiest_pumps(P, Q, k, big, grid, bits)` answers r, and the lent words are `bits′` at its exit
 pub record PumpC (P Q : List ℤ) (k big : ℕ) (g : Bool) (bits : List ℕ) (r : Busy) (bits′ : List ℕ) : Type 0 where
   pub κs : Lfts 3
   pub p-at : Place
@@ -208,7 +208,7 @@ pub record PumpC (P Q : List ℤ) (k big : ℕ) (g : Bool) (bits : List ℕ) (r 
       r
       (slice p-at P, (slice q-at Q, (k, (big, (g, (slice b-at bits′, tt))))))
 
--- `ring_urgent(P, Q, o, ps, qs, ask, bits)` answers r, and the lent words are `bits′` at its exit [C1, D8]
+-- `ring_urgent(P, Q, o, ps, qs, ask, bits)` answers r, and the lent words are `bits′` at its exit
 pub record UrgentC (P Q : List ℤ) (o ps qs : List ℕ) (ask : RankAsked) (bits : List ℕ) (r : Urgent) (bits′ : List ℕ) : Type 0 where
   pub κs : Lfts 6
   pub p-at : Place

@@ -69,14 +69,14 @@ use Rattle.ranked.specs.Busiest.{busyAnswer, busyBits, pumpAnswer, pumpBits}
 use Rattle.ranked.specs.Urgent.{urgentAnswer, urgentBits}
 use Rattle.ring.proofs.open.open_no.Reads as open-no
 use Rattle.ring.proofs.open.head_of.Reads as head-of
-use Rattle.ring.proofs.point.point.Reads as point
-use Rattle.ring.proofs.position.position.Reads as position
+use Rattle.ring.proofs.reader.point.Reads as point
+use Rattle.ring.proofs.finder.position.Reads as position
 use Rattle.ring.proofs.filter.filter_walk.Reads as filter-walk
 use Rattle.ring.proofs.ringwalk.ring_walk.Reads as ring-walk
-use Rattle.ring.proofs.page.page.Reads as page
+use Rattle.ring.proofs.pages.page.Reads as page
 use Rattle.ring.proofs.own.own_page.Reads as own-page
 use Rattle.shortest.proofs.shortest.Reads as shortest
-use Rattle.ring.proofs.partners.partners.Reads as partners
+use Rattle.ring.proofs.least.partners.Reads as partners
 use Rattle.nearest.proofs.nearest.Reads as nearest
 use Rattle.nearest.proofs.near_filter.Reads as near-filter
 use Rattle.pack.proofs.pack.Reads as pack
@@ -89,8 +89,8 @@ use Rattle.depot.proofs.Depot.begin.Reads as depot-begin
 use Rattle.depot.proofs.forms_array.Reads as forms-array
 use Rattle.depot.proofs.take_array.Reads as store-array
 use Rattle.runs.proofs.run_array.Reads as run-array
-use Rattle.many.proofs.count.count.Reads as count
-use Rattle.many.proofs.count.own_count.Reads as own-count
+use Rattle.many.proofs.tally.count.Reads as count
+use Rattle.many.proofs.tally.own_count.Reads as own-count
 use Rattle.ranked.proofs.busiest.busiest.Reads as busiest
 use Rattle.ranked.proofs.busiest.busiest_pumps.Reads as busiest-pumps
 use Rattle.ranked.proofs.visits.urgent.Reads as urgent
@@ -120,13 +120,13 @@ pub record HeadAnswers (w : List ℤ) (h : Head) : Type 0 where
   pub w-at : Place
   pub promised : head-of.Post κs (slice w-at w, tt) h (slice w-at w, tt)
 
--- `ring::point::point(w, position)` answers r [B1, D1, D7, D8]
+-- `ring::reader::point(w, position)` answers r [B1, D1, D7, D8]
 pub record PointAnswers (w : List ℤ) (position : ℕ) (r : Pointed) : Type 0 where
   pub κs : Lfts 1
   pub w-at : Place
   pub promised : point.Post κs (slice w-at w, (position, tt)) r (slice w-at w, (position, tt))
 
--- `ring::position::position(w, id)` answers r [D8]
+-- `ring::finder::position(w, id)` answers r [D8]
 pub record PlaceAnswers (w : List ℤ) (id : ℕ) (r : Placed) : Type 0 where
   pub κs : Lfts 1
   pub w-at : Place
@@ -150,7 +150,7 @@ pub record RingAnswers (P Q : List ℤ) (j i : ℕ) (g : Bool) (r : Walked) : Ty
   pub q-at : Place
   pub promised : ring-walk.Post κs (slice p-at P, (slice q-at Q, (j, (i, (g, tt))))) r (slice p-at P, (slice q-at Q, (j, (i, (g, tt)))))
 
--- `ring::page::page(P, Q, o, ask, bits)` answers r, and the lent words are `bits′` at its exit [B1, D1, D7, D8]
+-- `ring::pages::page(P, Q, o, ask, bits)` answers r, and the lent words are `bits′` at its exit [B1, D1, D7, D8]
 pub record PageAnswers (P Q : List ℤ) (o : List ℕ) (ask : Request) (bits : List ℕ) (r : Paged) (bits′ : List ℕ) : Type 0 where
   pub κs : Lfts 4
   pub p-at : Place
@@ -178,7 +178,7 @@ OfKind true a o P Q key size bits r bits′ = (P ≡ Q) × (a .threshold ≡ 0) 
 abbrev pub TermsAnswers : Terms → List ℕ → List ℤ → List ℤ → Key → ℕ → List ℕ → Paged → List ℕ → Type 0
 TermsAnswers a o P Q key size bits r bits′ = OfKind (a .own) a o P Q key size bits r bits′
 
--- `ring::partners::partners(P, Q, id, t, bits)` answers r, and the lent words are `bits′` at its exit [D8]
+-- `ring::least::partners(P, Q, id, t, bits)` answers r, and the lent words are `bits′` at its exit [D8]
 pub record PartnersAnswers (P Q : List ℤ) (id t : ℕ) (bits : List ℕ) (r : Partnered) (bits′ : List ℕ) : Type 0 where
   pub κs : Lfts 3
   pub p-at : Place
@@ -309,17 +309,17 @@ pub record RunArrayAnswers (P Q : List ℤ) (leaf : ℕ) (slots : List Pair) (le
 
 -- ---- many pairs at once
 
--- `many::pairs::pairs(P, Q, o, ask, slots, bits)` answers r, and at its exit the slots are `slots′`, the lent words `bits′` [MP11]
+-- `many::batch::pairs(P, Q, o, ask, slots, bits)` answers r, and at its exit the slots are `slots′`, the lent words `bits′` [MP11]
 abbrev pub PairsAnswers : List ℤ → List ℤ → List ℕ → Wanted → List Pair → List ℕ → Many → List Pair → List ℕ → Type 0
 PairsAnswers P Q o ask slots bits r slots′ bits′ =
     (r ≡ pairsAnswer P Q o ask (length slots) (length bits)) × (slots′ ≡ pairsSlots P Q o ask slots (length bits)) × (bits′ ≡ pairsBits P Q o ask bits)
 
--- `many::pairs::own_pairs(S, key, big, grid, slots, bits)` answers r, and at its exit the slots are `slots′`, the lent words `bits′`
+-- `many::batch::own_pairs(S, key, big, grid, slots, bits)` answers r, and at its exit the slots are `slots′`, the lent words `bits′`
 abbrev pub OwnPairsAnswers : List ℤ → Key → ℕ → Bool → List Pair → List ℕ → Many → List Pair → List ℕ → Type 0
 OwnPairsAnswers S key big g slots bits r slots′ bits′ =
     (r ≡ ownPairsAnswer S key big g (length slots) (length bits)) × (slots′ ≡ ownPairsSlots S key big g slots (length bits)) × (bits′ ≡ ownPairsBits S key big g bits)
 
--- `many::count::count(P, Q, o, which, bits)` answers r, and the lent words are `bits′` at its exit [MP11]
+-- `many::tally::count(P, Q, o, which, bits)` answers r, and the lent words are `bits′` at its exit [MP11]
 pub record CountAnswers (P Q : List ℤ) (o : List ℕ) (which : Which) (bits : List ℕ) (r : Counted) (bits′ : List ℕ) : Type 0 where
   pub κs : Lfts 4
   pub p-at : Place
@@ -331,7 +331,7 @@ pub record CountAnswers (P Q : List ℤ) (o : List ℕ) (which : Which) (bits : 
       r
       (slice p-at P, (slice q-at Q, (slice o-at o, (which, (slice b-at bits′, tt)))))
 
--- `many::count::own_count(S, big, grid, bits)` answers r, and the lent words are `bits′` at its exit
+-- `many::tally::own_count(S, big, grid, bits)` answers r, and the lent words are `bits′` at its exit
 pub record OwnCountAnswers (S : List ℤ) (big : ℕ) (g : Bool) (bits : List ℕ) (r : Counted) (bits′ : List ℕ) : Type 0 where
   pub κs : Lfts 2
   pub w-at : Place
@@ -364,7 +364,7 @@ NumberAnswers a o P Q big bits r bits′ = CountOfKind (a .own) a o P Q big bits
 
 -- ---- the first of a list in an order
 
--- `ranked::busiest::busiest(P, Q, o, ask, bits)` answers r, and the lent words are `bits′` at its exit [D8]
+-- `ranked::busiest::busiest(P, Q, o, ask, bits)` answers r, and the lent words are `bits′` at its exit
 pub record BusyAnswers (P Q : List ℤ) (o : List ℕ) (ask : RankAsked) (bits : List ℕ) (r : Busy) (bits′ : List ℕ) : Type 0 where
   pub κs : Lfts 4
   pub p-at : Place
@@ -376,7 +376,7 @@ pub record BusyAnswers (P Q : List ℤ) (o : List ℕ) (ask : RankAsked) (bits :
       r
       (slice p-at P, (slice q-at Q, (slice o-at o, (ask, (slice b-at bits′, tt)))))
 
--- `ranked::busiest::busiest_pumps(P, Q, k, big, grid, bits)` answers r, and the lent words are `bits′` at its exit [D8]
+-- `ranked::busiest::busiest_pumps(P, Q, k, big, grid, bits)` answers r, and the lent words are `bits′` at its exit
 pub record PumpAnswers (P Q : List ℤ) (k big : ℕ) (g : Bool) (bits : List ℕ) (r : Busy) (bits′ : List ℕ) : Type 0 where
   pub κs : Lfts 3
   pub p-at : Place
@@ -387,7 +387,7 @@ pub record PumpAnswers (P Q : List ℤ) (k big : ℕ) (g : Bool) (bits : List �
       r
       (slice p-at P, (slice q-at Q, (k, (big, (g, (slice b-at bits′, tt))))))
 
--- `ranked::visits::urgent(P, Q, o, ps, qs, ask, bits)` answers r, and the lent words are `bits′` at its exit [D8]
+-- `ranked::visits::urgent(P, Q, o, ps, qs, ask, bits)` answers r, and the lent words are `bits′` at its exit
 pub record UrgentAnswers (P Q : List ℤ) (o ps qs : List ℕ) (ask : RankAsked) (bits : List ℕ) (r : Urgent) (bits′ : List ℕ) : Type 0 where
   pub κs : Lfts 6
   pub p-at : Place
@@ -469,15 +469,15 @@ ViewCounts p q o which bits r bits′ = (r ≡ countAnswer (now (p .words)) (now
 abbrev pub ViewOwnCounts : Sheet → ℕ → Bool → List ℕ → Counted → List ℕ → Type 0
 ViewOwnCounts d big g bits r bits′ = (r ≡ ownCountAnswer (now (d .words)) big g (length bits)) × (bits′ ≡ ownCountBits (now (d .words)) big g bits)
 
--- `view::busiest_at(p, q, o, ask, bits)` answers r, and the lent words are `bits′` at its exit [D8]
+-- `view::busiest_at(p, q, o, ask, bits)` answers r, and the lent words are `bits′` at its exit
 abbrev pub ViewBusiest : Sheet → Sheet → List ℕ → RankAsked → List ℕ → Busy → List ℕ → Type 0
 ViewBusiest p q o ask bits r bits′ = (r ≡ busyAnswer (now (p .words)) (now (q .words)) o ask (length bits)) × (bits′ ≡ busyBits (now (p .words)) (now (q .words)) o ask bits)
 
--- `view::busiest_pumps_at(p, q, k, big, grid, bits)` answers r, and the lent words are `bits′` at its exit [D8]
+-- `view::busiest_pumps_at(p, q, k, big, grid, bits)` answers r, and the lent words are `bits′` at its exit
 abbrev pub ViewPumps : Sheet → Sheet → ℕ → ℕ → Bool → List ℕ → Busy → List ℕ → Type 0
 ViewPumps p q k big g bits r bits′ = (r ≡ pumpAnswer (now (p .words)) (now (q .words)) k big g (length bits)) × (bits′ ≡ pumpBits (now (p .words)) (now (q .words)) k big g bits)
 
--- `view::urgent_at(p, q, o, ps, qs, ask, bits)` answers r, and the lent words are `bits′` at its exit [D8]
+-- `view::urgent_at(p, q, o, ps, qs, ask, bits)` answers r, and the lent words are `bits′` at its exit
 abbrev pub ViewUrgent : Sheet → Sheet → List ℕ → List ℕ → List ℕ → RankAsked → List ℕ → Urgent → List ℕ → Type 0
 ViewUrgent p q o ps qs ask bits r bits′ = (r ≡ urgentAnswer (now (p .words)) (now (q .words)) o ps qs ask (length bits)) × (bits′ ≡ urgentBits (now (p .words)) (now (q .words)) o ps qs ask bits)
 

@@ -329,7 +329,7 @@ pub extern "C" fn ring_sheet_len(n: usize) -> usize
 pub extern "C" fn ring_position(words: &[i32], id: u32) -> Placed
     ensures { λ r. ⌜ r ≡ placed (now (words .entry)) id ⌝ }
 {
-    ring::position::position(words, id)
+    ring::finder::position(words, id)
 }
 
 // The record at a position: 0, or 1 to 8, 9.
@@ -337,7 +337,7 @@ pub extern "C" fn ring_position(words: &[i32], id: u32) -> Placed
 pub extern "C" fn ring_point(words: &[i32], position: usize) -> PointAnswer
     ensures { λ r. ⌜ r ≡ pointOver (pointed (now (words .entry)) position) ⌝ }
 {
-    of_pointed(ring::point::point(words, position))
+    of_pointed(ring::reader::point(words, position))
 }
 
 // The filter walk for position j of Q over P, its kept set in the lent words: 0, or 1 to 8 of P, of Q, 9, 24 with the words as they were.
@@ -368,7 +368,7 @@ pub extern "C" fn ring_page(
 ) -> Paged
     ensures { λ r. ⌜ (r ≡ pageAnswer (now (p .entry)) (now (q .entry)) (now (owners .entry)) request (length (now (bits .entry)))) × (now (bits .exit) ≡ pageBits (now (p .entry)) (now (q .entry)) (now (owners .entry)) request (now (bits .entry))) ⌝ }
 {
-    ring::page::page(p, q, owners, request, bits)
+    ring::pages::page(p, q, owners, request, bits)
 }
 
 // The k ring pairs with the smallest squared size, in order: 0, or 1 to 8 of P, of Q, 10, 24.
@@ -404,7 +404,7 @@ pub extern "C" fn ring_partners(
 ) -> Partnered
     ensures { λ r. ⌜ (r ≡ partnersAnswer (now (p .entry)) (now (q .entry)) id t (length (now (bits .entry)))) × (now (bits .exit) ≡ partnersBits (now (p .entry)) (now (q .entry)) id t (now (bits .entry))) ⌝ }
 {
-    ring::partners::partners(p, q, id, t, bits)
+    ring::least::partners(p, q, id, t, bits)
 }
 
 // The pump houses nearest to the chamber with this id, at most `size`, in order: 0, or 1 to 8 of P, of Q, 20, 10, 25 with the lent numbers as they were.
@@ -518,7 +518,7 @@ pub extern "C" fn ring_pairs(
 ) -> Many
     ensures { λ r. ⌜ (r ≡ pairsAnswer (now (p .entry)) (now (q .entry)) (now (owners .entry)) wanted (length (now (slots .entry))) (length (now (bits .entry)))) × (now (slots .exit) ≡ pairsSlots (now (p .entry)) (now (q .entry)) (now (owners .entry)) wanted (now (slots .entry)) (length (now (bits .entry)))) × (now (bits .exit) ≡ pairsBits (now (p .entry)) (now (q .entry)) (now (owners .entry)) wanted (now (bits .entry))) ⌝ }
 {
-    many::pairs::pairs(p, q, owners, wanted, slots, bits)
+    many::batch::pairs(p, q, owners, wanted, slots, bits)
 }
 
 // The same of the self join of one sheet, lower id first: 0, or 1 to 8, 29, 9, 40, 24 with all that is lent as it was.
@@ -533,7 +533,7 @@ pub extern "C" fn ring_own_pairs(
 ) -> Many
     ensures { λ r. ⌜ (r ≡ ownPairsAnswer (now (words .entry)) key largest grid (length (now (slots .entry))) (length (now (bits .entry)))) × (now (slots .exit) ≡ ownPairsSlots (now (words .entry)) key largest grid (now (slots .entry)) (length (now (bits .entry)))) × (now (bits .exit) ≡ ownPairsBits (now (words .entry)) key largest grid (now (bits .entry))) ⌝ }
 {
-    many::pairs::own_pairs(words, key, largest, grid, slots, bits)
+    many::batch::own_pairs(words, key, largest, grid, slots, bits)
 }
 
 // How many pairs such a list has: 0, or 1 to 8 of P, of Q, 27, 26, 29, 21, 40, 24 with the words as they were.
@@ -547,7 +547,7 @@ pub extern "C" fn ring_count(
 ) -> Counted
     ensures { λ r. ⌜ (r ≡ countAnswer (now (p .entry)) (now (q .entry)) (now (owners .entry)) which (length (now (bits .entry)))) × (now (bits .exit) ≡ countBits (now (p .entry)) (now (q .entry)) (now (owners .entry)) which (now (bits .entry))) ⌝ }
 {
-    many::count::count(p, q, owners, which, bits)
+    many::tally::count(p, q, owners, which, bits)
 }
 
 // The same of the self join of one sheet: 0, or 1 to 8, 29, 40, 24 with the words as they were.
@@ -560,7 +560,7 @@ pub extern "C" fn ring_own_count(
 ) -> Counted
     ensures { λ r. ⌜ (r ≡ ownCountAnswer (now (words .entry)) largest grid (length (now (bits .entry)))) × (now (bits .exit) ≡ ownCountBits (now (words .entry)) largest grid (now (bits .entry))) ⌝ }
 {
-    many::count::own_count(words, largest, grid, bits)
+    many::tally::own_count(words, largest, grid, bits)
 }
 
 // Of the contractor's chambers the k that are in the most pairs of the list to a size, in order, ties by the lower id: 0, or 1 to 8 of P, of Q, 27, 26, 29, 10, 40, 24 with the words as they

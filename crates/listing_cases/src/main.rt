@@ -8,8 +8,8 @@ fn list_file(i: u8) {
         os::fail(&name);
         return;
     }
-    let mut room = lister::room();
-    lister::list(fd, &mut room);
+    let mut room = printout::room();
+    printout::list(fd, &mut room);
     libc::close(fd);
 }
 

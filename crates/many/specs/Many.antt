@@ -118,7 +118,7 @@ pairsSlots P Q o a slots bits = answer (pairsNo P Q o a bits) (stored slots (pai
 unfoldable pub pairsBits : List ℤ → List ℤ → List ℕ → Wanted → List ℕ → List ℕ
 pairsBits P Q o a ws = wipedBy (pairsNo P Q o a (length ws)) (need P) ws
 
--- of a self join: the terms of one, which is undivided and has no threshold [MP9, MP10]
+-- of a self join: the terms of one, which is all-chambers and has no threshold [MP9, MP10]
 unfoldable pub ownList : List ℤ → Key → ℕ → Bool → List Pair
 ownList S key big g = after key (listTo big (aloneBy g) [] (pointsOf S) (pointsOf S))
 

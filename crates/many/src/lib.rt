@@ -1,10 +1,10 @@
 // Many pairs of a list at once, and how many a list has. No count of nodes is promised, so each chamber's pump houses are found in whatever way is fast: `seeds` has it.
 mod all;
+pub mod batch;
 mod check;
-pub mod count;
 mod cursor;
-pub mod pairs;
 mod step;
+pub mod tally;
 
 use list::Key;
 

@@ -22,11 +22,11 @@ use Rattle.sheet.proofs.SheetLaws.{by-counts}
 use Rattle.bits.specs.Set.{wordsFor, wiped, Holds}
 use Rattle.bits.proofs.LentLaws.{words-enough, lent-holds, part-long}
 use Rattle.walk.specs.FilterWalk.{Kept}
-use Rattle.near.specs.NearWalk.{nearOrder, nearKept}
-use Rattle.near.specs.Room.{zeroFilled}
-use Rattle.near.specs.Claims.{distanceTo}
-use Rattle.near.proofs.OrderLaws.{order-small}
-use Rattle.near.proofs.Meaning.{near-words}
+use Rattle.outward.specs.NearWalk.{nearOrder, nearKept}
+use Rattle.outward.specs.Room.{zeroFilled}
+use Rattle.outward.specs.Claims.{distanceTo}
+use Rattle.outward.proofs.OrderLaws.{order-small}
+use Rattle.outward.proofs.Meaning.{near-words}
 use Rattle.ring.specs.declared.Filtered.{Filtered}
 use Rattle.list.specs.Pages.{sizeNo}
 use Rattle.ring.specs.Lent.{need, bitsNo}

@@ -34,8 +34,8 @@ use Rattle.join.proofs.Meaning.{points-rise}
 use Rattle.bits.specs.Set.{kept, wiped}
 use Rattle.bits.proofs.LentLaws.{words-enough}
 use Rattle.walk.specs.RingWalk.{clear, pairWalk}
-use Rattle.near.specs.NearWalk.{nearOrder, nearKept}
-use Rattle.near.proofs.Meaning.{near-all, near-words, near-exact}
+use Rattle.outward.specs.NearWalk.{nearOrder, nearKept}
+use Rattle.outward.proofs.Meaning.{near-all, near-words, near-exact}
 use Rattle.ring.specs.declared.Filtered.{Filtered}
 use Rattle.ring.specs.Numbers.{sheetsNo}
 use Rattle.list.specs.Pages.{sizeNo}

@@ -14,8 +14,8 @@ use Rattle.sheet.specs.Layout.{points, nodes}
 use Rattle.sheet.specs.Places.{spotOf, pointsOf}
 use Rattle.sheet.specs.Open.{sheetNo}
 use Rattle.list.specs.Pages.{sizeNo}
-use Rattle.near.specs.NearWalk.{nearOrder, nearKept}
-use Rattle.near.specs.Claims.{distanceTo}
+use Rattle.outward.specs.NearWalk.{nearOrder, nearKept}
+use Rattle.outward.specs.Claims.{distanceTo}
 use Rattle.ring.specs.declared.Filtered.{Filtered}
 use Rattle.sheet.specs.Find.{positionOf}
 use Rattle.ring.specs.Partners.{idNo}

@@ -8,7 +8,7 @@ ghost use lib.ListN.{length};
 ghost use Rattle.bits.specs.Set.{wiped, Holds};
 ghost use Rattle.plane.specs.Rule.{SpotIn};
 ghost use Rattle.sheet.specs.Open.{Opens};
-ghost use Rattle.near.specs.NearWalk.{nearKept};
+ghost use Rattle.outward.specs.NearWalk.{nearKept};
 ghost use Rattle.ring.specs.Answers.{filteredTo, unfiltered};
 ghost use Rattle.nearest.specs.Nearest.{nearestNo, nearFilterNo, unplacedAt, chamberFound, nearAt, nearestAt, nearestRefused, nearestAnswer, nearFiltered, nearFilteredBits, waitedBy};
 
@@ -110,7 +110,7 @@ fn given(p: &[i32], n: usize, m: usize, q: Spot, size: usize, waiting: &mut [u64
     requires { ⌜ Opens (now p) n m × SpotIn q × (size ≤ 16) × (n + m ≤ length (now waiting)) ⌝ }
     ensures { λ r. ⌜ (r ≡ nearestAt (now (p .entry)) q size) × (now (waiting .exit) ≡ wiped (n + m) (now (waiting .entry))) ⌝ }
 {
-    let f = near::order::first_points(p, n, m, q, size, waiting);
+    let f = outward::order::first_points(p, n, m, q, size, waiting);
     let count = f.count;
     let mut points = [Near { id: 0, distance: 0 }; 16];
     let mut k = 0;
@@ -160,7 +160,7 @@ fn kept_on(
     requires { ⌜ Opens (now p) n m × SpotIn q × (n + m ≤ length (now waiting)) × Holds (now bits) n ⌝ }
     ensures { λ r. ⌜ (r ≡ filteredTo (nearKept (length (now (bits .entry))) (now (p .entry)) q)) × (now (waiting .exit) ≡ wiped (n + m) (now (waiting .entry))) × (now (bits .exit) ≡ nearKept (length (now (bits .entry))) (now (p .entry)) q .bits) ⌝ }
 {
-    let opened = near::filter::near_kept(p, n, m, q, bits, waiting);
+    let opened = outward::filter::near_kept(p, n, m, q, bits, waiting);
     Filtered {
         number: 0,
         count: bits::len(bits),

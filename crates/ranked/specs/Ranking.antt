@@ -12,16 +12,16 @@ module _ {A : Type 0} (before : A → A → Bool) where
   putBy v [] = v ∷ []
   putBy v (w ∷ l) = cond (before v w) (v ∷ (w ∷ l)) (w ∷ putBy v l)
 
-  -- a list "in order"
+  -- a list "in order" [BU1]
   unfoldable pub sortedBy : List A → List A
   sortedBy [] = []
   sortedBy (v ∷ l) = putBy v (sortedBy l)
 
-  -- its first k, "fewer if there are fewer"
+  -- its first k, "fewer if there are fewer" [BU1]
   unfoldable pub firstBy : ℕ → List A → List A
   firstBy k l = take k (sortedBy l)
 
--- sixteen of them, the unused ones zeros
+-- sixteen of them, the unused ones zeros [BU1]
 unfoldable pub sixteen : {A : Type 0} → A → List A → List A
 sixteen z l = l ++ replicate (16 - length l) z
 

@@ -27,8 +27,8 @@ use Rattle.list.specs.Pages.{sizeNo}
 use Rattle.list.specs.RingList.{unblocked, ringPairBy, ringPair}
 use Rattle.walk.specs.Walk.{inTurn}
 use Rattle.walk.specs.FilterWalk.{Kept, soFar, dropped, shut, consider}
-use Rattle.near.specs.Waiting.{pointEntry, boxEntry, covered, distance, before, insert, withCovered}
-use Rattle.near.specs.NearWalk.{rootWaits, nearSteps, nearAll, nearOrder, nearKept, nearKeeps}
+use Rattle.outward.specs.Waiting.{pointEntry, boxEntry, covered, distance, before, insert, withCovered}
+use Rattle.outward.specs.NearWalk.{rootWaits, nearSteps, nearAll, nearOrder, nearKept, nearKeeps}
 use Rattle.ring.specs.Lent.{need, bitsNo, wipedBy}
 use Rattle.ring.specs.Partners.{idNo}
 use Rattle.nearest.specs.Nearest.{waitNo, nearestNo, nearFilterNo, waitedBy}

@@ -1,12 +1,12 @@
 // The calls open to callers, on plain slices: every input is answered, and a refusal gives only its number.
 // Each checks its sheets first, P then Q, by 1 to 8; then its positions by 9. A well-formed sheet is checked once a call.
 pub mod filter;
+pub mod finder;
+pub mod least;
 pub mod open;
 pub mod own;
-pub mod page;
-pub mod partners;
-pub mod point;
-pub mod position;
+pub mod pages;
+pub mod reader;
 pub mod ringwalk;
 
 use list::Page;

@@ -16,15 +16,15 @@ pub fn own_page(s: &[i32], key: Key, size: usize, grid: bool, bits: &mut [u64]) 
 {
     let h = crate::open::head_of(s);
     if h.number != 0 {
-        return crate::page::refused(h.number);
+        return crate::pages::refused(h.number);
     }
-    let asked = crate::page::asked_no(s, s, grid, key, size, 0);
+    let asked = crate::pages::asked_no(s, s, grid, key, size, 0);
     if asked != 0 {
-        return crate::page::refused(asked);
+        return crate::pages::refused(asked);
     }
     let w = bits::words_for(h.n);
     if bits.len() < w {
-        return crate::page::refused(24);
+        return crate::pages::refused(24);
     }
     let hs = Size { n: h.n, m: h.m };
     let terms = Terms {
@@ -38,5 +38,5 @@ pub fn own_page(s: &[i32], key: Key, size: usize, grid: bool, bits: &mut [u64]) 
         size: size,
         terms: terms,
     };
-    crate::page::given(s, hs, s, hs, b"", ask, &mut bits[..w])
+    crate::pages::given(s, hs, s, hs, b"", ask, &mut bits[..w])
 }

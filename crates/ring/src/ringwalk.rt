@@ -13,7 +13,7 @@ pub fn ring_walk(p: &[i32], q: &[i32], j: usize, i: usize, grid: bool) -> Walked
     if h.number != 0 {
         return Walked::Refused(h.number);
     }
-    let form = crate::page::grid_no(p, q, grid);
+    let form = crate::pages::grid_no(p, q, grid);
     if form != 0 {
         return Walked::Refused(form);
     }

@@ -49,7 +49,7 @@ fn found(
 {
     let mut own = slots;
     let n = lent_of(len);
-    let many = many::pairs::pairs(p, q, owners, wanted, &mut own[..n], bits);
+    let many = many::batch::pairs(p, q, owners, wanted, &mut own[..n], bits);
     with_slots(own, many)
 }
 
@@ -67,7 +67,7 @@ fn own_found(
 {
     let mut own = slots;
     let n = lent_of(len);
-    let many = many::pairs::own_pairs(s, key, largest, grid, &mut own[..n], bits);
+    let many = many::batch::own_pairs(s, key, largest, grid, &mut own[..n], bits);
     with_slots(own, many)
 }
 
@@ -173,7 +173,7 @@ pub fn count_case(p: &[i32], q: &[i32], bits: &mut [u64]) {
     };
     say::say(b"count");
     print_which(largest, threshold, grid, contractor, len);
-    print_counted(many::count::count(p, q, &owners[..len], which, bits));
+    print_counted(many::tally::count(p, q, &owners[..len], which, bits));
 }
 
 // The largest size and a profile, of a self join.
@@ -183,5 +183,5 @@ pub fn own_count_case(s: &[i32], bits: &mut [u64]) {
     say::say(b"own count");
     say::number(largest);
     pages::print_mark(grid);
-    print_counted(many::count::own_count(s, largest, grid, bits));
+    print_counted(many::tally::own_count(s, largest, grid, bits));
 }

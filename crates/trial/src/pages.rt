@@ -46,7 +46,7 @@ fn paged(p: &[i32], q: &[i32], owners: &[u8], request: Request, bits: &mut [u64]
     say::number(request.contractor as u64);
     say::number(owners.len() as u64);
     say::say(b":");
-    let r = ring::page::page(p, q, owners, request, bits);
+    let r = ring::pages::page(p, q, owners, request, bits);
     say::number(r.number as u64);
     say::number(r.opened);
     let page = r.page;
@@ -102,7 +102,7 @@ pub fn partners_case(p: &[i32], q: &[i32], bits: &mut [u64]) {
     say::number(id as u64);
     say::number(t as u64);
     say::say(b":");
-    let r = ring::partners::partners(p, q, id, t, bits);
+    let r = ring::least::partners(p, q, id, t, bits);
     say::number(r.number as u64);
     say::number(r.count as u64);
     print_mark(r.enough);

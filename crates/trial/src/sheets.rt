@@ -39,7 +39,7 @@ fn read(s: &[i32], position: usize) {
     say::say(b"point");
     say::number(position as u64);
     say::say(b":");
-    print_point(ring::point::point(s, position));
+    print_point(ring::reader::point(s, position));
     say::end_line();
 }
 

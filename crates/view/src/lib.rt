@@ -77,7 +77,7 @@ pub fn open<'a>(words: &'a [i32]) -> Opened<'a>
 pub fn point_at<'a>(sheet: Sheet<'a>, position: usize) -> Pointed
     ensures { λ r. ⌜ r ≡ pointed (now (sheet .entry .words)) position ⌝ }
 {
-    ring::point::point(sheet.words, position)
+    ring::reader::point(sheet.words, position)
 }
 
 // The filter walk for position j of Q over P, its kept set in the words lent; refused by 1 to 8 of P's words, then of Q's, then by 9, then by 24.
@@ -110,7 +110,7 @@ pub fn page_at<'a, 'b, 'c, 'd>(
 ) -> Paged
     ensures { λ r. ⌜ (r ≡ pageAnswer (now (p .entry .words)) (now (q .entry .words)) (now (owners .entry)) request (length (now (bits .entry)))) × (now (bits .exit) ≡ pageBits (now (p .entry .words)) (now (q .entry .words)) (now (owners .entry)) request (now (bits .entry))) ⌝ }
 {
-    ring::page::page(p.words, q.words, owners, request, bits)
+    ring::pages::page(p.words, q.words, owners, request, bits)
 }
 
 // The page of a self join that follows a key; of a profile; refused by 1 to 8 of the words, then by 29, by 9 for the key, by 10 for the size, by 24 for the words lent.
@@ -136,7 +136,7 @@ pub fn partners_at<'a, 'b, 'c>(
 ) -> Partnered
     ensures { λ r. ⌜ (r ≡ partnersAnswer (now (p .entry .words)) (now (q .entry .words)) id t (length (now (bits .entry)))) × (now (bits .exit) ≡ partnersBits (now (p .entry .words)) (now (q .entry .words)) id t (now (bits .entry))) ⌝ }
 {
-    ring::partners::partners(p.words, q.words, id, t, bits)
+    ring::least::partners(p.words, q.words, id, t, bits)
 }
 
 // The ring pairs of the chambers of a leaf of Q, in the lent slots; refused by 1 to 8 of P's words, then of Q's, then by 19, then by 24, then by 16.
@@ -203,7 +203,7 @@ pub fn pairs_at<'a, 'b, 'c, 'd, 'e>(
 ) -> Many
     ensures { λ r. ⌜ (r ≡ pairsAnswer (now (p .entry .words)) (now (q .entry .words)) (now (owners .entry)) wanted (length (now (slots .entry))) (length (now (bits .entry)))) × (now (slots .exit) ≡ pairsSlots (now (p .entry .words)) (now (q .entry .words)) (now (owners .entry)) wanted (now (slots .entry)) (length (now (bits .entry)))) × (now (bits .exit) ≡ pairsBits (now (p .entry .words)) (now (q .entry .words)) (now (owners .entry)) wanted (now (bits .entry))) ⌝ }
 {
-    many::pairs::pairs(p.words, q.words, owners, wanted, slots, bits)
+    many::batch::pairs(p.words, q.words, owners, wanted, slots, bits)
 }
 
 // The same of a self join; refused by 1 to 8 of the words, then by 29, by 9 for the key, by 40 for the largest size, by 24 for the words lent.
@@ -217,7 +217,7 @@ pub fn own_pairs_at<'a, 'b, 'c>(
 ) -> Many
     ensures { λ r. ⌜ (r ≡ ownPairsAnswer (now (sheet .entry .words)) key largest grid (length (now (slots .entry))) (length (now (bits .entry)))) × (now (slots .exit) ≡ ownPairsSlots (now (sheet .entry .words)) key largest grid (now (slots .entry)) (length (now (bits .entry)))) × (now (bits .exit) ≡ ownPairsBits (now (sheet .entry .words)) key largest grid (now (bits .entry))) ⌝ }
 {
-    many::pairs::own_pairs(sheet.words, key, largest, grid, slots, bits)
+    many::batch::own_pairs(sheet.words, key, largest, grid, slots, bits)
 }
 
 // How many pairs such a list has; refused by 1 to 8 of P's words, then of Q's, then by 27, by 26, by 29, by 21, by 40, by 24.
@@ -230,7 +230,7 @@ pub fn count_at<'a, 'b, 'c, 'd>(
 ) -> Counted
     ensures { λ r. ⌜ (r ≡ countAnswer (now (p .entry .words)) (now (q .entry .words)) (now (owners .entry)) which (length (now (bits .entry)))) × (now (bits .exit) ≡ countBits (now (p .entry .words)) (now (q .entry .words)) (now (owners .entry)) which (now (bits .entry))) ⌝ }
 {
-    many::count::count(p.words, q.words, owners, which, bits)
+    many::tally::count(p.words, q.words, owners, which, bits)
 }
 
 // The same of a self join; refused by 1 to 8 of the words, then by 29, by 40, by 24.
@@ -242,7 +242,7 @@ pub fn own_count_at<'a, 'b>(
 ) -> Counted
     ensures { λ r. ⌜ (r ≡ ownCountAnswer (now (sheet .entry .words)) largest grid (length (now (bits .entry)))) × (now (bits .exit) ≡ ownCountBits (now (sheet .entry .words)) largest grid (now (bits .entry))) ⌝ }
 {
-    many::count::own_count(sheet.words, largest, grid, bits)
+    many::tally::own_count(sheet.words, largest, grid, bits)
 }
 
 // The busiest chambers of a list to a size; refused by 1 to 8 of P's words, then of Q's, then by 27 for the contractor, by 26 for the owner bytes, by 29, by 10 for k, by 40 for the largest size,

@@ -1,5 +1,5 @@
 -- `ffi::ring_own_pairs` meets its contract: a walk of its code.
--- It calls `many::pairs::own_pairs`, and all that the proof knows of `own_pairs` is that it meets its own contract.
+-- It calls `many::batch::own_pairs`, and all that the proof knows of `own_pairs` is that it meets its own contract.
 -- Written by tools/thin. Assumes nothing.
 use mathlib.Core.Path.{_≡_, refl}
 use mathlib.Core.Bool.{Bool}
@@ -49,10 +49,10 @@ use Rattle.list.proofs.Key as tKey
 use Rattle.list.proofs.Key.Laws as tKey-laws
 use Rattle.list.specs.declared.Pair.{Pair}
 use Rattle.list.proofs.Pair as tPair
-use Rattle.many.proofs.pairs.own_pairs as own-pairs″
-use Rattle.many.proofs.pairs.own_pairs.Symbol as own-pairs″-def
-use Rattle.many.proofs.pairs.own_pairs.Symbol.{name as #callee}
-use Rattle.many.proofs.pairs.own_pairs.Met as own-pairs″-thm
+use Rattle.many.proofs.batch.own_pairs as own-pairs″
+use Rattle.many.proofs.batch.own_pairs.Symbol as own-pairs″-def
+use Rattle.many.proofs.batch.own_pairs.Symbol.{name as #callee}
+use Rattle.many.proofs.batch.own_pairs.Met as own-pairs″-thm
 use Rattle.ffi.proofs.ring_own_pairs.Key.{name as #self}
 use Rattle.ffi.proofs.ring_own_pairs as ring-own-pairs′
 use Rattle.ffi.proofs.ring_own_pairs.Statement as stated
@@ -149,4 +149,4 @@ ring-own-pairs-spec 𝓤 H 𝓜 𝓖 𝓡 =
     entered 𝓤 H (tripleOf 𝓤 H (𝓖 .A) ring-own-pairs′.signature (ring-own-pairs′.spec 𝓤 H (𝓖 .A) (𝓜 .mem) (𝓡 .run)))
     (tables 𝓤 H 𝓜 𝓡 code.env .C) (tables 𝓤 H 𝓜 𝓡 code.env .Λ) #self code.function (code.unfolded 𝓤 H 𝓜 𝓡)
     (meets 𝓤 H (𝓖 .A) (givenOf 𝓤 H 𝓜 𝓖) (𝓜 .mem) (𝓡 .run) (tablesOf 𝓤 H 𝓜 (tables 𝓤 H 𝓜 𝓡 code.env))
-    (cited 𝓤 H (Callee 𝓤 H (𝓖 .A) (𝓜 .mem) (𝓡 .run)) 𝓜 𝓡 code.env #callee own-pairs″-def.routine code.calls-many·pairs·own-pairs (own-pairs″-thm.met 𝓤 H 𝓜 𝓖 𝓡)))
+    (cited 𝓤 H (Callee 𝓤 H (𝓖 .A) (𝓜 .mem) (𝓡 .run)) 𝓜 𝓡 code.env #callee own-pairs″-def.routine code.calls-many·batch·own-pairs (own-pairs″-thm.met 𝓤 H 𝓜 𝓖 𝓡)))

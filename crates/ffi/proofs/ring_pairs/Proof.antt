@@ -1,5 +1,5 @@
 -- `ffi::ring_pairs` meets its contract: a walk of its code.
--- It calls `many::pairs::pairs`, and all that the proof knows of `pairs` is that it meets its own contract.
+-- It calls `many::batch::pairs`, and all that the proof knows of `pairs` is that it meets its own contract.
 -- Written by tools/thin. Assumes nothing.
 use mathlib.Core.Path.{_≡_, refl}
 use Prim.Native.Nat.{ℕ}
@@ -47,10 +47,10 @@ use Rattle.many.proofs.Wanted as tWanted
 use Rattle.many.proofs.Wanted.Laws as tWanted-laws
 use Rattle.list.specs.declared.Pair.{Pair}
 use Rattle.list.proofs.Pair as tPair
-use Rattle.many.proofs.pairs.pairs as pairs″
-use Rattle.many.proofs.pairs.pairs.Symbol as pairs″-def
-use Rattle.many.proofs.pairs.pairs.Symbol.{name as #callee}
-use Rattle.many.proofs.pairs.pairs.Met as pairs″-thm
+use Rattle.many.proofs.batch.pairs as pairs″
+use Rattle.many.proofs.batch.pairs.Symbol as pairs″-def
+use Rattle.many.proofs.batch.pairs.Symbol.{name as #callee}
+use Rattle.many.proofs.batch.pairs.Met as pairs″-thm
 use Rattle.ffi.proofs.ring_pairs.Key.{name as #self}
 use Rattle.ffi.proofs.ring_pairs as ring-pairs′
 use Rattle.ffi.proofs.ring_pairs.Statement as stated
@@ -147,4 +147,4 @@ ring-pairs-spec 𝓤 H 𝓜 𝓖 𝓡 =
     entered 𝓤 H (tripleOf 𝓤 H (𝓖 .A) ring-pairs′.signature (ring-pairs′.spec 𝓤 H (𝓖 .A) (𝓜 .mem) (𝓡 .run)))
     (tables 𝓤 H 𝓜 𝓡 code.env .C) (tables 𝓤 H 𝓜 𝓡 code.env .Λ) #self code.function (code.unfolded 𝓤 H 𝓜 𝓡)
     (meets 𝓤 H (𝓖 .A) (givenOf 𝓤 H 𝓜 𝓖) (𝓜 .mem) (𝓡 .run) (tablesOf 𝓤 H 𝓜 (tables 𝓤 H 𝓜 𝓡 code.env))
-    (cited 𝓤 H (Callee 𝓤 H (𝓖 .A) (𝓜 .mem) (𝓡 .run)) 𝓜 𝓡 code.env #callee pairs″-def.routine code.calls-many·pairs·pairs (pairs″-thm.met 𝓤 H 𝓜 𝓖 𝓡)))
+    (cited 𝓤 H (Callee 𝓤 H (𝓖 .A) (𝓜 .mem) (𝓡 .run)) 𝓜 𝓡 code.env #callee pairs″-def.routine code.calls-many·batch·pairs (pairs″-thm.met 𝓤 H 𝓜 𝓖 𝓡)))

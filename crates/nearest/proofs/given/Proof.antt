@@ -3,7 +3,7 @@ use mathlib.Core.Path.{_≡_, refl, ap, _∙_}
 use Prim.Native.Nat.{_-_, _≤_, _<_}
 use native.Mathlib.Omega.{arith}
 use lib.ListN.{length, take, length-set}
-use Rattle.near.specs.NearWalk.{nearOrder}
+use Rattle.outward.specs.NearWalk.{nearOrder}
 use Rattle.nearest.specs.Nearest.{nearAt}
 use Rattle.nearest.proofs.AnswerLaws.{Listing, listing-start, listing-step, listing-end, padded-at, first-small, first-few, nearest-found-is}
 use Rattle.nearest.proofs.given.Statement.{statement}

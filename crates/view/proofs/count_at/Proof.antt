@@ -1,5 +1,5 @@
 -- `view::count_at` meets its contract: a walk of its code.
--- It calls `many::count::count`, and all that the proof knows of `count` is that it meets its own contract.
+-- It calls `many::tally::count`, and all that the proof knows of `count` is that it meets its own contract.
 -- Written by tools/thin. Assumes nothing.
 use mathlib.Core.Path.{_≡_, refl}
 use Prim.Native.Nat.{ℕ}
@@ -50,10 +50,10 @@ use Rattle.many.proofs.Counted.Laws as tCounted-laws
 use Rattle.many.specs.declared.Which.{Which}
 use Rattle.many.proofs.Which as tWhich
 use Rattle.many.proofs.Which.Laws as tWhich-laws
-use Rattle.many.proofs.count.count as count″
-use Rattle.many.proofs.count.count.Symbol as count″-def
-use Rattle.many.proofs.count.count.Symbol.{name as #callee}
-use Rattle.many.proofs.count.count.Met as count″-thm
+use Rattle.many.proofs.tally.count as count″
+use Rattle.many.proofs.tally.count.Symbol as count″-def
+use Rattle.many.proofs.tally.count.Symbol.{name as #callee}
+use Rattle.many.proofs.tally.count.Met as count″-thm
 use Rattle.view.proofs.count_at.Key.{name as #self}
 use Rattle.view.proofs.count_at as count-at′
 use Rattle.view.proofs.count_at.Statement as stated
@@ -157,4 +157,4 @@ count-at-spec 𝓤 H 𝓜 𝓖 𝓡 =
     entered 𝓤 H (tripleOf 𝓤 H (𝓖 .A) count-at′.signature (count-at′.spec 𝓤 H (𝓖 .A) (𝓜 .mem) (𝓡 .run)))
     (tables 𝓤 H 𝓜 𝓡 code.env .C) (tables 𝓤 H 𝓜 𝓡 code.env .Λ) #self code.function (code.unfolded 𝓤 H 𝓜 𝓡)
     (meets 𝓤 H (𝓖 .A) (givenOf 𝓤 H 𝓜 𝓖) (𝓜 .mem) (𝓡 .run) (tablesOf 𝓤 H 𝓜 (tables 𝓤 H 𝓜 𝓡 code.env))
-    (cited 𝓤 H (Callee 𝓤 H (𝓖 .A) (𝓜 .mem) (𝓡 .run)) 𝓜 𝓡 code.env #callee count″-def.routine code.calls-many·count·count (count″-thm.met 𝓤 H 𝓜 𝓖 𝓡)))
+    (cited 𝓤 H (Callee 𝓤 H (𝓖 .A) (𝓜 .mem) (𝓡 .run)) 𝓜 𝓡 code.env #callee count″-def.routine code.calls-many·tally·count (count″-thm.met 𝓤 H 𝓜 𝓖 𝓡)))

@@ -1,5 +1,5 @@
 -- `view::own_count_at` meets its contract: a walk of its code.
--- It calls `many::count::own_count`, and all that the proof knows of `own_count` is that it meets its own contract.
+-- It calls `many::tally::own_count`, and all that the proof knows of `own_count` is that it meets its own contract.
 -- Written by tools/thin. Assumes nothing.
 use mathlib.Core.Path.{_≡_, refl}
 use mathlib.Core.Bool.{Bool}
@@ -49,10 +49,10 @@ use Rattle.view.proofs.Sheet.Laws as T′
 use Rattle.many.specs.declared.Counted.{Counted}
 use Rattle.many.proofs.Counted as tCounted
 use Rattle.many.proofs.Counted.Laws as tCounted-laws
-use Rattle.many.proofs.count.own_count as own-count″
-use Rattle.many.proofs.count.own_count.Symbol as own-count″-def
-use Rattle.many.proofs.count.own_count.Symbol.{name as #callee}
-use Rattle.many.proofs.count.own_count.Met as own-count″-thm
+use Rattle.many.proofs.tally.own_count as own-count″
+use Rattle.many.proofs.tally.own_count.Symbol as own-count″-def
+use Rattle.many.proofs.tally.own_count.Symbol.{name as #callee}
+use Rattle.many.proofs.tally.own_count.Met as own-count″-thm
 use Rattle.view.proofs.own_count_at.Key.{name as #self}
 use Rattle.view.proofs.own_count_at as own-count-at′
 use Rattle.view.proofs.own_count_at.Statement as stated
@@ -152,4 +152,4 @@ own-count-at-spec 𝓤 H 𝓜 𝓖 𝓡 =
     entered 𝓤 H (tripleOf 𝓤 H (𝓖 .A) own-count-at′.signature (own-count-at′.spec 𝓤 H (𝓖 .A) (𝓜 .mem) (𝓡 .run)))
     (tables 𝓤 H 𝓜 𝓡 code.env .C) (tables 𝓤 H 𝓜 𝓡 code.env .Λ) #self code.function (code.unfolded 𝓤 H 𝓜 𝓡)
     (meets 𝓤 H (𝓖 .A) (givenOf 𝓤 H 𝓜 𝓖) (𝓜 .mem) (𝓡 .run) (tablesOf 𝓤 H 𝓜 (tables 𝓤 H 𝓜 𝓡 code.env))
-    (cited 𝓤 H (Callee 𝓤 H (𝓖 .A) (𝓜 .mem) (𝓡 .run)) 𝓜 𝓡 code.env #callee own-count″-def.routine code.calls-many·count·own-count (own-count″-thm.met 𝓤 H 𝓜 𝓖 𝓡)))
+    (cited 𝓤 H (Callee 𝓤 H (𝓖 .A) (𝓜 .mem) (𝓡 .run)) 𝓜 𝓡 code.env #callee own-count″-def.routine code.calls-many·tally·own-count (own-count″-thm.met 𝓤 H 𝓜 𝓖 𝓡)))

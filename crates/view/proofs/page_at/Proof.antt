@@ -1,5 +1,5 @@
 -- `view::page_at` meets its contract: a walk of its code.
--- It calls `ring::page::page`, and all that the proof knows of `page` is that it meets its own contract.
+-- It calls `ring::pages::page`, and all that the proof knows of `page` is that it meets its own contract.
 -- Written by tools/thin. Assumes nothing.
 use mathlib.Core.Path.{_≡_, refl}
 use Prim.Native.Nat.{ℕ}
@@ -50,10 +50,10 @@ use Rattle.ring.proofs.Paged.Laws as tPaged-laws
 use Rattle.list.specs.declared.Request.{Request}
 use Rattle.list.proofs.Request as tRequest
 use Rattle.list.proofs.Request.Laws as tRequest-laws
-use Rattle.ring.proofs.page.page as page″
-use Rattle.ring.proofs.page.page.Symbol as page″-def
-use Rattle.ring.proofs.page.page.Symbol.{name as #callee}
-use Rattle.ring.proofs.page.page.Met as page″-thm
+use Rattle.ring.proofs.pages.page as page″
+use Rattle.ring.proofs.pages.page.Symbol as page″-def
+use Rattle.ring.proofs.pages.page.Symbol.{name as #callee}
+use Rattle.ring.proofs.pages.page.Met as page″-thm
 use Rattle.view.proofs.page_at.Key.{name as #self}
 use Rattle.view.proofs.page_at as page-at′
 use Rattle.view.proofs.page_at.Statement as stated
@@ -157,4 +157,4 @@ page-at-spec 𝓤 H 𝓜 𝓖 𝓡 =
     entered 𝓤 H (tripleOf 𝓤 H (𝓖 .A) page-at′.signature (page-at′.spec 𝓤 H (𝓖 .A) (𝓜 .mem) (𝓡 .run)))
     (tables 𝓤 H 𝓜 𝓡 code.env .C) (tables 𝓤 H 𝓜 𝓡 code.env .Λ) #self code.function (code.unfolded 𝓤 H 𝓜 𝓡)
     (meets 𝓤 H (𝓖 .A) (givenOf 𝓤 H 𝓜 𝓖) (𝓜 .mem) (𝓡 .run) (tablesOf 𝓤 H 𝓜 (tables 𝓤 H 𝓜 𝓡 code.env))
-    (cited 𝓤 H (Callee 𝓤 H (𝓖 .A) (𝓜 .mem) (𝓡 .run)) 𝓜 𝓡 code.env #callee page″-def.routine code.calls-ring·page·page (page″-thm.met 𝓤 H 𝓜 𝓖 𝓡)))
+    (cited 𝓤 H (Callee 𝓤 H (𝓖 .A) (𝓜 .mem) (𝓡 .run)) 𝓜 𝓡 code.env #callee page″-def.routine code.calls-ring·pages·page (page″-thm.met 𝓤 H 𝓜 𝓖 𝓡)))

@@ -1,5 +1,5 @@
 -- `view::partners_at` meets its contract: a walk of its code.
--- It calls `ring::partners::partners`, and all that the proof knows of `partners` is that it meets its own contract.
+-- It calls `ring::least::partners`, and all that the proof knows of `partners` is that it meets its own contract.
 -- Written by tools/thin. Assumes nothing.
 use mathlib.Core.Path.{_≡_, refl}
 use Prim.Native.Nat.{ℕ}
@@ -48,10 +48,10 @@ use Rattle.view.proofs.Sheet.Laws as T′
 use Rattle.ring.specs.declared.Partnered.{Partnered}
 use Rattle.ring.proofs.Partnered as tPartnered
 use Rattle.ring.proofs.Partnered.Laws as tPartnered-laws
-use Rattle.ring.proofs.partners.partners as partners″
-use Rattle.ring.proofs.partners.partners.Symbol as partners″-def
-use Rattle.ring.proofs.partners.partners.Symbol.{name as #callee}
-use Rattle.ring.proofs.partners.partners.Met as partners″-thm
+use Rattle.ring.proofs.least.partners as partners″
+use Rattle.ring.proofs.least.partners.Symbol as partners″-def
+use Rattle.ring.proofs.least.partners.Symbol.{name as #callee}
+use Rattle.ring.proofs.least.partners.Met as partners″-thm
 use Rattle.view.proofs.partners_at.Key.{name as #self}
 use Rattle.view.proofs.partners_at as partners-at′
 use Rattle.view.proofs.partners_at.Statement as stated
@@ -155,4 +155,4 @@ partners-at-spec 𝓤 H 𝓜 𝓖 𝓡 =
     entered 𝓤 H (tripleOf 𝓤 H (𝓖 .A) partners-at′.signature (partners-at′.spec 𝓤 H (𝓖 .A) (𝓜 .mem) (𝓡 .run)))
     (tables 𝓤 H 𝓜 𝓡 code.env .C) (tables 𝓤 H 𝓜 𝓡 code.env .Λ) #self code.function (code.unfolded 𝓤 H 𝓜 𝓡)
     (meets 𝓤 H (𝓖 .A) (givenOf 𝓤 H 𝓜 𝓖) (𝓜 .mem) (𝓡 .run) (tablesOf 𝓤 H 𝓜 (tables 𝓤 H 𝓜 𝓡 code.env))
-    (cited 𝓤 H (Callee 𝓤 H (𝓖 .A) (𝓜 .mem) (𝓡 .run)) 𝓜 𝓡 code.env #callee partners″-def.routine code.calls-ring·partners·partners (partners″-thm.met 𝓤 H 𝓜 𝓖 𝓡)))
+    (cited 𝓤 H (Callee 𝓤 H (𝓖 .A) (𝓜 .mem) (𝓡 .run)) 𝓜 𝓡 code.env #callee partners″-def.routine code.calls-ring·least·partners (partners″-thm.met 𝓤 H 𝓜 𝓖 𝓡)))

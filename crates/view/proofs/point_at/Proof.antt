@@ -1,5 +1,5 @@
 -- `view::point_at` meets its contract: a walk of its code.
--- It calls `ring::point::point`, and all that the proof knows of `point` is that it meets its own contract.
+-- It calls `ring::reader::point`, and all that the proof knows of `point` is that it meets its own contract.
 -- Written by tools/thin. Assumes nothing.
 use mathlib.Core.Path.{_≡_, refl}
 use Prim.Native.Nat.{ℕ}
@@ -48,10 +48,10 @@ use Rattle.view.proofs.Sheet.Laws as T′
 use Rattle.ring.specs.declared.Pointed.{Pointed}
 use Rattle.ring.proofs.Pointed as tPointed
 use Rattle.ring.proofs.Pointed.Laws as tPointed-laws
-use Rattle.ring.proofs.point.point as point″
-use Rattle.ring.proofs.point.point.Symbol as point″-def
-use Rattle.ring.proofs.point.point.Symbol.{name as #callee}
-use Rattle.ring.proofs.point.point.Met as point″-thm
+use Rattle.ring.proofs.reader.point as point″
+use Rattle.ring.proofs.reader.point.Symbol as point″-def
+use Rattle.ring.proofs.reader.point.Symbol.{name as #callee}
+use Rattle.ring.proofs.reader.point.Met as point″-thm
 use Rattle.view.proofs.point_at.Key.{name as #self}
 use Rattle.view.proofs.point_at as point-at′
 use Rattle.view.proofs.point_at.Statement as stated
@@ -150,4 +150,4 @@ point-at-spec 𝓤 H 𝓜 𝓖 𝓡 =
     entered 𝓤 H (tripleOf 𝓤 H (𝓖 .A) point-at′.signature (point-at′.spec 𝓤 H (𝓖 .A) (𝓜 .mem) (𝓡 .run)))
     (tables 𝓤 H 𝓜 𝓡 code.env .C) (tables 𝓤 H 𝓜 𝓡 code.env .Λ) #self code.function (code.unfolded 𝓤 H 𝓜 𝓡)
     (meets 𝓤 H (𝓖 .A) (givenOf 𝓤 H 𝓜 𝓖) (𝓜 .mem) (𝓡 .run) (tablesOf 𝓤 H 𝓜 (tables 𝓤 H 𝓜 𝓡 code.env))
-    (cited 𝓤 H (Callee 𝓤 H (𝓖 .A) (𝓜 .mem) (𝓡 .run)) 𝓜 𝓡 code.env #callee point″-def.routine code.calls-ring·point·point (point″-thm.met 𝓤 H 𝓜 𝓖 𝓡)))
+    (cited 𝓤 H (Callee 𝓤 H (𝓖 .A) (𝓜 .mem) (𝓡 .run)) 𝓜 𝓡 code.env #callee point″-def.routine code.calls-ring·reader·point (point″-thm.met 𝓤 H 𝓜 𝓖 𝓡)))

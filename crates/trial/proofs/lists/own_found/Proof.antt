@@ -74,10 +74,10 @@ use Rattle.trial.proofs.lists.with_slots as making
 use Rattle.trial.proofs.lists.with_slots.Symbol as with-def
 use Rattle.trial.proofs.lists.with_slots.Symbol.{name as #with-slots}
 use Rattle.trial.proofs.lists.with_slots.Met as with-thm
-use Rattle.many.proofs.pairs.own_pairs as callee
-use Rattle.many.proofs.pairs.own_pairs.Symbol as callee-def
-use Rattle.many.proofs.pairs.own_pairs.Symbol.{name as #callee}
-use Rattle.many.proofs.pairs.own_pairs.Met as callee-thm
+use Rattle.many.proofs.batch.own_pairs as callee
+use Rattle.many.proofs.batch.own_pairs.Symbol as callee-def
+use Rattle.many.proofs.batch.own_pairs.Symbol.{name as #callee}
+use Rattle.many.proofs.batch.own_pairs.Met as callee-thm
 use Rattle.trial.proofs.lists.own_found.Key.{name as #self}
 use Rattle.trial.proofs.lists.own_found as self
 use Rattle.trial.proofs.lists.own_found.Statement as stated
@@ -289,5 +289,5 @@ own-found-spec 𝓤 H 𝓜 𝓖 𝓡 =
     (tables 𝓤 H 𝓜 𝓡 code.env .C) (tables 𝓤 H 𝓜 𝓡 code.env .Λ) #self code.function (code.unfolded 𝓤 H 𝓜 𝓡)
     (meets 𝓤 H (𝓖 .A) (givenOf 𝓤 H 𝓜 𝓖) (𝓜 .mem) (𝓡 .run) (tablesOf 𝓤 H 𝓜 (tables 𝓤 H 𝓜 𝓡 code.env))
     (cited 𝓤 H (Lent 𝓤 H (𝓖 .A) (𝓜 .mem) (𝓡 .run)) 𝓜 𝓡 code.env #lent-of lent-def.routine code.calls-trial·lists·lent-of (lent-thm.met 𝓤 H 𝓜 𝓖 𝓡))
-    (cited 𝓤 H (Callee 𝓤 H (𝓖 .A) (𝓜 .mem) (𝓡 .run)) 𝓜 𝓡 code.env #callee callee-def.routine code.calls-many·pairs·own-pairs (callee-thm.met 𝓤 H 𝓜 𝓖 𝓡))
+    (cited 𝓤 H (Callee 𝓤 H (𝓖 .A) (𝓜 .mem) (𝓡 .run)) 𝓜 𝓡 code.env #callee callee-def.routine code.calls-many·batch·own-pairs (callee-thm.met 𝓤 H 𝓜 𝓖 𝓡))
     (cited 𝓤 H (With 𝓤 H (𝓖 .A) (𝓜 .mem) (𝓡 .run)) 𝓜 𝓡 code.env #with-slots with-def.routine code.calls-trial·lists·with-slots (with-thm.met 𝓤 H 𝓜 𝓖 𝓡)))
