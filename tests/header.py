@@ -122,7 +122,7 @@ def differences(api, header, source):
 
 def main():
     api, header = read("docs/API.md"), read("include/ring.h")
-    source = "\n".join(read("crates/%s/src/lib.rt" % crate) for crate in ("list", "book", "depot", "ring", "runs", "shortest", "nearest", "many", "ffi"))
+    source = "\n".join(read("crates/%s/src/lib.rt" % crate) for crate in ("list", "book", "depot", "ring", "runs", "shortest", "nearest", "many", "ranked", "ffi"))
     wrong = differences(api, header, source)
     # what is left out or changed must be told: a number of the list, a call of a number, a number of a call, a parameter, its type or name, a field, its type or name
     for lost, put in ((" *   25 ", ""), ("; more pairs than slots (ring_leaf_run)", ""), (", then 21,", ""), (", uint64_t *bits, size_t bits_len)", ")"),

@@ -1037,27 +1037,28 @@ def shortest_call(p_words, q_words, k, words=ENOUGH):
 
 # ---------------------------------------------------------------- the busiest, and the most urgent
 
+# "0 to 1,000,000,000"
 SCORE = 1_000_000_000
 
 
-# "the most ring partners, in order, ties by id"
+# "the k chambers that are in the most pairs of the list, in order"; "Chambers in as many pairs go by id, the lower first."
 def busiest_of(ids, k):
     """Of ids, each with its number of pairs, the k with the most, in order."""
     return sorted(ids, key=lambda rank: (-rank[1], rank[0]))[:k]
 
 
-# "each with its number of partners, those with none too"
+# "each with its number of pairs"; "Chambers in no pair count too"
 def ranks_of(points, ends):
     """Each point's id and how often it is among the ends of pairs."""
     return [(point[0], ends.count(point[0])) for point in points]
 
 
-# "A lent score a record, by position, for each sheet (0 to 1,000,000,000)"
+# "A score is lent for each record, by position, for P and for Q"
 def scores_right(scores, sheet):
     return len(scores) == sheet.n and all(0 <= score <= SCORE for score in scores)
 
 
-# "the highest sum of scores [..], ties by q id and then p id"
+# "the k pairs of such a list with the highest sum of the scores of their two ends, in order, each with that sum"; "Pairs of one sum go by q id, then by p id."
 def urgent_of(pairs, p, q, p_scores, q_scores, k):
     """Of a list the k pairs with the highest sum of the scores of their two ends, in order, each with that sum."""
     of_p, of_q = ({point[0]: score for point, score in zip(sheet.points, scores)} for sheet, scores in ((p, p_scores), (q, q_scores)))
@@ -1065,8 +1066,9 @@ def urgent_of(pairs, p, q, p_scores, q_scores, k):
     return sorted(visits, key=lambda visit: (-visit[1], key_of(visit[0])))[:k]
 
 
-# "1-8 P, 1-8 Q, 27, 26, 29, 10, 40, 24"; of pump houses, whose list is undivided, without 27 and 26, and the kept sets are of chambers; of the most urgent "41 the
-# scores of P [..], 42 the same of Q" before 24
+# "k out of range is refused by 10, a largest size over 8,000,000,000,000,000,000 by 40. Refused by 41 is a call whose scores of P are not one of 0 to 1,000,000,000 for
+# each of its points, by 42 one whose scores of Q are not. The order: 1 to 8 of P, 1 to 8 of Q, 27, 26, 29, 10, 40, 41, 42, 24; of pump houses without 27 and 26."
+# "The words lent are as many as the points of P need, of pump houses as those of Q."
 def asked_number(p_words, q_words, k, largest, words, grid, contractor=UNDIVIDED, owners=(), scores=None, pumps=False):
     """The number of the first refusal that applies, or 0; `scores` are those of P and of Q, or None."""
     number = open_number(p_words) or open_number(q_words)
@@ -1079,7 +1081,8 @@ def asked_number(p_words, q_words, k, largest, words, grid, contractor=UNDIVIDED
     return next((number for number, holds in wrong if holds), 0)
 
 
-# "the k chambers with the most ring partners, in order, ties by id, k 1 to 16, fewer if there are fewer": of a contractor the contractor's chambers and list
+# "where there are fewer than k chambers, all are given"; "a pair counts if its size is at most the largest that is asked for. Of a contractor it is the contractor's
+# list, and the chambers are the contractor's."
 def busiest_call(p_words, q_words, k, largest, pairs=None, words=ENOUGH, grid=False, contractor=UNDIVIDED, owners=()):
     """(number, the chambers' ids with their numbers of pairs, the lent words from now on). `pairs` is the undivided list, made anew where it is not handed in."""
     number = asked_number(p_words, q_words, k, largest, words, grid, contractor, owners)
@@ -1091,7 +1094,7 @@ def busiest_call(p_words, q_words, k, largest, pairs=None, words=ENOUGH, grid=Fa
     return 0, busiest_of(ranks_of(mine, [pair[0] for pair in listed]), k), with_zeros(words, Sheet(p_words))
 
 
-# "and the same of pump houses"
+# "A second call gives the same of pump houses, of the undivided list: how many chambers each is listed with."
 def busiest_pumps_call(p_words, q_words, k, largest, pairs=None, words=ENOUGH, grid=False):
     """(number, the pump houses' ids with their numbers of pairs, the lent words from now on). `pairs` as above."""
     number = asked_number(p_words, q_words, k, largest, words, grid, pumps=True)
@@ -1101,7 +1104,7 @@ def busiest_pumps_call(p_words, q_words, k, largest, pairs=None, words=ENOUGH, g
     return 0, busiest_of(ranks_of(Sheet(p_words).points, [pair[1] for pair in listed]), k), with_zeros(words, Sheet(q_words))
 
 
-# "the k ring pairs with the highest sum of scores among those of at most a given size"
+# "A third call": "all where they are fewer"
 def urgent_call(p_words, q_words, p_scores, q_scores, k, largest, pairs=None, words=ENOUGH, grid=False, contractor=UNDIVIDED, owners=()):
     """(number, the pairs with their sums of scores, the lent words from now on). `pairs` as above."""
     number = asked_number(p_words, q_words, k, largest, words, grid, contractor, owners, (p_scores, q_scores))
