@@ -33,8 +33,8 @@ except ImportError as fault:
 WAYS = ("chambers", "leaves")
 # how often a task that fails is tried again; where its worker is gone the scheduler has a number of its own
 RETRIES = 3
-# seconds until a scheduler has to answer
-PATIENCE = 10
+# seconds until a scheduler has to answer, and one on this machine, which may be busy
+PATIENCE, HERE = 30, 300
 # tasks for each worker, where nobody says how long a task is: enough that the last of them ends soon after the others
 TASKS = 4
 # pairs that a chamber has on average where records stand at random, half of them pump houses; and the fewest that are asked for
@@ -275,11 +275,20 @@ def joined(scheduler=None, workers=None):
             yield client
         return
     os.environ["PYTHONDONTWRITEBYTECODE"] = "1"
-    with tempfile.TemporaryDirectory() as folder:
-        with distributed.LocalCluster(n_workers=workers or os.cpu_count() or 1, threads_per_worker=1, processes=True, host="127.0.0.1", dashboard_address="127.0.0.1:0",
-                                      local_directory=folder, silence_logs=40) as local:
-            with distributed.Client(local, timeout=PATIENCE) as client:
+    with tempfile.TemporaryDirectory(ignore_cleanup_errors=True) as folder:
+        local = distributed.LocalCluster(n_workers=workers or os.cpu_count() or 1, threads_per_worker=1, processes=True, host="127.0.0.1", dashboard_address="127.0.0.1:0",
+                                         local_directory=folder, silence_logs=40)
+        try:
+            client = distributed.Client(local, timeout=HERE)
+            try:
                 yield client
+            finally:
+                # what was asked is answered, or is not: how the workers end changes nothing
+                with contextlib.suppress(Exception):
+                    client.close()
+        finally:
+            with contextlib.suppress(Exception):
+                local.close()
 
 
 class Heard:
