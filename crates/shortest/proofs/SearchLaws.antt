@@ -1,58 +1,43 @@
--- The search for the shortest pairs: one page, pair by pair, and one page after the other.
---     Made, made             what the page maker's draft shows
---     Passed                 the loop over a page's pairs: passed-start, passed-put, passed-over, passed-drop, passed-all
---     Going                  the loop over the pages: shortest-going-start, going-fair, going-on, shortest-fewer, all-gathered
+-- The search for the shortest pairs: one pair put among those held, a chamber pair by pair, and one chamber after the other.
+--     one-asks, one-put, one-over, one-drop     one pair, and those held
+--     Gathering      the loop over a chamber's pairs: gather-start, gather-next, gather-turn, gather-end
+--     Going          the loop over the chambers: shortest-going-start, going-on, all-gathered
 -- Assumes nothing.
-use mathlib.Core.Path.{_≡_, refl, sym, ap, ap₂, subst, _∙_}
-use mathlib.Core.Bool.{Bool, true, false, not, true≢false}
+use mathlib.Core.Path.{_≡_, refl, sym, ap, subst, _∙_}
+use mathlib.Core.Bool.{Bool, true, false, _&&_}
 use mathlib.Core.List.{List, [], _∷_}
-use Prim.Native.Nat.{ℕ, suc, _+_, _-_, _*_, _≤_, _<_}
+use Prim.Native.Nat.{ℕ, suc, _+_, _-_, _≤_, _<_}
 use native.Mathlib.Omega.{arith}
-use native.Mathlib.Numerals.{add-one}
 use lib.IntN.{ℤ}
-use lib.ListN.{length, take, drop, getD, replicate, length-drop, take-append-drop, List·getD-append}
-use lib.Seq.{length-take-le, take-all, take-append-le, take-append-seam}
-use borrow.Author.Tests.{ltb-true, not-false}
-use Rattle.plane.specs.Profile.{circle}
+use borrow.Author.Tests.{le-leb}
+use lib.ListN.{length, take, getD, replicate, List·getD-append}
+use lib.Seq.{length-take-le, take-append-le, take-append-seam}
 use Rattle.sheet.specs.Places.{pointsOf}
 use Rattle.sheet.specs.Open.{Opens}
-use Rattle.list.specs.declared.Key.{Key}
+use Rattle.bits.specs.Set.{kept, nextFrom}
 use Rattle.list.specs.declared.Pair.{Pair}
-use Rattle.list.specs.declared.Source.{Source}
-use Rattle.list.specs.declared.Page.{Page}
-use Rattle.list.specs.Pairs.{start, none, keyOf, ascends, after, lastOr, isNone}
-use Rattle.list.specs.Pages.{padded, shown, pageOf}
-use Rattle.list.proofs.Order.{after-all, last-at}
-use Rattle.list.proofs.PageLaws.{after-shown, none-drop, shown-count}
-use Rattle.list.proofs.RowLaws.{ring-ascends}
-use Rattle.join.specs.declared.Draft.{Draft}
-use Rattle.join.specs.Maker.{pageMade, pageFrom}
-use Rattle.join.specs.Only.{pageWalks}
-use Rattle.list.specs.Terms.{full}
-use Rattle.list.proofs.TermsLaws.{full-ring-list}
-use Rattle.ring.proofs.PageLaws.{of-two}
-use Rattle.join.proofs.Meaning.{points-rise, join-page-pairs}
+use Rattle.list.specs.Pairs.{none}
+use Rattle.list.specs.Pages.{padded}
+use Rattle.list.specs.Rows.{row, rows, listBy}
+use Rattle.list.specs.RingList.{pairBy, ringPairBy, ringListBy, Reached}
+use Rattle.list.specs.Terms.{full, profileFor, pairFor}
+use Rattle.list.proofs.RowLaws.{list-same}
+use Rattle.plane.specs.Profile.{circle}
+use Rattle.sheet.proofs.PointsLaws.{spot-of, length-points}
+use Rattle.sheet.proofs.RangeLaws.{spot-in}
+use Rattle.plane.specs.Rule.{SpotIn}
+use Rattle.chamber.specs.Sized.{smallFor}
+use Rattle.chamber.proofs.KeepLaws.{rest-yes, rest-skip, chamber-rest-end}
+use Rattle.chamber.proofs.ListedLaws.{points-many, rows-next, rows-end}
+use Rattle.plane.proofs.ProfileLaws.{profile-lawful}
+use Rattle.plane.specs.Point.{spotAt}
 use Rattle.shortest.specs.declared.Search.{Search}
 use Rattle.shortest.specs.Order.{shorter, insert, shortestOf}
 use Rattle.shortest.specs.Answer.{pairsOf}
-use Rattle.shortest.specs.Search.{Ordered, held, searchOf, HeldOrdered, putAt, gathered, nextOf}
+use Rattle.shortest.specs.Search.{Ordered, held, searchOf, HeldOrdered, putAt, gathered}
 use Rattle.shortest.proofs.OrderLaws.{length-insert, take-ordered}
-use Rattle.shortest.proofs.GatherLaws.{gathered-is, gathered-append, gathered-more, gathered-few, gathered-ordered, keeps-all, keeps-shorter, keeps-none}
+use Rattle.shortest.proofs.GatherLaws.{gathered-is, gathered-append, gathered-few, gathered-ordered, keeps-all, keeps-shorter, keeps-none}
 use Rattle.shortest.proofs.PutLaws.{put-padded}
-
--- ---- the draft of a page
-
-pub record Made (l : List Pair) (key : Key) (d : Draft) : Type 0 where
-  pub count : d .count ≡ length (shown l key 16)
-  pub pairs : d .pairs ≡ padded (shown l key 16)
-  pub end : not (d .more) ≡ isNone (after (lastOr key (shown l key 16)) l)
-
-pub made : {P Q : List ℤ} {np mp nq mq : ℕ} → Opens P np mp → Opens Q nq mq → (words : ℕ) → np ≤ 64 * words → (key : Key) (d : Draft) → d ≡ pageMade (pageWalks full [] words P Q np) key 16 np nq → Made (pairsOf P Q) key d
-unfolding pageFrom pageOf
-made {P} {Q} o o′ words enough key d e =
-    let s : Source = record { «p_edition» = 0; «q_edition» = 0; terms = full } in
-    let g : pageFrom s key d ≡ pageOf s (pairsOf P Q) key 16 = ap (pageFrom s key) e ∙ join-page-pairs o o′ full (of-two full refl P Q) words enough [] s key 16 (omega arith) ∙ ap (λ (l : List Pair). pageOf s l key 16) (full-ring-list false [] (pointsOf P) (pointsOf Q)) in
-    record { count = ap (λ (x : Page). x .count) g; pairs = ap (λ (x : Page). x .pairs) g; end = ap (λ (x : Page). x .end) g }
 
 -- ---- a search that holds s
 
@@ -64,192 +49,166 @@ first-padded : (s : List Pair) (n : ℕ) → n ≤ length s → take n (padded s
 unfolding padded
 first-padded s n h = take-append-le n s (replicate (16 - length s) none) h
 
-holds : (s : List Pair) (key : Key) (end : Bool) → held (searchOf s key end) ≡ s
+holds : (s : List Pair) → held (searchOf s) ≡ s
 unfolding padded
-holds s key end = take-append-seam s (replicate (16 - length s) none)
+holds s = take-append-seam s (replicate (16 - length s) none)
 
-pub fair-of : (k : ℕ) (s : List Pair) (key : Key) (end : Bool) → length s ≤ k → Ordered s → HeldOrdered k (searchOf s key end)
-fair-of k s key end h o =
-    let e = holds s key end in
+pub fair-of : (k : ℕ) (s : List Pair) → length s ≤ k → Ordered s → HeldOrdered k (searchOf s)
+fair-of k s h o =
+    let e = holds s in
     record {
       few = subst (λ (t : List Pair). length t ≤ k) (sym e) h;
-      whole = ap (λ (t : List Pair). searchOf t key end) (sym e);
+      whole = ap searchOf (sym e);
       ordered = subst Ordered (sym e) o;
     }
 
-put-at : (n : ℕ) (v : Pair) (s : List Pair) (key : Key) (end : Bool) → n ≤ length s → length s ≤ suc n → n < 16 → putAt n v (searchOf s key end) ≡ searchOf (insert v (take n s)) key end
+put-at : (n : ℕ) (v : Pair) (s : List Pair) → n ≤ length s → length s ≤ suc n → n < 16 → putAt n v (searchOf s) ≡ searchOf (insert v (take n s))
 unfolding putAt
-put-at n v s key end h g f =
+put-at n v s h g f =
     let long : suc n ≡ length (insert v (take n s)) = sym (length-insert v (take n s) ∙ ap suc (length-take-le n s h)) in
-    λ t. record { pairs = put-padded v n s h g f t; count = long t; key = key; end = end }
+    λ t. record { pairs = put-padded v n s h g f t; count = long t }
 
--- ---- the loop over a page's pairs: the search g before it, r after the first i of them
+-- ---- one pair, and those held
 
-pub record Passed (k : ℕ) (l : List Pair) (g r : Search) (i : ℕ) : Type 0 where
-  pub upto : i ≤ length l
-  pub is : r ≡ searchOf (gathered k (take i l) (held g)) (g .key) (g .end)
+module _ (k : ℕ) (some : 1 ≤ k) (most : k ≤ 16) (g : Search) (fair : HeldOrdered k g) where
+  count-is : g .count ≡ length (held g)
+  count-is = ap (λ (x : Search). x .count) (fair .whole)
 
-module _ (k : ℕ) (some : 1 ≤ k) (most : k ≤ 16) (l : List Pair) (g : Search) (fair : HeldOrdered k g) where
-  pub passed-start : Passed k l g g 0
+  pairs-are : g .pairs ≡ padded (held g)
+  pairs-are = ap (λ (x : Search). x .pairs) (fair .whole)
+
+  -- what `with_pair` asks, of the pairs held or all but the last
+  pub one-asks : (n : ℕ) → n ≤ g .count → n < k → (n < 16) × Ordered (take n (g .pairs))
+  one-asks n h f = (
+    omega arith,
+    subst Ordered (sym (ap (take n) pairs-are ∙ first-padded (held g) n (omega (arith, count-is)))) (take-ordered n (held g) (fair .ordered)),
+  )
+
+  module _ (v : Pair) where
+    put : (n : ℕ) → n ≤ length (held g) → length (held g) ≤ suc n → n < k → (r : Search) → r ≡ putAt n v g → r ≡ searchOf (insert v (take n (held g)))
+    put n h f a r e = e ∙ ap (putAt n v) (fair .whole) ∙ put-at n v (held g) h f (omega arith)
+
+    -- fewer than k are held
+    pub one-put : g .count < k → (r : Search) → r ≡ putAt (g .count) v g → r ≡ searchOf (take k (insert v (held g)))
+    one-put h r e =
+        put (g .count) (omega (arith, count-is)) (omega (arith, count-is)) h r e
+        ∙ ap searchOf (ap (λ (n : ℕ). insert v (take n (held g))) count-is ∙ sym (keeps-all k v (held g) (omega (arith, count-is))))
+
+    module _ (all : k ≤ g .count) where
+      full-is : length (held g) ≡ suc (k - 1)
+      full-is = omega (arith, count-is, fair .few)
+
+      last-is : getD (g .pairs) (k - 1) none ≡ getD (held g) (k - 1) none
+      last-is = ap (λ (t : List Pair). getD t (k - 1) none) pairs-are ∙ at-padded (held g) (k - 1) (omega (arith, full-is))
+
+      -- k are held, and this one is shorter than the last
+      pub one-over : shorter v (getD (g .pairs) (k - 1) none) ≡ true → (r : Search) → r ≡ putAt (k - 1) v g → r ≡ searchOf (take k (insert v (held g)))
+      one-over s r e =
+          put (k - 1) (omega (arith, full-is)) (omega (arith, full-is)) (omega arith) r e
+          ∙ ap searchOf (sym (keeps-shorter k v (held g) (k - 1) full-is (omega arith) (ap (shorter v) (sym last-is) ∙ s)))
+
+      -- k are held, and it is not
+      pub one-drop : shorter v (getD (g .pairs) (k - 1) none) ≡ false → g ≡ searchOf (take k (insert v (held g)))
+      one-drop s = fair .whole ∙ ap searchOf (sym (keeps-none k v (held g) (k - 1) full-is (omega arith) (fair .ordered) (ap (shorter v) (sym last-is) ∙ s)))
+
+-- those held after some pairs were gathered
+pub fair-gathered : (k : ℕ) (l : List Pair) (g r : Search) → HeldOrdered k g → r ≡ searchOf (gathered k l (held g)) → HeldOrdered k r
+fair-gathered k l g r fair e = subst (HeldOrdered k) (sym e) (fair-of k (gathered k l (held g)) (gathered-few k l (held g) (fair .few)) (gathered-ordered k l (held g) (fair .ordered)))
+
+held-gathered : (k : ℕ) (l : List Pair) (g r : Search) → r ≡ searchOf (gathered k l (held g)) → held r ≡ gathered k l (held g)
+held-gathered k l g r e = ap held e ∙ holds (gathered k l (held g))
+
+-- ---- the loop over a chamber's pairs: g before it, r at position i
+
+module _ (rule : ℕ → ℕ → Bool) (pair : ℕ → ℕ → Pair) (k j n : ℕ) where
+  pub record Gathering (g r : Search) (i : ℕ) : Type 0 where
+    pub fair : HeldOrdered k r
+    pub left : gathered k (row rule pair j (n - i) i) (held r) ≡ gathered k (row rule pair j n 0) (held g)
+
+  module _ (b : List ℕ) (exact : (i : ℕ) → i < n → kept b i ≡ rule j i) where
+    -- on to the next kept position
+    pub gather-next : (g r : Search) (x u : ℕ) → u ≡ nextFrom b x → Gathering g r x → Gathering g r u
+    gather-next g r x u e s = record { fair = s .fair; left = ap (λ (l : List Pair). gathered k l (held r)) (sym (rest-skip rule pair j n b (λ y h f. exact y h ∙ f) x u e)) ∙ s .left }
+
+    pub gather-start : (g : Search) → HeldOrdered k g → (u : ℕ) → u ≡ nextFrom b 0 → Gathering g g u
+    gather-start g h u e =
+        let z : n - 0 ≡ n = omega arith in
+        gather-next g g 0 u e (record { fair = h; left = ap (λ (m : ℕ). gathered k (row rule pair j m 0) (held g)) z })
+
+    -- the pair there
+    pub gather-turn : (g r : Search) (i : ℕ) → Gathering g r i → i < n → kept b i ≡ true → (v : Pair) → v ≡ pair j i → (r′ : Search) → r′ ≡ searchOf (take k (insert v (held r))) → Gathering g r′ (i + 1)
+    unfolding gathered
+    gather-turn g r i s h m v e r′ f =
+        record {
+          fair = fair-gathered k (v ∷ []) r r′ (s .fair) f;
+          left =
+              ap (gathered k (row rule pair j (n - (i + 1)) (i + 1))) (ap held f ∙ holds (take k (insert v (held r))) ∙ ap (λ (x : Pair). take k (insert x (held r))) e)
+              ∙ ap (λ (l : List Pair). gathered k l (held r)) (sym (rest-yes rule pair j n i h (sym (exact i h) ∙ m)))
+              ∙ s .left;
+        }
+
+  pub gather-end : (g r : Search) (i : ℕ) → Gathering g r i → n ≤ i → r ≡ searchOf (gathered k (row rule pair j n 0) (held g))
   unfolding gathered
-  passed-start = record { upto = omega arith; is = fair .whole }
+  gather-end g r i s h =
+      s .fair .whole ∙ ap searchOf (ap (λ (l : List Pair). gathered k l (held r)) (sym (chamber-rest-end rule pair j n i h)) ∙ s .left)
 
-  module _ (r : Search) (i : ℕ) (p : Passed k l g r i) where
-    abbrev kept : List Pair
-    kept = gathered k (take i l) (held g)
+-- ---- the loop over the chambers
 
-    few : length kept ≤ k
-    few = gathered-few k (take i l) (held g) (fair .few)
+module _ (rule : ℕ → ℕ → Bool) (pair : ℕ → ℕ → Pair) (k np nq : ℕ) where
+  pub record Going (g : Search) (j : ℕ) : Type 0 where
+    pub most : j ≤ nq
+    pub fair : HeldOrdered k g
+    pub left : gathered k (rows rule pair np (nq - j) j) (held g) ≡ shortestOf k (listBy rule pair np nq)
 
-    ordered : Ordered kept
-    ordered = gathered-ordered k (take i l) (held g) (fair .ordered)
-
-    count-is : r .count ≡ length kept
-    count-is = ap (λ (x : Search). x .count) (p .is)
-
-    pairs-are : r .pairs ≡ padded kept
-    pairs-are = ap (λ (x : Search). x .pairs) (p .is)
-
-    -- what `with_pair` asks, of the pairs held or all but the last
-    pub put-asked : (n : ℕ) → n ≤ r .count → n < k → (n < 16) × Ordered (take n (r .pairs))
-    put-asked n h f = (
-      omega arith,
-      subst Ordered (sym (ap (take n) pairs-are ∙ first-padded kept n (omega (arith, count-is)))) (take-ordered n kept ordered),
-    )
-
-    module _ (i-in : i < length l) (v : Pair) (is : v ≡ getD l i none) where
-      -- one pair more
-      more : (r′ : Search) → r′ ≡ searchOf (take k (insert v kept)) (g .key) (g .end) → Passed k l g r′ (i + 1)
-      more r′ e = record {
-        upto = omega arith;
-        is = e ∙ ap (λ (t : List Pair). searchOf t (g .key) (g .end)) (ap (λ (x : Pair). take k (insert x kept)) is ∙ sym (gathered-more k l (held g) i i-in) ∙ ap (λ (j : ℕ). gathered k (take j l) (held g)) (sym (add-one i)));
+  pub shortest-going-start : Going (searchOf []) 0
+  unfolding Ordered listBy
+  shortest-going-start =
+      let z : nq - 0 ≡ nq = omega arith in
+      record {
+        most = omega arith;
+        fair = fair-of k [] (omega arith) tt;
+        left = ap (λ (m : ℕ). gathered k (rows rule pair np m 0) (held (searchOf []))) z ∙ ap (gathered k (rows rule pair np nq 0)) (holds []) ∙ gathered-is k (rows rule pair np nq 0);
       }
 
-      put : (n : ℕ) → n ≤ length kept → length kept ≤ suc n → n < k → (r′ : Search) → r′ ≡ putAt n v r → r′ ≡ searchOf (insert v (take n kept)) (g .key) (g .end)
-      put n h f a r′ e = e ∙ ap (putAt n v) (p .is) ∙ put-at n v kept (g .key) (g .end) h f (omega arith)
+  pub going-on : (g : Search) (j : ℕ) → Going g j → j < nq → (r : Search) → r ≡ searchOf (gathered k (row rule pair j np 0) (held g)) → Going r (j + 1)
+  going-on g j s h r e =
+      record {
+        most = omega arith;
+        fair = fair-gathered k (row rule pair j np 0) g r (s .fair) e;
+        left =
+            ap (gathered k (rows rule pair np (nq - (j + 1)) (j + 1))) (held-gathered k (row rule pair j np 0) g r e)
+            ∙ sym (gathered-append k (row rule pair j np 0) (rows rule pair np (nq - (j + 1)) (j + 1)) (held g))
+            ∙ ap (λ (l : List Pair). gathered k l (held g)) (sym (rows-next rule pair np nq j h))
+            ∙ s .left;
+      }
 
-      -- fewer than k are held
-      pub passed-put : r .count < k → (r′ : Search) → r′ ≡ putAt (r .count) v r → Passed k l g r′ (i + 1)
-      passed-put h r′ e =
-          more r′ (put (r .count) (omega (arith, count-is)) (omega (arith, count-is)) h r′ e ∙ ap (λ (t : List Pair). searchOf t (g .key) (g .end)) (ap (λ (n : ℕ). insert v (take n kept)) count-is ∙ sym (keeps-all k v kept (omega (arith, count-is)))))
-
-      module _ (full : k ≤ r .count) where
-        full-is : length kept ≡ suc (k - 1)
-        full-is = omega (arith, count-is, few)
-
-        last-is : getD (r .pairs) (k - 1) none ≡ getD kept (k - 1) none
-        last-is = ap (λ (t : List Pair). getD t (k - 1) none) pairs-are ∙ at-padded kept (k - 1) (omega (arith, full-is))
-
-        -- k are held, and this one is shorter than the last
-        pub passed-over : shorter v (getD (r .pairs) (k - 1) none) ≡ true → (r′ : Search) → r′ ≡ putAt (k - 1) v r → Passed k l g r′ (i + 1)
-        passed-over s r′ e =
-            more r′ (put (k - 1) (omega (arith, full-is)) (omega (arith, full-is)) (omega arith) r′ e ∙ ap (λ (t : List Pair). searchOf t (g .key) (g .end)) (sym (keeps-shorter k v kept (k - 1) full-is (omega arith) (ap (shorter v) (sym last-is) ∙ s))))
-
-        -- k are held, and it is not
-        pub passed-drop : shorter v (getD (r .pairs) (k - 1) none) ≡ false → (r′ : Search) → r′ ≡ r → Passed k l g r′ (i + 1)
-        passed-drop s r′ e = more r′ (e ∙ p .is ∙ ap (λ (t : List Pair). searchOf t (g .key) (g .end)) (sym (keeps-none k v kept (k - 1) full-is (omega arith) ordered (ap (shorter v) (sym last-is) ∙ s))))
-
--- a pair of the draft is one of the page
-pub made-at : (l : List Pair) (key : Key) (d : Draft) → Made l key d → (i : ℕ) → i < d .count → getD (d .pairs) i none ≡ getD (shown l key 16) i none
-made-at l key d m i h = ap (λ (t : List Pair). getD t i none) (m .pairs) ∙ at-padded (shown l key 16) i (omega (arith, m .count))
-
-pub made-few : (l : List Pair) (key : Key) (d : Draft) → Made l key d → d .count ≤ 16
-made-few l key d m = omega (arith, m .count, shown-count l key 16)
-
--- after the last pair
-module _ (l : List Pair) (k : ℕ) (g : Search) (d : Draft) (m : Made l (g .key) d) (r : Search) (i : ℕ) (p : Passed k (shown l (g .key) 16) g r i) (all : d .count ≤ i) where
-  pub key-none : d .count ≡ 0 → r .key ≡ lastOr (g .key) (shown l (g .key) 16)
-  unfolding lastOr
-  key-none z = ap (λ (x : Search). x .key) (p .is) ∙ go (shown l (g .key) 16) (sym (m .count) ∙ z)
-    where
-      go : (s : List Pair) → length s ≡ 0 → g .key ≡ lastOr (g .key) s
-      go [] e = refl
-      go (v ∷ s) e = absurd (omega arith)
-
-  pub key-last : (d .count ≡ 0 → ⊥) → keyOf (getD (d .pairs) (d .count - 1) none) ≡ lastOr (g .key) (shown l (g .key) 16)
-  key-last ne =
-      let s = shown l (g .key) 16 in
-      let n = d .count - 1 in
-      let some : d .count ≡ suc n = omega arith in
-      ap keyOf (made-at l (g .key) d m n (omega arith)) ∙ sym (last-at (g .key) s n (omega (arith, m .count))) ∙ ap (lastOr (g .key)) (take-all (suc n) s (omega (arith, m .count)))
-
-  pub passed-all : (key : Key) → key ≡ lastOr (g .key) (shown l (g .key) 16) → _≡_ {A = Search} (record { pairs = r .pairs; count = r .count; key = key; end = not (d .more) }) (nextOf l k g)
-  unfolding nextOf
-  passed-all key e =
-      let s = shown l (g .key) 16 in
-      let whole : gathered k (take i s) (held g) ≡ gathered k s (held g) = ap (λ (t : List Pair). gathered k t (held g)) (take-all i s (omega (arith, m .count))) in
-      ap (λ (x : Search). record { pairs = x .pairs; count = x .count; key = key; end = not (d .more) }) (p .is)
-      ∙ (λ t. record { pairs = padded (whole t); count = length (whole t); key = e t; end = m .end t })
-
--- ---- the loop over the pages
-
-pub record Going (l : List Pair) (k : ℕ) (g : Search) : Type 0 where
-  pub fair : HeldOrdered k g
-  pub left : shortestOf k l ≡ gathered k (after (g .key) l) (held g)
-  pub last : g .end ≡ true → after (g .key) l ≡ []
-
--- the measure: the pairs left, and one more as long as the end is not reached
-abbrev pub toGo : List Pair → Key → Bool → ℕ
-toGo l key true = 0
-toGo l key false = suc (length (after key l))
-
-no-more : (d : List Pair) → isNone d ≡ true → d ≡ []
-unfolding isNone
-no-more [] e = refl
-no-more (v ∷ d) e = absurd (true≢false (sym e))
-
-module _ (l : List Pair) (k : ℕ) (asc : ascends start l ≡ true) where
-  pub shortest-going-start : Going l k (searchOf [] start false)
-  unfolding Ordered
-  shortest-going-start = record {
-    fair = fair-of k [] start false (omega arith) tt;
-    left = sym (gathered-is k l) ∙ ap₂ (gathered k) (sym (after-all start l asc)) (sym (holds [] start false));
-    last = λ e. absurd (true≢false (sym e));
-  }
-
-  module _ (g : Search) where
-    page : List Pair
-    page = shown l (g .key) 16
-
-    next : Key
-    next = lastOr (g .key) page
-
-    rest : after next l ≡ drop 16 (after (g .key) l)
-    unfolding page next
-    rest = after-shown start (g .key) l 16 asc
-
-    pub going-on : Going l k g → (r : Search) → r ≡ nextOf l k g → Going l k r
-    unfolding page next nextOf shown
-    going-on o r e =
-        let s = gathered k page (held g) in
-        let end = isNone (after next l) in
-        subst (Going l k) (sym e) (record {
-          fair = fair-of k s next end (gathered-few k page (held g) (o .fair .few)) (gathered-ordered k page (held g) (o .fair .ordered));
-          left = o .left
-              ∙ ap (λ (t : List Pair). gathered k t (held g)) (sym (take-append-drop 16 (after (g .key) l)))
-              ∙ gathered-append k page (drop 16 (after (g .key) l)) (held g)
-              ∙ ap₂ (gathered k) (sym rest) (sym (holds s next end));
-          last = λ f. no-more (after next l) f;
-        })
-
-    pub shortest-fewer : (r : Search) → r ≡ nextOf l k g → toGo l (r .key) (r .end) < suc (length (after (g .key) l))
-    unfolding page next nextOf
-    shortest-fewer r e = by (r .end) refl
-      where
-        key-is : after (r .key) l ≡ drop 16 (after (g .key) l)
-        key-is = ap (λ (x : Search). after (x .key) l) e ∙ rest
-
-        by : (t : Bool) → r .end ≡ t → toGo l (r .key) t < suc (length (after (g .key) l))
-        by true f = omega arith
-        by false f =
-            let more = ltb-true 16 (length (after (g .key) l)) (not-false _ (sym (none-drop 16 (after (g .key) l)) ∙ ap isNone (sym rest) ∙ sym (ap (λ (x : Search). x .end) e) ∙ f)) in
-            omega (arith, more, ap length key-is, length-drop 16 (after (g .key) l))
-
-  pub all-gathered : (g : Search) → Going l k g → g .end ≡ true → (g .count ≡ length (shortestOf k l)) × (g .pairs ≡ padded (shortestOf k l))
+  pub all-gathered : (l : List Pair) → listBy rule pair np nq ≡ l → (g : Search) (j : ℕ) → Going g j → nq ≤ j → (g .count ≡ length (shortestOf k l)) × (g .pairs ≡ padded (shortestOf k l))
   unfolding gathered
-  all-gathered g o e =
-      let is : held g ≡ shortestOf k l = sym (o .left ∙ ap (λ (t : List Pair). gathered k t (held g)) (o .last e)) in
-      (ap (λ (x : Search). x .count) (o .fair .whole) ∙ ap length is, ap (λ (x : Search). x .pairs) (o .fair .whole) ∙ ap padded is)
+  all-gathered l f g j s h =
+      let is : held g ≡ shortestOf k l = ap (λ (t : List Pair). gathered k t (held g)) (sym (rows-end rule pair np nq j h)) ∙ s .left ∙ ap (shortestOf k) f in
+      (ap (λ (x : Search). x .count) (s .fair .whole) ∙ ap length is, ap (λ (x : Search). x .pairs) (s .fair .whole) ∙ ap padded is)
 
-pub pairs-ascend : {P Q : List ℤ} {np mp nq mq : ℕ} → Opens P np mp → Opens Q nq mq → ascends start (pairsOf P Q) ≡ true
-pairs-ascend {P} {Q} o o′ = ring-ascends circle (pointsOf P) (pointsOf Q) (points-rise o) (points-rise o′)
+-- the pairs of all chambers to the greatest size that is taken are the ring pairs of the two sheets
+module _ (P Q : List ℤ) (np mp nq mq : ℕ) (op : Opens P np mp) (oq : Opens Q nq mq) where
+  reached : (w : List ℤ) (n m : ℕ) → Opens w n m → Reached circle (pointsOf w)
+  reached w n m o = record { in-reach = λ i h. subst SpotIn (sym (spot-of w i (omega (arith, length-points w)))) (spot-in o i (omega (arith, length-points w, o .n-is))) }
+
+  small-ring : (j i : ℕ) → j < length (pointsOf Q) → i < length (pointsOf P) → smallFor 8_000_000_000_000_000_000 full (pointsOf P) (pointsOf Q) j i ≡ ringPairBy circle (pointsOf P) (pointsOf Q) j i
+  unfolding smallFor pairFor
+  small-ring j i hj hi =
+      ap (λ (t : Bool). ringPairBy circle (pointsOf P) (pointsOf Q) j i && t) (le-leb _ 8_000_000_000_000_000_000 (profile-lawful false .size-most (spotAt (pointsOf Q) j) (spotAt (pointsOf P) i) (reached Q nq mq oq .in-reach j hj) (reached P np mp op .in-reach i hi)))
+      ∙ and-yes (ringPairBy circle (pointsOf P) (pointsOf Q) j i)
+    where
+      and-yes : (t : Bool) → (t && true) ≡ t
+      and-yes true = refl
+      and-yes false = refl
+
+  pub whole-list : listBy (smallFor 8_000_000_000_000_000_000 full (pointsOf P) (pointsOf Q)) (pairBy (profileFor full) (pointsOf P) (pointsOf Q)) np nq ≡ pairsOf P Q
+  unfolding ringListBy
+  whole-list =
+      let x : np ≡ length (pointsOf P) = sym (points-many P np mp op) in
+      let y : nq ≡ length (pointsOf Q) = sym (points-many Q nq mq oq) in
+      let rule : ℕ → ℕ → Bool = smallFor 8_000_000_000_000_000_000 full (pointsOf P) (pointsOf Q) in
+      let pair : ℕ → ℕ → Pair = pairBy (profileFor full) (pointsOf P) (pointsOf Q) in
+      ap (λ (n : ℕ). listBy rule pair n nq) x ∙ ap (λ (n : ℕ). listBy rule pair (length (pointsOf P)) n) y
+      ∙ list-same rule (ringPairBy circle (pointsOf P) (pointsOf Q)) pair (length (pointsOf P)) (length (pointsOf Q)) small-ring

@@ -1,7 +1,7 @@
 -- The shortest circles of a list of pairs.
 --     Order     shorter, a list in this order, its first k pairs
 --     Answer    the call: its number, and its answer
---     Search    the pairs gathered page by page
+--     Search    the pairs gathered chamber by chamber
 pub mod Order
 pub mod Answer
 pub mod Search

@@ -1,6 +1,4 @@
 // The shortest circles first: of all ring pairs of two sheets the k with the smallest squared size, in order.
-use join::Ask;
-use list::Key;
 use list::Pair;
 use list::Terms;
 use sheet::Size;
@@ -9,9 +7,14 @@ ghost use Prim.Native.Nat.{_≤_, _<_};
 ghost use lib.ListN.{length, take};
 ghost use Rattle.bits.specs.Set.{none, Holds};
 ghost use Rattle.sheet.specs.Open.{Opens};
-ghost use Rattle.shortest.specs.Order.{shorter};
-ghost use Rattle.shortest.specs.Answer.{pairsOf, shortGiven, shortRefused, shortAnswer, shortBits};
-ghost use Rattle.shortest.specs.Search.{Ordered, HeldOrdered, putAt, nextOf};
+ghost use Rattle.sheet.specs.Places.{pointsOf};
+ghost use Rattle.list.specs.Rows.{row};
+ghost use Rattle.list.specs.RingList.{pairBy};
+ghost use Rattle.list.specs.Terms.{full, profileFor};
+ghost use Rattle.chamber.specs.Sized.{smallFor};
+ghost use Rattle.shortest.specs.Order.{shorter, insert};
+ghost use Rattle.shortest.specs.Answer.{shortGiven, shortRefused, shortAnswer, shortBits};
+ghost use Rattle.shortest.specs.Search.{Ordered, held, searchOf, HeldOrdered, putAt, gathered};
 
 // What the call answers: 0, how many pairs and the pairs, the unused three zeros; or the number of refusal and zeros.
 #[repr(C)]
@@ -21,12 +24,10 @@ pub struct Shortlist {
     pub pairs: [Pair; 16],
 }
 
-// The shortest pairs of those passed, in order, and where the list goes on.
+// The shortest pairs of those passed, in order.
 struct Search {
     pairs: [Pair; 16],
     count: usize,
-    key: Key,
-    end: bool,
 }
 
 // Whether `v` is shorter than `w`: by squared size, then q id, then p id.
@@ -58,60 +59,60 @@ fn with_pair(g: Search, n: usize, v: Pair) -> Search
     r
 }
 
-// The next page of the list, the kept sets on the words lent: a pair that is not shorter than the last of k is dropped at once.
-fn with_page(
+// The pair `v` among those held, of which the k shortest stay: one that is not shorter than the last of k is dropped at once.
+fn with_one(g: Search, k: usize, v: Pair) -> Search
+    requires { ⌜ (1 ≤ k) × (k ≤ 16) × HeldOrdered k g ⌝ }
+    ensures { λ r. ⌜ r ≡ searchOf (take k (insert v (held g))) ⌝ }
+{
+    let at = g.count;
+    if at < k {
+        return with_pair(g, at, v);
+    }
+    let last = g.pairs[k - 1];
+    if is_shorter(v, last) {
+        return with_pair(g, k - 1, v);
+    }
+    g
+}
+
+// The pairs of the chamber at position j, kept on the words lent, one after the other.
+fn with_chamber(
     p: &[i32],
     hp: Size,
     q: &[i32],
     hq: Size,
     k: usize,
+    j: usize,
     g: Search,
     bits: &mut [u64],
 ) -> Search
-    requires { ⌜ Opens (now p) (hp .n) (hp .m) × Opens (now q) (hq .n) (hq .m) × Holds (now bits) (hp .n) × (1 ≤ k) × (k ≤ 16) × HeldOrdered k g ⌝ }
-    ensures { λ r. ⌜ r ≡ nextOf (pairsOf (now (p .entry)) (now (q .entry))) k g ⌝ }
+    requires { ⌜ Opens (now p) (hp .n) (hp .m) × Opens (now q) (hq .n) (hq .m) × Holds (now bits) (hp .n) × (j < hq .n) × (1 ≤ k) × (k ≤ 16) × HeldOrdered k g ⌝ }
+    ensures { λ r. ⌜ r ≡ searchOf (gathered k (row (smallFor 8_000_000_000_000_000_000 full (pointsOf (now (p .entry))) (pointsOf (now (q .entry)))) (pairBy (profileFor full) (pointsOf (now (p .entry))) (pointsOf (now (q .entry)))) j (hp .n) 0) (held g)) ⌝ }
 {
-    let key = g.key;
+    let n = hp.n;
     let terms = Terms {
         threshold: 0,
         contractor: 2,
         own: false,
         grid: false,
     };
-    let ask = Ask {
-        key: key,
-        size: 16,
-        terms: terms,
-    };
-    let d = join::made_on(p, hp, q, hq, b"", ask, bits);
-    let n = d.count;
+    chamber::pairs_of(p, hp, q, hq, terms, 8_000_000_000_000_000_000, j, bits);
     let mut r = g;
-    let mut i = 0;
+    let mut i = seeds::scan::next_from(bits, 0);
     while i < n {
-        let v = d.pairs[i];
-        let at = r.count;
-        if at < k {
-            r = with_pair(r, at, v);
-        } else {
-            let last = r.pairs[k - 1];
-            if is_shorter(v, last) {
-                r = with_pair(r, k - 1, v);
-            }
-        }
-        i += 1;
+        let v = walk::pair::pair_by(p, hp, q, hq, j, i, false);
+        r = with_one(r, k, v);
+        i = seeds::scan::next_from(bits, i + 1);
     }
-    if n != 0 {
-        r.key = list::key_of(d.pairs[n - 1]);
-    }
-    r.end = !d.more;
     r
 }
 
-// The k shortest pairs of two sheets that open, page after page. The words lent are zeros after it.
+// The k shortest pairs of two sheets that open, chamber after chamber. The words lent are zeros after it.
 fn given(p: &[i32], hp: Size, q: &[i32], hq: Size, k: usize, bits: &mut [u64]) -> Shortlist
     requires { ⌜ Opens (now p) (hp .n) (hp .m) × Opens (now q) (hq .n) (hq .m) × Holds (now bits) (hp .n) × (1 ≤ k) × (k ≤ 16) ⌝ }
     ensures { λ r. ⌜ (r ≡ shortGiven (now (p .entry)) (now (q .entry)) k) × (now (bits .exit) ≡ none (length (now (bits .entry)))) ⌝ }
 {
+    let n = hq.n;
     let mut g = Search {
         pairs: [Pair {
             q: 0,
@@ -119,11 +120,11 @@ fn given(p: &[i32], hp: Size, q: &[i32], hq: Size, k: usize, bits: &mut [u64]) -
             size: 0,
         }; 16],
         count: 0,
-        key: Key { q: 0, p: 0 },
-        end: false,
     };
-    while !g.end {
-        g = with_page(p, hp, q, hq, k, g, bits);
+    let mut j: usize = 0;
+    while j < n {
+        g = with_chamber(p, hp, q, hq, k, j, g, bits);
+        j += 1;
     }
     bits::clear(bits);
     let pairs = g.pairs;

@@ -17,14 +17,11 @@ use Rattle.shortest.proofs.with_pair.Statement.{statement}
 use Rattle.shortest.proofs.with_pair.Tie as tie
 
 -- only the pairs change in the loop
-with-rest : (g r : Search) (n : ℕ) → r ≡ record { pairs = r .pairs; count = n + 1; key = g .key; end = g .end } → (A B : List Pair) → A ≡ B
-    → _≡_ {A = Search} (record { pairs = A; count = r .count; key = r .key; end = r .end }) (record { pairs = B; count = suc n; key = g .key; end = g .end })
-with-rest g r n e A B p =
-    ap (λ (x : Search). record { pairs = A; count = x .count; key = x .key; end = x .end }) e
-    ∙ (λ t. record { pairs = p t; count = add-one n t; key = g .key; end = g .end })
+with-rest : (r : Search) (n : ℕ) → r ≡ record { pairs = r .pairs; count = n + 1 } → (A B : List Pair) → A ≡ B → _≡_ {A = Search} (record { pairs = A; count = r .count }) (record { pairs = B; count = suc n })
+with-rest r n e A B p = ap (λ (x : Search). record { pairs = A; count = x .count }) e ∙ (λ t. record { pairs = p t; count = add-one n t })
 
 abbrev Inv-loop : tie.InvT-loop
-Inv-loop n v r₀ i₀ r i = Moved v (r₀ .pairs) n (r .pairs) i × _≡_ {A = Search} r (record { pairs = r .pairs; count = r₀ .count; key = r₀ .key; end = r₀ .end })
+Inv-loop n v r₀ i₀ r i = Moved v (r₀ .pairs) n (r .pairs) i × _≡_ {A = Search} r (record { pairs = r .pairs; count = r₀ .count })
 
 abbrev μ-loop : tie.MeasureT-loop
 μ-loop n v r₀ i₀ r i = i
@@ -63,7 +60,7 @@ returns c =
     let a = l .before .args in
     let inside : l .loop .i < length (a .g .pairs) = omega (arith, long (l .before), l .loop .inv .0 .upto, l .before .pre .0) in
     let put = shortest-moved-stop (a .v) (a .g .pairs) (a .n) (l .loop .r .pairs) (l .loop .i) (l .loop .i - 1) (omega arith) (l .loop .inv .0) _ refl inside (l .before .pre .1) (failed (c .before .is-shorter .ensures) (c .if1 .taken)) in
-    with-rest (a .g) (l .loop .r) (a .n) (l .loop .inv .1) _ _ put
+    with-rest (l .loop .r) (a .n) (l .loop .inv .1) _ _ put
 
 mul-w-2 : tie.Need-mul-w-2 Inv-loop μ-loop
 mul-w-2 c = search needs
@@ -83,7 +80,7 @@ loop-again c =
     let a = l .before .args in
     let inside : l .loop .i < length (a .g .pairs) = omega (arith, long (l .before), l .loop .inv .0 .upto, l .before .pre .0) in (
       moved-on (a .v) (a .g .pairs) (a .n) (l .loop .r .pairs) (l .loop .i) (l .loop .i - 1) (omega arith) (l .loop .inv .0) _ refl inside (passed (c .before .is-shorter .ensures) (c .if1 .left)),
-      ap (λ (g : Search). record { pairs = set (l .loop .r .pairs) (l .loop .i) (getD (l .loop .r .pairs) (l .loop .i - 1) none); count = g .count; key = g .key; end = g .end }) (l .loop .inv .1),
+      ap (λ (g : Search). record { pairs = set (l .loop .r .pairs) (l .loop .i) (getD (l .loop .r .pairs) (l .loop .i - 1) none); count = g .count }) (l .loop .inv .1),
     )
 
 element-set-from-v-2 : tie.Need-element-set-from-v-2 Inv-loop μ-loop
@@ -95,7 +92,7 @@ returns-2 c =
     let l = c .before in
     let a = l .before .args in
     let put = shortest-moved-end (a .v) (a .g .pairs) (a .n) (l .loop .r .pairs) (l .loop .i) (omega arith) (l .loop .inv .0) (omega (arith, long (l .before))) in
-    with-rest (a .g) (l .loop .r) (a .n) (l .loop .inv .1) _ _ put
+    with-rest (l .loop .r) (a .n) (l .loop .inv .1) _ _ put
 
 pub with-pair-spec : {M : Type 1} → statement M
 with-pair-spec =
