@@ -16,16 +16,17 @@ use Rattle.sheet.specs.Places.{pointsOf}
 use Rattle.sheet.specs.Open.{Opens}
 use Rattle.bits.specs.Set.{kept, nextFrom}
 use Rattle.list.specs.declared.Pair.{Pair}
-use Rattle.list.specs.Pairs.{none}
+use Rattle.list.specs.Pairs.{start, none, ascends}
 use Rattle.list.specs.Pages.{padded}
 use Rattle.list.specs.Rows.{row, rows, listBy}
 use Rattle.list.specs.RingList.{pairBy, ringPairBy, ringListBy, Reached}
 use Rattle.list.specs.Terms.{full, profileFor, pairFor}
-use Rattle.list.proofs.RowLaws.{list-same}
+use Rattle.list.proofs.RowLaws.{ring-ascends, list-same}
 use Rattle.plane.specs.Profile.{circle}
 use Rattle.sheet.proofs.PointsLaws.{spot-of, length-points}
 use Rattle.sheet.proofs.RangeLaws.{spot-in}
 use Rattle.plane.specs.Rule.{SpotIn}
+use Rattle.join.proofs.Meaning.{points-rise}
 use Rattle.chamber.specs.Sized.{smallFor}
 use Rattle.chamber.proofs.KeepLaws.{rest-yes, rest-skip, chamber-rest-end}
 use Rattle.chamber.proofs.ListedLaws.{points-many, rows-next, rows-end}
@@ -212,3 +213,6 @@ module _ (P Q : List ℤ) (np mp nq mq : ℕ) (op : Opens P np mp) (oq : Opens Q
       let pair : ℕ → ℕ → Pair = pairBy (profileFor full) (pointsOf P) (pointsOf Q) in
       ap (λ (n : ℕ). listBy rule pair n nq) x ∙ ap (λ (n : ℕ). listBy rule pair (length (pointsOf P)) n) y
       ∙ list-same rule (ringPairBy circle (pointsOf P) (pointsOf Q)) pair (length (pointsOf P)) (length (pointsOf Q)) small-ring
+
+pub pairs-ascend : {P Q : List ℤ} {np mp nq mq : ℕ} → Opens P np mp → Opens Q nq mq → ascends start (pairsOf P Q) ≡ true
+pairs-ascend {P} {Q} o o′ = ring-ascends circle (pointsOf P) (pointsOf Q) (points-rise o) (points-rise o′)
