@@ -14,7 +14,7 @@ BYTES = 4 * (5 * POINTS + 7 * 24_000 + 6)
 
 
 # a sheet of so many points and more whose records are scattered so far is packed anew before a whole list is made of it: bench/tidy measures what either costs
-LEAST, SCATTERED = 2000, 2.0
+LEAST, SCATTERED = 500, 2.0
 # how many bits of each coordinate the order goes by, and how many of them at a step
 DEEP, STEP = 16, 4
 

@@ -184,7 +184,7 @@ def run(given):
 class Frames(unittest.TestCase):
     def test_right_and_damaged_frames_are_answered_as_the_reading_does(self):
         seen = {}
-        for seed in range(6 if built() else 1):
+        for seed in range(16 if built() else 1):
             requests, sent, expected = Requests(seed), [], []
             for number in range(700):
                 call, words, status, said = requests.next()
