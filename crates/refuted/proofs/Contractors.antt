@@ -63,6 +63,13 @@ pub by-place-wrong : (byPlace 0 owners turned 0 ≡ false) × (mine 0 owners 0 �
 unfolding rankOf num
 by-place-wrong = (refl, refl, refl, refl)
 
+-- One byte decides for all chambers, the first. "A lent byte per chamber, by position". [U1]
+abbrev firstByte : ℕ → List ℕ → ℕ → Bool
+firstByte c o j = mine c o 0
+
+pub first-byte-wrong : (firstByte 0 owners 1 ≡ true) × (mine 0 owners 1 ≡ false)
+first-byte-wrong = (refl, refl)
+
 -- The bytes are of pump houses. "A lent byte per chamber": chamber 5 is contractor 0's, with all its pairs. [U1, U2]
 abbrev byPump : ℕ → List ℕ → List Pair
 byPump c o = listBy (λ j i. eqb (getD o i 2) c && ringPair pumps chambers j i) (pairAt pumps chambers) 2 2

@@ -150,7 +150,7 @@ pub newest-first-wrong : (newestFirst two (order 6 2 37) ≡ order 6 2 37 ∷ or
 unfolding storedSlots verdict judged storeNoAt isKnown keyIn sameForm formOk idOk editionOk first given answer
 newest-first-wrong = (refl, refl)
 
--- A key is issued again. "The depot never holds two forms with one key." [I9]
+-- A key is issued again. "The depot never holds two forms with one key." [I6, I9]
 abbrev issuedAgain : Depot → List Form → Form → List Form
 issuedAgain d l f = set l (d .held) f
 
@@ -194,6 +194,14 @@ justFits b room = given (leb room (b .held)) 16
 pub forms-just-fit-wrong : (justFits (book 2) 2 ≡ 16) × (formsNo (book 2) 2 2 ≡ 0)
 unfolding formsNo first given
 forms-just-fit-wrong = (refl, refl)
+
+-- The pump house in the chamber's place. "one order form per held pair", with the pair's ids. [I1]
+abbrev formTurned : Pair → Form
+formTurned v = order (v .p) (v .p) (v .size)
+
+pub form-turned-wrong : (formTurned (to 5 1 16) .q ≡ 1) × (formOf (source 0) (to 5 1 16) .q ≡ 5)
+unfolding formOf
+form-turned-wrong = (refl, refl)
 
 -- A form for each slot, held or not. "one order form per held pair". [I1]
 pub each-slot-wrong : (map (formOf (source 0)) pairs ≡ order 5 1 16 ∷ order 5 2 36 ∷ []) × (formsOf (book 1) pairs ≡ order 5 1 16 ∷ [])

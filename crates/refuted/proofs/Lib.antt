@@ -6,6 +6,7 @@
 --     Sheet          words in files, the sheet, the packer
 --     Walk           the kept set and the two walks
 --     Pages          counts of nodes opened, numbers of refusal, a chamber's partners
+--     Answers        the check, the point reader, the ring walk, the position of an id, an array's slots
 --     Book           begin, the next key, take
 --     Depot          the depot's forms: their key, taking and making them
 --     Runs           one run per leaf
@@ -17,12 +18,14 @@
 --     Contractors    two contractors: whose a chamber is, what each is handed, numbers
 --     Border         a province's box: which circles lie in it, its margin, its records
 --     Marker         the map marker
+--     Over           what crosses to C
 pub mod Cases
 pub mod Plane
 pub mod List
 pub mod Sheet
 pub mod Walk
 pub mod Pages
+pub mod Answers
 pub mod Book
 pub mod Depot
 pub mod Runs
@@ -34,3 +37,4 @@ pub mod Streets
 pub mod Contractors
 pub mod Border
 pub mod Marker
+pub mod Over

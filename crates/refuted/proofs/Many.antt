@@ -111,6 +111,14 @@ pub more-where-full-wrong : (fullSlots 3 (to 5 1 16 ∷ to 5 2 36 ∷ to 6 2 37 
 unfolding manyGiven isNone
 more-where-full-wrong = (refl, refl)
 
+-- Where the slots are full and a pair is left, no more is said to follow. "whether more follow": one slot holds the first of three. [MP6, MP7]
+abbrev noMore : ℕ → List Pair → Bool
+noMore len l = not (leb len (length l)) && not (isNone (drop len l))
+
+pub full-no-more-wrong : (noMore 1 (to 5 1 16 ∷ to 5 2 36 ∷ to 6 2 37 ∷ []) ≡ false) × (manyGiven 1 (to 5 1 16 ∷ to 5 2 36 ∷ to 6 2 37 ∷ []) .more ≡ true)
+unfolding manyGiven isNone
+full-no-more-wrong = (refl, refl)
+
 -- With no slots nothing is said to follow. "with no slots: 0, and whether any follow". [MP6]
 abbrev someStored : ℕ → List Pair → Bool
 someStored len l = not (isNone (take len l)) && not (isNone (drop len l))

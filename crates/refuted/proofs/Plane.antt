@@ -79,7 +79,7 @@ pub centre-behind-wrong : Loses centreBehind
 unfolding inBox drops blocks sameSpot dropsBox
 centre-behind-wrong = record { q = at 10 0; p = at 4 0; o = box 0 1 8 1; z = at 8 1; skipped = refl; holds = refl; kept = refl; right = refl }
 
--- The corner nearest along the way from p to q: "Only the corner farthest along the direction from the kept point to q can decide". [W9]
+-- The corner nearest along the way from p to q: "Only the corner farthest along the direction from the kept point to q can decide". [W9, W10]
 abbrev nearEnd : ℤ → ℤ → ℤ → ℤ → ℤ
 nearEnd q p lo hi = cond (ltZ p q) lo hi
 

@@ -21,7 +21,7 @@ use Rattle.sheet.specs.Nodes.{levelOf, firstOf, countOf, sameLevel, dueNext, du
 use Rattle.sheet.specs.Boxes.{sideOf, coordOf, better, best, tightSide, tightOk, sumOver}
 use Rattle.sheet.specs.Open.{bodyNo, openNo}
 use Rattle.sheet.specs.Places.{spotOf, boxOf, pointsOf}
-use Rattle.bits.specs.Set.{digit, at as bitAt, kept, with, none as noBits, wordsFor}
+use Rattle.bits.specs.Set.{digit, at as bitAt, kept, with, none as noBits, wordsFor, wiped}
 use Rattle.list.specs.declared.Pair.{Pair}
 use Rattle.list.specs.Pairs.{none}
 use Rattle.list.specs.Rows.{row, rows, listBy}
@@ -31,8 +31,8 @@ use Rattle.walk.specs.FilterWalk.{Kept, soFar}
 use Rattle.walk.specs.RingWalk.{meet, ringTake, enter, ringVisit, ringOn, ringWalk, pairWalkBy}
 use Rattle.leaf.specs.LeafWalk.{slot, someB, chamberAt, chamberSpot, ruledOut, weigh, leafTake, skips, leafVisit, leafKept, leafKeeps}
 use Rattle.leaf.specs.LeafRun.{leafList, leafOpened}
-use Rattle.ring.specs.Lent.{need, bitsNo}
-use Rattle.runs.specs.Run.{leafNo, roomNo, runNeed, runNo, runSlots}
+use Rattle.ring.specs.Lent.{need, bitsNo, wipedBy}
+use Rattle.runs.specs.Run.{leafNo, roomNo, runNeed, runNo, runSlots, runBits}
 use Rattle.refuted.proofs.Cases.{words, to, pumpSheet, chamberSheet}
 
 -- ---- numbers of refusal
@@ -116,6 +116,14 @@ few = to 9 9 9 ∷ []
 pub filled-up-wrong : (filledUp pumpSheet chamberSheet 0 few ≡ to 5 1 16 ∷ []) × (runSlots pumpSheet chamberSheet 0 few 16 ≡ few)
 unfolding runSlots runNo leafNo bitsNo wordsFor roomNo answer leafList chamberAt listBy rows row ringPairBy unblocked blocks sameSpot pointsOf tab spotOf openNo bodyNo trailerNo first given countsOk within editionWord layoutOk rootWord pointsOk pointOk fieldsOk risesOk idWord coordWord before orderOk placeOk isBelow rankOf orderOf nodesOk tableOk nodeOk nodeRule runOk endOk isLast sameLevel dueOf dueNext tightOk tightSide best better minZ maxZ coordOf sideOf levelOf firstOf countOf eqZ num allB limitsOf form1
 filled-up-wrong = (refl, refl)
+
+-- A run that is refused by 16 leaves its work on the lent words. Refused, the call "leaves lent memory [..] as they stood": one slot for three pairs. [Y11]
+abbrev worked : List ℤ → List ℕ → List ℕ
+worked P ws = wiped (runNeed P) ws
+
+pub words-lost-wrong : (worked pumpSheet (replicate 17 9) ≡ replicate 16 0 ++ (9 ∷ [])) × (runBits pumpSheet chamberSheet 0 1 (replicate 17 9) ≡ replicate 17 9)
+unfolding runBits wipedBy wiped runNo leafNo bitsNo wordsFor roomNo answer leafList chamberAt listBy rows row ringPairBy unblocked blocks sameSpot pointsOf tab spotOf openNo bodyNo trailerNo first given countsOk within editionWord layoutOk rootWord pointsOk pointOk fieldsOk risesOk idWord coordWord before orderOk placeOk isBelow rankOf orderOf nodesOk tableOk nodeOk nodeRule runOk endOk isLast sameLevel dueOf dueNext tightOk tightSide best better minZ maxZ coordOf sideOf levelOf firstOf countOf eqZ num allB limitsOf form1
+words-lost-wrong = (refl, refl)
 
 -- By q id. "by place, then p id": in this leaf chamber 6 stands at the first place. [L1]
 abbrev turned : List ℤ

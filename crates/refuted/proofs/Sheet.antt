@@ -24,8 +24,8 @@ use Rattle.sheet.specs.Boxes.{sideOf, coordOf, better, best, tightSide, tightOk
 use Rattle.sheet.specs.Open.{bodyNo, openNo, sheetNo}
 use Rattle.pack.specs.Order.{placeIn, listOk, orderListOk}
 use Rattle.pack.specs.Tree.{up16, width, ground, above, oneLeft, nodesFrom, nodesFor}
-use Rattle.pack.specs.Packed.{flatWord, bodyWord, packWord, sheetSize, packed}
-use Rattle.pack.specs.Pack.{shapeOk, formOk, rangeOk, withinNo, packNo, packOut}
+use Rattle.pack.specs.Packed.{flatWord, bodyWord, packWord, sheetSize, packed, trailerWord}
+use Rattle.pack.specs.Pack.{shapeOk, formOk, rangeOk, withinNo, packNo, packOut, lengthFor}
 use Rattle.refuted.proofs.Cases.{words, pumpSheet}
 
 -- ---- words in files
@@ -149,6 +149,24 @@ pub touches-refused-wrong :
     × (packOut 1 1 (words (1 ∷ 4 ∷ 0 ∷ [])) (words (0 ∷ [])) 3 (replicate 17 (pos 0)) ≡ replicate 17 (pos 0))
 unfolding packOut packNo withinNo answer first given shapeOk formOk rangeOk editionOk pointsOk pointOk fieldsOk risesOk idWord coordWord within orderListOk listOk isBelow placeIn firstB sheetSize nodesFor nodesFrom oneLeft width ground above up16 eqZ allB limitsOf form1 packed tab packWord bodyWord flatWord
 touches-refused-wrong = (refl, refl)
+
+-- All sheets say form 1, whatever form is asked for: the last word of a sheet of form 2 is 2. [Y4]
+abbrev alwaysOne : ℕ → List ℤ → List ℤ → ℕ → ℕ → List ℤ
+alwaysOne form p o n ed = packed 1 p o n ed
+
+pub always-one-wrong :
+    (getD (alwaysOne 2 (words (1 ∷ 4 ∷ 0 ∷ [])) (words (0 ∷ [])) 1 3) 17 (pos 0) ≡ pos 1)
+    × (getD (packOut 2 1 (words (1 ∷ 4 ∷ 0 ∷ [])) (words (0 ∷ [])) 3 (replicate 18 (pos 0))) 17 (pos 0) ≡ pos 2)
+unfolding packOut packNo withinNo answer first given shapeOk formOk rangeOk editionOk pointsOk pointOk fieldsOk risesOk idWord coordWord within orderListOk listOk isBelow placeIn firstB sheetSize nodesFor nodesFrom oneLeft width ground above up16 eqZ allB limitsOf form1 form2 packed tab packWord trailerWord
+always-one-wrong = (refl, refl)
+
+-- The length of a sheet without its ranks: a caller would lend n words too few. "exactly span+6 words". [S29]
+abbrev ranksForgotten : ℕ → ℕ
+ranksForgotten n = 4 * n + 7 * nodesFor n + 6
+
+pub ranks-forgotten-wrong : (ranksForgotten 2 ≡ 21) × (lengthFor 2 ≡ 23)
+unfolding lengthFor sheetSize nodesFor nodesFrom oneLeft width ground above up16
+ranks-forgotten-wrong = (refl, refl)
 
 -- 2 before 18. "2 for a form other than 1 or 2, in pack after 18": of form 3 and with no point words for one point it is 18. [Y4]
 abbrev formFirst : ℕ → ℕ → List ℤ → List ℤ → ℕ
