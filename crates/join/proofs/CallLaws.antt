@@ -13,7 +13,7 @@ use borrow.Author.Tests.{not-true, not-false, lt-ltb, le-ltb}
 use Rattle.words.proofs.AllLaws.{first-none, first-more, first-stop}
 use Rattle.plane.specs.declared.Spot.{Spot}
 use Rattle.plane.specs.Rule.{SpotIn}
-use Rattle.plane.specs.Profile.{Profile, circle, profileOf}
+use Rattle.plane.specs.Profile.{Profile, profileOf}
 use Rattle.plane.specs.Point.{idAt}
 use Rattle.plane.proofs.ProfileLaws.{profile-lawful}
 use Rattle.sheet.specs.Places.{spotOf, pointsOf}
@@ -21,7 +21,7 @@ use Rattle.sheet.specs.Open.{Opens}
 use Rattle.sheet.proofs.SheetLaws.{by-counts}
 use Rattle.sheet.proofs.RangeLaws.{spot-in}
 use Rattle.bits.specs.Set.{kept}
-use Rattle.walk.specs.FilterWalk.{filterKept, keepsBy, keepsOpened}
+use Rattle.walk.specs.FilterWalk.{keepsBy, keepsOpened}
 use Rattle.walk.specs.RingWalk.{clear}
 use Rattle.walk.proofs.Meaning.{keeps-opened-at-most-m, pair-opened}
 use Rattle.list.specs.declared.Key.{Key}
@@ -112,10 +112,6 @@ module _ (P Q : List ℤ) (j : ℕ) (z : Spot) (ez : z ≡ spotOf Q j) (b : ℕ)
   -- words that were lent for the q at j, b of them, hold what is kept for it
   pub words-are : (φ : Profile) (ws : List ℕ) → length ws ≡ b → ((i : ℕ) → kept ws i ≡ keepsBy φ b P z i) → (i : ℕ) → keepsBy φ (length ws) P (spotOf Q j) i ≡ kept ws i
   words-are φ ws el e i = sym (e i ∙ ap (λ (l : ℕ). keepsBy φ l P z i) (sym el) ∙ ap (λ (y : Spot). keepsBy φ (length ws) P y i) ez)
-
-  -- those of the filter walk too
-  pub words-filtered : (ws : List ℕ) → length ws ≡ b → ws ≡ filterKept b P z .bits → Agrees (walksOf false (length ws) P Q) j 0 ws
-  words-filtered ws el e = all-words (walksOf false (length ws) P Q) j ws (words-are circle ws el (unfold keepsBy in λ i. ap (λ (x : List ℕ). kept x i) e))
 
 -- so many words, or as many
 pub chamber-same : (c : Terms) (P Q : List ℤ) (key : Key) (size n t j : ℕ) (d r : Draft) (a b : ℕ) → a ≡ b → r ≡ chamber (walksFor (walksBy c a P Q) n t) key size n j d → r ≡ chamber (walksFor (walksBy c b P Q) n t) key size n j d

@@ -1,39 +1,33 @@
--- A chamber's kept partners, ring-walked one after the other: those that stay kept, the nodes opened, and how many they are, or t where they are more.
+-- A chamber's kept partners, ring-walked one after the other: those that stay kept, the nodes opened, and how many they are.
 -- Assumes nothing.
 use mathlib.Core.Path.{_≡_, refl, sym, ap, _∙_}
 use mathlib.Core.Bool.{Bool, true, false, cond, _&&_}
 use mathlib.Core.Logic.{⊎-elim}
 use mathlib.Core.List.{List}
-use Prim.Native.Nat.{ℕ, suc, _+_, _-_, _*_, _≤_, _<_}
+use Prim.Native.Nat.{ℕ, suc, _+_, _*_, _≤_, _<_}
 use native.Mathlib.Omega.{arith}
 use native.Mathlib.Nat.{mul-le-mul, le-refl}
-use lib.Dec.{leb, ltb}
+use lib.Dec.{ltb}
 use lib.IntN.{ℤ}
 use lib.ListN.{length}
-use borrow.Author.Tests.{ltb-true, ltb-false, leb-true, le-leb}
+use borrow.Author.Tests.{ltb-true, ltb-false}
 use Rattle.integers.proofs.Bools.{decide}
-use Rattle.plane.specs.Profile.{Profile, circle}
-use Rattle.plane.proofs.ProfileLaws.{circle-lawful, profile-lawful}
+use Rattle.plane.specs.Profile.{Profile}
+use Rattle.plane.proofs.ProfileLaws.{profile-lawful}
 use Rattle.bits.specs.Set.{kept, without, nextFrom}
-use Rattle.bits.proofs.NextLaws.{from-kept, from-skip}
-use Rattle.sheet.specs.Boxes.{sumOver}
-use Rattle.sheet.specs.Places.{spotOf, pointsOf}
+use Rattle.sheet.specs.Places.{spotOf}
 use Rattle.sheet.specs.Open.{Opens}
 use Rattle.sheet.proofs.SheetLaws.{by-counts}
-use Rattle.sheet.proofs.SizeLaws.{sum-join}
-use Rattle.sheet.proofs.PointsLaws.{length-points}
 use Rattle.walk.specs.declared.Answer.{Answer}
 use Rattle.walk.specs.FilterWalk.{keepsBy}
 use Rattle.walk.specs.RingWalk.{clear, pairWalkBy}
-use Rattle.walk.proofs.Meaning.{keeps-below, pair-opened, walk-pair-exact}
-use Rattle.walk.proofs.SiftLaws.{oneIf, sum-next, sum-same, sum-past, stays, spends, stays-not, spends-not, Sifted, Sifts, walk-sift-start, sift-clear, sift-gone, sift-few, sift-room}
-use Rattle.list.specs.Rows.{row}
+use Rattle.walk.proofs.Meaning.{keeps-below, pair-opened}
+use Rattle.walk.proofs.SiftLaws.{oneIf, sum-same, sum-past, stays, spends, stays-not, spends-not, Sifted, Sifts, walk-sift-start, sift-clear, sift-gone, sift-few, sift-room}
 use Rattle.list.specs.declared.Terms.{Terms}
-use Rattle.list.specs.Terms.{withBy, profileFor}
-use Rattle.list.specs.RingList.{ringPair, pairAt, partnersOf}
+use Rattle.list.specs.Terms.{profileFor}
 use Rattle.join.specs.Walks.{Agrees}
-use Rattle.join.specs.Sheets.{walksBy, walksOf}
-use Rattle.join.specs.Threshold.{foundFor, ringOpened, smaller}
+use Rattle.join.specs.Sheets.{walksBy}
+use Rattle.join.specs.Threshold.{foundFor, ringOpened}
 use Rattle.join.proofs.ThresholdLaws.{row-many}
 
 -- the ring walk of a position
@@ -123,74 +117,3 @@ module _ {P Q : List ℤ} {np mp nq mq : ℕ} (o : Opens P np mp) (o′ : Opens 
         s .sifted .spent
         ∙ omega (arith, sum-past (spends (walkOf (profileFor a) P Q j) b₀) np i end (λ y h l. spends-not (walkOf (profileFor a) P Q j) b₀ y (past y h)))
         ∙ sum-same (spends (walkOf (profileFor a) P Q j) b₀) (λ y. cond (walksBy a (length b₀) P Q .kept j y) (walksBy a (length b₀) P Q .clearOpened j y) 0) 0 np (λ y l. spends-is (0 + y))
-
--- ---- the loop that counts to t
-
--- one more, or not
-pub one-yes : (t u : Bool) (n c : ℕ) → t ≡ u → t ≡ true → n ≡ c + 1 → n ≡ c + oneIf u
-one-yes t u n c e y f = rw (sym e ∙ y) f
-
-pub one-no : (t u : Bool) (n c : ℕ) → t ≡ u → t ≡ false → n ≡ c → n ≡ c + oneIf u
-one-no t u n c e y f = rw (sym e ∙ y) (omega arith)
-
-pub record Counts (b : List ℕ) (P Q : List ℤ) (j t count i : ℕ) : Type 0 where
-  pub counted : count ≡ sumOver (λ y. oneIf (stays (walkOf circle P Q j) b y)) 0 i
-  pub here : i < 64 * length b → kept b i ≡ true
-  pub few : count ≤ t
-
-module _ (P Q : List ℤ) (j t : ℕ) (b : List ℕ) where
-  -- on to the next kept position
-  count-next : (count i u : ℕ) → u ≡ nextFrom b i → count ≤ t → count ≡ sumOver (λ y. oneIf (stays (walkOf circle P Q j) b y)) 0 i → Counts b P Q j t count u
-  count-next count i u e l c =
-      let f : ℕ → ℕ = λ y. oneIf (stays (walkOf circle P Q j) b y) in
-      record {
-        counted = c ∙ from-skip b (λ (x : ℕ). sumOver f 0 x) (λ x n. sym (omega (arith, sum-next f x, ap oneIf (stays-not (walkOf circle P Q j) b x n)))) i u e;
-        here = λ h. from-kept b i u e h;
-        few = l;
-      }
-
-  pub count-start : (u : ℕ) → u ≡ nextFrom b 0 → Counts b P Q j t 0 u
-  unfolding sumOver
-  count-start u e = count-next 0 0 u e (omega arith) refl
-
-  pub count-on : (count i : ℕ) → Counts b P Q j t count i → i < 64 * length b → count < t → (a : Answer) → a ≡ walkOf circle P Q j i → (n : ℕ) → n ≡ count + oneIf (clear (a .hit)) → (u : ℕ) → u ≡ nextFrom b (i + 1) → Counts b P Q j t n u
-  unfolding stays
-  count-on count i s l h a e n f u g =
-      let z : stays (walkOf circle P Q j) b i ≡ clear (a .hit) = rw (s .here l) (sym (ap (λ (x : Answer). clear (x .hit)) e)) in
-      count-next n (i + 1) u g (omega (arith, one (clear (a .hit)))) (omega (arith, s .counted, sum-next (λ y. oneIf (stays (walkOf circle P Q j) b y)) i, ap oneIf z))
-    where
-      one : (x : Bool) → oneIf x ≤ 1
-      one true = omega arith
-      one false = omega arith
-
-module _ {P Q : List ℤ} {np mp nq mq : ℕ} (o : Opens P np mp) (o′ : Opens Q nq mq) (j : ℕ) (h : j < nq) (b : List ℕ) (enough : np ≤ 64 * length b) (ag : Agrees (walksOf false (length b) P Q) j 0 b) where
-  -- the positions that stay are those of the list
-  all-counted : sumOver (λ y. oneIf (stays (walkOf circle P Q j) b y)) 0 np ≡ partnersOf (pointsOf P) (pointsOf Q) j
-  unfolding partnersOf
-  all-counted =
-      let z : np ≡ length (pointsOf P) = sym (length-points P ∙ o .n-is) in
-      sum-same _ (λ y. oneIf (ringPair (pointsOf P) (pointsOf Q) j y)) 0 np (λ y l. ap oneIf (stays-is o o′ (withBy false 0) refl j b enough ag (0 + y) ∙ sym (walk-pair-exact circle circle-lawful P Q (by-counts o) (by-counts o′) j (0 + y) (omega (arith, o′ .n-is)) (omega (arith, o .n-is)) (length b) (omega (arith, o .n-is)))))
-      ∙ sym (row-many (ringPair (pointsOf P) (pointsOf Q)) (pairAt (pointsOf P) (pointsOf Q)) j np 0)
-      ∙ ap (λ (n : ℕ). length (row (ringPair (pointsOf P) (pointsOf Q)) (pairAt (pointsOf P) (pointsOf Q)) j n 0)) z
-
-  pub count-end : (t count i : ℕ) → Counts b P Q j t count i → (ltb i np && ltb count t) ≡ false → count ≡ smaller t (partnersOf (pointsOf P) (pointsOf Q) j)
-  unfolding smaller
-  count-end t count i s stop =
-      let f : ℕ → ℕ = λ y. oneIf (stays (walkOf circle P Q j) b y) in
-      ⊎-elim
-      (λ (x : ltb i np ≡ true).
-      let full : t ≤ count = ltb-false count t (sym (ap (λ (a : Bool). a && ltb count t) x) ∙ stop) in
-      let z : i + (np - i) ≡ np = omega (arith, ltb-true i np x) in
-      let more : count ≤ partnersOf (pointsOf P) (pointsOf Q) j = omega (arith, s .counted, all-counted, sum-join f 0 i (np - i), ap (sumOver f 0) z) in
-      rw (le-leb t (partnersOf (pointsOf P) (pointsOf Q) j) (omega arith)) (omega (arith, s .few)))
-      (λ (x : ltb i np ≡ false).
-      let all : count ≡ partnersOf (pointsOf P) (pointsOf Q) j = s .counted ∙ sum-past f np i (ltb-false i np x) (λ y x l. ap oneIf (stays-not (walkOf circle P Q j) b y (past-none o Q (withBy false 0) refl (length b) enough j b ag y x))) ∙ all-counted in
-      the-smaller t (partnersOf (pointsOf P) (pointsOf Q) j) count all (s .few))
-      (decide (ltb i np))
-    where
-      the-smaller : (t m c : ℕ) → c ≡ m → c ≤ t → c ≡ cond (leb t m) t m
-      the-smaller t m c e l =
-          ⊎-elim
-          (λ (x : leb t m ≡ true). rw x (omega (arith, leb-true t m x)))
-          (λ (x : leb t m ≡ false). rw x e)
-          (decide (leb t m))

@@ -16,13 +16,13 @@ ghost use Rattle.plane.specs.Point.{idAt};
 ghost use Rattle.sheet.specs.Places.{pointsOf};
 ghost use Rattle.walk.specs.RingWalk.{clear};
 ghost use Rattle.list.specs.Pairs.{keyOf, follows};
-ghost use Rattle.list.specs.RingList.{pairAt, partnersOf};
+ghost use Rattle.list.specs.RingList.{pairAt};
 ghost use Rattle.join.specs.Walks.{Agrees};
 ghost use Rattle.join.specs.Work.{firstFrom};
 ghost use Rattle.join.specs.Maker.{found, tried, partners, chamber, pageMade, pageFrom};
-ghost use Rattle.join.specs.Sheets.{walksOf, startFor, Alone, walksBy};
+ghost use Rattle.join.specs.Sheets.{startFor, Alone, walksBy};
 ghost use Rattle.list.specs.Terms.{profileFor};
-ghost use Rattle.join.specs.Threshold.{foundFor, ringOpened, walksFor, smaller, onWords};
+ghost use Rattle.join.specs.Threshold.{foundFor, ringOpened, walksFor, onWords};
 ghost use Rattle.join.specs.Only.{pageWalks};
 
 // What is asked for: the pairs after a key, how many, and of which list.
@@ -255,42 +255,6 @@ fn with_chamber(
         return r;
     }
     with_kept(p, hp, q, hq, ask, j, bits, r)
-}
-
-// How many ring partners the q at position j has, or t where it has more: no kept partner is walked after the t-th.
-fn count_to(p: &[i32], hp: Size, q: &[i32], hq: Size, j: usize, t: usize, bits: &[u64]) -> usize
-    requires { ⌜ Opens (now p) (hp .n) (hp .m) × Opens (now q) (hq .n) (hq .m) × (j < hq .n) × Holds (now bits) (hp .n) × Agrees (walksOf false (length (now bits)) (now p) (now q)) j 0 (now bits) ⌝ }
-    ensures { λ r. ⌜ r ≡ smaller t (partnersOf (pointsOf (now (p .entry))) (pointsOf (now (q .entry))) j) ⌝ }
-{
-    let n = hp.n;
-    let mut count: usize = 0;
-    let mut i = bits::next_from(bits, 0);
-    while (i < n) & (count < t) {
-        let a = walk::ring::pair_walk(p, hp, q, hq, j, i);
-        if walk::clear_after(a) {
-            count += 1;
-        }
-        i = bits::next_from(bits, i + 1);
-    }
-    count
-}
-
-// The same, from the filter walk on, the kept set on the words lent.
-pub fn partners_to(
-    p: &[i32],
-    hp: Size,
-    q: &[i32],
-    hq: Size,
-    j: usize,
-    t: usize,
-    bits: &mut [u64],
-) -> usize
-    requires { ⌜ Opens (now p) (hp .n) (hp .m) × Opens (now q) (hq .n) (hq .m) × (j < hq .n) × Holds (now bits) (hp .n) ⌝ }
-    ensures { λ r. ⌜ r ≡ smaller t (partnersOf (pointsOf (now (p .entry))) (pointsOf (now (q .entry))) j) ⌝ }
-{
-    let z = sheet::reads::spot_at(q, hq.n, hq.m, j);
-    walk::filter::filter_kept(p, hp.n, hp.m, z, bits);
-    count_to(p, hp, q, hq, j, t, bits)
 }
 
 // The first position of Q whose id is not below the key's, or the number of its points.

@@ -1,5 +1,6 @@
 // Whether a chamber has at least t partners.
 use crate::Partnered;
+use list::Terms;
 use sheet::Size;
 ghost use mathlib.Core.Path.{_≡_};
 ghost use Prim.Native.Nat.{_<_};
@@ -32,14 +33,29 @@ fn least_no(t: u32) -> u32
     0
 }
 
-// How many ring partners the q at position j has, or t where it has more. The words lent are zeros after it.
+fn lesser(t: usize, count: usize) -> usize
+    ensures { λ r. ⌜ r ≡ smaller t count ⌝ }
+{
+    if t <= count {
+        return t;
+    }
+    count
+}
+
+// How many ring partners the q at position j has, or t where it has more. Its pairs are found as for the fast list: a place that many records share is tried once. The words lent are zeros after it.
 fn counted(p: &[i32], hp: Size, q: &[i32], hq: Size, j: usize, t: usize, bits: &mut [u64]) -> usize
     requires { ⌜ Opens (now p) (hp .n) (hp .m) × Opens (now q) (hq .n) (hq .m) × (j < hq .n) × Holds (now bits) (hp .n) ⌝ }
     ensures { λ r. ⌜ (r ≡ smaller t (partnersOf (pointsOf (now (p .entry))) (pointsOf (now (q .entry))) j)) × (now (bits .exit) ≡ none (length (now (bits .entry)))) ⌝ }
 {
-    let count = join::partners_to(p, hp, q, hq, j, t, bits);
+    let terms = Terms {
+        threshold: 0,
+        contractor: 2,
+        own: false,
+        grid: false,
+    };
+    let found = chamber::pairs_of(p, hp, q, hq, terms, 8_000_000_000_000_000_000, j, bits);
     bits::clear(bits);
-    count
+    lesser(t, found)
 }
 
 // The smaller of t and the number of pairs of the chamber with this id in the list, and whether that is t.

@@ -3,13 +3,12 @@
 --     Gathering      the loop over a chamber's pairs: gather-start, gather-next, gather-turn, gather-end
 --     Going          the loop over the chambers: shortest-going-start, going-on, all-gathered
 -- Assumes nothing.
-use mathlib.Core.Path.{_≡_, refl, sym, ap, subst, _∙_}
-use mathlib.Core.Bool.{Bool, true, false, _&&_}
+use mathlib.Core.Path.{_≡_, sym, ap, subst, _∙_}
+use mathlib.Core.Bool.{Bool, true, false}
 use mathlib.Core.List.{List, [], _∷_}
 use Prim.Native.Nat.{ℕ, suc, _+_, _-_, _≤_, _<_}
 use native.Mathlib.Omega.{arith}
 use lib.IntN.{ℤ}
-use borrow.Author.Tests.{le-leb}
 use lib.ListN.{length, take, getD, replicate, List·getD-append}
 use lib.Seq.{length-take-le, take-append-le, take-append-seam}
 use Rattle.sheet.specs.Places.{pointsOf}
@@ -19,19 +18,15 @@ use Rattle.list.specs.declared.Pair.{Pair}
 use Rattle.list.specs.Pairs.{start, none, ascends}
 use Rattle.list.specs.Pages.{padded}
 use Rattle.list.specs.Rows.{row, rows, listBy}
-use Rattle.list.specs.RingList.{pairBy, ringPairBy, ringListBy, Reached}
-use Rattle.list.specs.Terms.{full, profileFor, pairFor}
+use Rattle.list.specs.RingList.{pairBy, ringPairBy, ringListBy}
+use Rattle.list.specs.Terms.{full, profileFor}
 use Rattle.list.proofs.RowLaws.{ring-ascends, list-same}
 use Rattle.plane.specs.Profile.{circle}
-use Rattle.sheet.proofs.PointsLaws.{spot-of, length-points}
-use Rattle.sheet.proofs.RangeLaws.{spot-in}
-use Rattle.plane.specs.Rule.{SpotIn}
 use Rattle.join.proofs.Meaning.{points-rise}
 use Rattle.chamber.specs.Sized.{smallFor}
 use Rattle.chamber.proofs.KeepLaws.{rest-yes, rest-skip, chamber-rest-end}
 use Rattle.chamber.proofs.ListedLaws.{points-many, rows-next, rows-end}
-use Rattle.plane.proofs.ProfileLaws.{profile-lawful}
-use Rattle.plane.specs.Point.{spotAt}
+use Rattle.chamber.proofs.WholeLaws.{small-ring}
 use Rattle.shortest.specs.declared.Search.{Search}
 use Rattle.shortest.specs.Order.{shorter, insert, shortestOf}
 use Rattle.shortest.specs.Answer.{pairsOf}
@@ -191,19 +186,6 @@ module _ (rule : ℕ → ℕ → Bool) (pair : ℕ → ℕ → Pair) (k np nq : 
 
 -- the pairs of all chambers to the greatest size that is taken are the ring pairs of the two sheets
 module _ (P Q : List ℤ) (np mp nq mq : ℕ) (op : Opens P np mp) (oq : Opens Q nq mq) where
-  reached : (w : List ℤ) (n m : ℕ) → Opens w n m → Reached circle (pointsOf w)
-  reached w n m o = record { in-reach = λ i h. subst SpotIn (sym (spot-of w i (omega (arith, length-points w)))) (spot-in o i (omega (arith, length-points w, o .n-is))) }
-
-  small-ring : (j i : ℕ) → j < length (pointsOf Q) → i < length (pointsOf P) → smallFor 8_000_000_000_000_000_000 full (pointsOf P) (pointsOf Q) j i ≡ ringPairBy circle (pointsOf P) (pointsOf Q) j i
-  unfolding smallFor pairFor
-  small-ring j i hj hi =
-      ap (λ (t : Bool). ringPairBy circle (pointsOf P) (pointsOf Q) j i && t) (le-leb _ 8_000_000_000_000_000_000 (profile-lawful false .size-most (spotAt (pointsOf Q) j) (spotAt (pointsOf P) i) (reached Q nq mq oq .in-reach j hj) (reached P np mp op .in-reach i hi)))
-      ∙ and-yes (ringPairBy circle (pointsOf P) (pointsOf Q) j i)
-    where
-      and-yes : (t : Bool) → (t && true) ≡ t
-      and-yes true = refl
-      and-yes false = refl
-
   pub whole-list : listBy (smallFor 8_000_000_000_000_000_000 full (pointsOf P) (pointsOf Q)) (pairBy (profileFor full) (pointsOf P) (pointsOf Q)) np nq ≡ pairsOf P Q
   unfolding ringListBy
   whole-list =
@@ -212,7 +194,7 @@ module _ (P Q : List ℤ) (np mp nq mq : ℕ) (op : Opens P np mp) (oq : Opens Q
       let rule : ℕ → ℕ → Bool = smallFor 8_000_000_000_000_000_000 full (pointsOf P) (pointsOf Q) in
       let pair : ℕ → ℕ → Pair = pairBy (profileFor full) (pointsOf P) (pointsOf Q) in
       ap (λ (n : ℕ). listBy rule pair n nq) x ∙ ap (λ (n : ℕ). listBy rule pair (length (pointsOf P)) n) y
-      ∙ list-same rule (ringPairBy circle (pointsOf P) (pointsOf Q)) pair (length (pointsOf P)) (length (pointsOf Q)) small-ring
+      ∙ list-same rule (ringPairBy circle (pointsOf P) (pointsOf Q)) pair (length (pointsOf P)) (length (pointsOf Q)) (small-ring P Q np mp nq mq op oq)
 
 pub pairs-ascend : {P Q : List ℤ} {np mp nq mq : ℕ} → Opens P np mp → Opens Q nq mq → ascends start (pairsOf P Q) ≡ true
 pairs-ascend {P} {Q} o o′ = ring-ascends circle (pointsOf P) (pointsOf Q) (points-rise o) (points-rise o′)
