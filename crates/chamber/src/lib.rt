@@ -150,8 +150,8 @@ fn judge(
     }
 }
 
-// Of the candidates of the chamber at position j those stay kept whose pair is asked for: how many they are.
-fn keep_pairs(
+// Of the candidates of the chamber at position j, which are kept, those stay kept whose pair is asked for: how many they are.
+pub fn keep_pairs(
     p: &[i32],
     hp: Size,
     q: &[i32],

@@ -1,7 +1,7 @@
 -- Ranks: their order, the ranks of some records one after the other, and the k busiest of them.
 --     busier-order      it is an order; busier-says, busier-so: what it says, in numbers
 --     ranks-next, ranks-end, ranks-only, ranks-same, ranks-apart     of the records one after the other
---     idle-said         a chamber with few candidates has few pairs
+--     idle-row          a chamber with few candidates has few pairs
 --     Going             the loop over the chambers: rank-start, rank-turn, rank-done
 -- Assumes nothing.
 use mathlib.Core.Path.{_≡_, refl, sym, ap, ap₂, subst, _∙_}
@@ -193,15 +193,18 @@ card-part : (ws : List ℕ) (n : ℕ) → n ≤ 64 * length ws → cardIn ws n 0
 unfolding card
 card-part ws n h = let e : n + (64 * length ws - n) ≡ 64 * length ws = omega arith in subst (λ (x : ℕ). cardIn ws n 0 ≤ cardIn ws x 0) e (card-more ws n (64 * length ws - n) 0)
 
--- as many pairs as the chamber has are kept
+-- as many pairs as the chamber has are kept, so where that many are too few, it is idle
 module _ (big : ℕ) (t : Terms) (P Q : List ℤ) (np mp : ℕ) (o : Opens P np mp) (j : ℕ) (b : List ℕ) (c : Covers (t .grid) P Q j b) (h : np ≤ 64 * length b) where
   few-pairs : rowRank big t (pointsOf P) (pointsOf Q) j .pairs ≤ card b
   few-pairs =
       let many = points-many P np mp o in
       omega (arith, row-card (smallFor big t (pointsOf P) (pointsOf Q)) (pairBy (profileFor t) (pointsOf P) (pointsOf Q)) b j (length (pointsOf P)) 0 (λ x u v e. small-covered big t P Q j b c x (omega (arith, many, o .n-is)) e), card-part b (length (pointsOf P)) (omega (arith, many)))
 
-  pub idle-said : (k : ℕ) (g : Ranks) → k ≤ g .count → (len wide : ℕ) → len ≡ card b → wide ≡ getD (g .rows) (k - 1) noRank .pairs → Idle (rowRank big t (pointsOf P) (pointsOf Q) j .pairs) k g (leb len wide)
-  idle-said k g full len wide e f = record { full = λ x. full; fewer = λ x. omega (arith, leb-true len wide x, few-pairs) }
+  pub idle-row : (k : ℕ) (g : Ranks) (r : Bool) → Idle (card b) k g r → Idle (rowRank big t (pointsOf P) (pointsOf Q) j .pairs) k g r
+  idle-row k g r i = record { full = i .full; fewer = λ x. omega (arith, i .fewer x, few-pairs) }
+
+pub idle-said : (most k : ℕ) (g : Ranks) → k ≤ g .count → (len wide : ℕ) → len ≡ most → wide ≡ getD (g .rows) (k - 1) noRank .pairs → Idle most k g (leb len wide)
+idle-said most k g full len wide e f = record { full = λ x. full; fewer = λ x. omega (arith, leb-true len wide x) }
 
 pub idle-not : (pairs k : ℕ) (g : Ranks) → Idle pairs k g false
 idle-not pairs k g = record { full = λ e. clash e refl; fewer = λ e. clash e refl }

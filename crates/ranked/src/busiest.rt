@@ -11,7 +11,7 @@ ghost use lib.ListN.{length};
 ghost use Rattle.plane.specs.Point.{idAt};
 ghost use Rattle.sheet.specs.Open.{Opens};
 ghost use Rattle.sheet.specs.Places.{pointsOf};
-ghost use Rattle.bits.specs.Set.{wordsFor, none, Holds};
+ghost use Rattle.bits.specs.Set.{wordsFor, none, Holds, Numbered, card};
 ghost use Rattle.list.specs.Contractor.{mine};
 ghost use Rattle.join.specs.Sheets.{Alone};
 ghost use Rattle.ranked.specs.Ranking.{firstBy, gathered};
@@ -32,32 +32,20 @@ fn narrow(k: usize) -> u32
     k as u32
 }
 
-// Whether the chamber at position j cannot be among the k busiest: k are held, and its candidates are no more than the last of them has pairs. The chambers come in the order of their ids,
-// so that with as many pairs it would stand behind that one. The words lent have no meaning after it.
-fn is_idle(
-    p: &[i32],
-    hp: Size,
-    q: &[i32],
-    hq: Size,
-    terms: Terms,
-    largest: u64,
-    k: usize,
-    j: usize,
-    g: Ranks,
-    bits: &mut [u64],
-) -> bool
-    requires { ⌜ Opens (now p) (hp .n) (hp .m) × Opens (now q) (hq .n) (hq .m) × (j < hq .n) × Holds (now bits) (hp .n) × (1 ≤ k) × (k ≤ 16) ⌝ }
-    ensures { λ r. ⌜ Idle (rowRank largest terms (pointsOf (now (p .entry))) (pointsOf (now (q .entry))) j .pairs) k g r ⌝ }
+// Whether a chamber cannot be among the k busiest whose candidates are kept on the words: k are held, and the candidates are no more than the last of them has pairs. The chambers come in the
+// order of their ids, so that with as many pairs it would stand behind that one.
+fn is_idle(k: usize, g: Ranks, bits: &[u64]) -> bool
+    requires { ⌜ Numbered (now bits) × (1 ≤ k) × (k ≤ 16) ⌝ }
+    ensures { λ r. ⌜ Idle (card (now (bits .entry))) k g r ⌝ }
 {
     if g.count < k {
         return false;
     }
     let last = g.rows[k - 1];
-    seeds::candidates(p, hp, q, hq, j, bits, terms.grid);
     bits::len(bits) <= wide(last.pairs)
 }
 
-// The chamber at position j is ranked, where it is the contractor's and may be among the k busiest.
+// The chamber at position j is ranked, where it is the contractor's and may be among the k busiest. Its candidates are found once: to be counted, and then to be judged.
 fn of_chamber(
     p: &[i32],
     hp: Size,
@@ -77,10 +65,11 @@ fn of_chamber(
     if !list::is_mine(owners, terms.contractor, j) {
         return g;
     }
-    if is_idle(p, hp, q, hq, terms, largest, k, j, g, bits) {
+    seeds::candidates(p, hp, q, hq, j, bits, terms.grid);
+    if is_idle(k, g, bits) {
         return g;
     }
-    let found = chamber::pairs_of(p, hp, q, hq, terms, largest, j, bits);
+    let found = chamber::keep_pairs(p, hp, q, hq, terms, largest, j, bits);
     let v = Rank {
         id: sheet::reads::id_at(q, hq.n, hq.m, j),
         pairs: narrow(found),

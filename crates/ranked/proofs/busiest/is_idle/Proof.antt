@@ -1,5 +1,4 @@
 -- `ranked::busiest::is_idle` meets its contract. Assumes nothing.
-use native.Mathlib.Omega.{arith}
 use Rattle.ranked.proofs.RanksLaws.{idle-said, idle-not}
 use borrow.Author.Needs.{needs}
 use Rattle.ranked.proofs.busiest.is_idle.Statement.{statement}
@@ -17,34 +16,16 @@ mul-last c = search needs
 element-copy-out-last : tie.Need-element-copy-out-last
 element-copy-out-last c = search needs
 
-candidates-requires : tie.Need-candidates-requires
-candidates-requires c κs = search needs
-
 len-requires : tie.Need-len-requires
 len-requires c κs = search needs
 
 wide-requires : tie.Need-wide-requires
 wide-requires c κs = search needs
 
-same-length : tie.Need-same-length
-same-length c = search needs
-
 returns-2 : tie.Need-returns-2
-returns-2 c =
-    let s = c .before .before .before .before .before .before .before .before .before .before in
-    let d = c .before .before .before .before .before .candidates in
-    idle-said (s .args .largest) (s .args .terms) _ _ _ _ (s .pre .0) _ _ (d .ensures) (omega (arith, s .pre .3 .enough, d .kept .1 .1 .1 .1 .1 .0)) _ _ (c .before .before .before .before .before .before .before .before .if1 .left) _ _ (c .before .len .ensures) (c .wide .ensures)
+returns-2 c = idle-said _ _ _ (c .before .before .before .if1 .left) _ _ (c .before .len .ensures) (c .wide .ensures)
 
 pub is-idle-spec : {M : Type 1} → statement M
 is-idle-spec =
     tie.close
-    (tie.spec
-    returns
-    sub-last
-    mul-last
-    element-copy-out-last
-    candidates-requires
-    len-requires
-    wide-requires
-    same-length
-    returns-2)
+    (tie.spec returns sub-last mul-last element-copy-out-last len-requires wide-requires returns-2)
