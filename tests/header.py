@@ -26,7 +26,7 @@ FIELD = re.compile(r"^    pub (\w+): (.*),$", re.M)
 # what a type of the source is called over C; any other has `Ring` before its name
 NAMES = {"u8": "uint8_t", "u32": "uint32_t", "i32": "int32_t", "u64": "uint64_t", "usize": "size_t", "bool": "bool", "f64": "double", "HeadAnswer": "RingHead",
          "PointAnswer": "RingPoint", "WalkAnswer": "RingWalked", "BookAnswer": "RingBegun", "KeyAnswer": "RingNext", "MarkAnswer": "RingMarker",
-         "StoreAnswer": "RingStored", "Partnered": "RingPartners"}
+         "StoreAnswer": "RingStored", "Partnered": "RingPartners", "Question": "RingAsked"}
 
 
 def read(name):

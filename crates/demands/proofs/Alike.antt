@@ -37,7 +37,7 @@ use Rattle.depot.specs.Forms.{formsOut, madeArray}
 use Rattle.depot.specs.Depot.{storedSlots, storedArray}
 use Rattle.runs.specs.declared.RunArray.{RunArray}
 use Rattle.runs.specs.Run as runs
-use Rattle.ranked.specs.declared.Asked.{Asked as RankAsked}
+use Rattle.ranked.specs.declared.Question.{Question}
 use Rattle.ranked.specs.declared.Busy.{Busy}
 use Rattle.ranked.specs.declared.Urgent.{Urgent}
 use Rattle.many.specs.declared.Which.{Which}
@@ -94,13 +94,13 @@ view-count l b p q o which w r w′ a = record { κs = ([], ([], ([], ([], tt)))
 pub view-own-count : (b : Place) (d : Sheet) (big : ℕ) (g : Bool) (w : List ℕ) (r : Counted) (w′ : List ℕ) → ViewOwnCounts d big g w r w′ → OwnCountAnswers (now (d .words)) big g w r w′
 view-own-count b d big g w r w′ a = record { κs = ([], ([], tt)); w-at = place (d .words); b-at = b; promised = a }
 
-pub view-busiest : (l b : Place) (p q : Sheet) (o : List ℕ) (ask : RankAsked) (w : List ℕ) (r : Busy) (w′ : List ℕ) → ViewBusiest p q o ask w r w′ → BusyAnswers (now (p .words)) (now (q .words)) o ask w r w′
+pub view-busiest : (l b : Place) (p q : Sheet) (o : List ℕ) (ask : Question) (w : List ℕ) (r : Busy) (w′ : List ℕ) → ViewBusiest p q o ask w r w′ → BusyAnswers (now (p .words)) (now (q .words)) o ask w r w′
 view-busiest l b p q o ask w r w′ a = record { κs = ([], ([], ([], ([], tt)))); p-at = place (p .words); q-at = place (q .words); o-at = l; b-at = b; promised = a }
 
 pub view-busiest-pumps : (b : Place) (p q : Sheet) (k big : ℕ) (g : Bool) (w : List ℕ) (r : Busy) (w′ : List ℕ) → ViewPumps p q k big g w r w′ → PumpAnswers (now (p .words)) (now (q .words)) k big g w r w′
 view-busiest-pumps b p q k big g w r w′ a = record { κs = ([], ([], ([], tt))); p-at = place (p .words); q-at = place (q .words); b-at = b; promised = a }
 
-pub view-urgent : (l m n b : Place) (p q : Sheet) (o ps qs : List ℕ) (ask : RankAsked) (w : List ℕ) (r : Urgent) (w′ : List ℕ) → ViewUrgent p q o ps qs ask w r w′ → UrgentAnswers (now (p .words)) (now (q .words)) o ps qs ask w r w′
+pub view-urgent : (l m n b : Place) (p q : Sheet) (o ps qs : List ℕ) (ask : Question) (w : List ℕ) (r : Urgent) (w′ : List ℕ) → ViewUrgent p q o ps qs ask w r w′ → UrgentAnswers (now (p .words)) (now (q .words)) o ps qs ask w r w′
 view-urgent l m n b p q o ps qs ask w r w′ a = record { κs = ([], ([], ([], ([], ([], ([], tt)))))); p-at = place (p .words); q-at = place (q .words); o-at = l; ps-at = m; qs-at = n; b-at = b; promised = a }
 
 -- ---- for callers that hold no view

@@ -95,7 +95,7 @@ use Rattle.nearest.proofs.Meaning as of-nearest
 use Rattle.runs.specs.declared.Run.{Run}
 use Rattle.runs.specs.declared.RunArray.{RunArray}
 use Rattle.runs.specs.Run.{runNo, runRefused, runAnswer, runSlots}
-use Rattle.ranked.specs.declared.Asked.{Asked as RankAsked}
+use Rattle.ranked.specs.declared.Question.{Question}
 use Rattle.ranked.specs.declared.Rank.{Rank}
 use Rattle.ranked.specs.declared.Busy.{Busy}
 use Rattle.ranked.specs.declared.Urgent.{Urgent}
@@ -310,7 +310,7 @@ busy-by nr n l w r w′ a = (
 )
 
 -- [BU9, BU10]
-pub busy-no : (P Q : List ℤ) (o : List ℕ) (ask : RankAsked) (w : List ℕ) (r : Busy) (w′ : List ℕ) → BusyAnswers P Q o ask w r w′
+pub busy-no : (P Q : List ℤ) (o : List ℕ) (ask : Question) (w : List ℕ) (r : Busy) (w′ : List ℕ) → BusyAnswers P Q o ask w r w′
     → (r .number ≡ busyNo P Q o ask (length w)) × (Refuses (busyNo P Q o ask (length w)) → (r ≡ busyRefused (busyNo P Q o ask (length w))) × (w′ ≡ w))
 unfolding busyAnswer busyBits
 busy-no P Q o ask w r w′ a = busy-by (busyNo P Q o ask (length w)) (need P) (busiestOf P Q o ask) w r w′ (a .promised)
@@ -322,7 +322,7 @@ unfolding pumpAnswer pumpBits
 pump-no P Q k big g w r w′ a = busy-by (pumpNo P Q k big g (length w)) (need Q) (busiestPumps P Q k big g) w r w′ (a .promised)
 
 -- [BU9, BU10]
-pub urgent-no : (P Q : List ℤ) (o ps qs : List ℕ) (ask : RankAsked) (w : List ℕ) (r : Urgent) (w′ : List ℕ) → UrgentAnswers P Q o ps qs ask w r w′
+pub urgent-no : (P Q : List ℤ) (o ps qs : List ℕ) (ask : Question) (w : List ℕ) (r : Urgent) (w′ : List ℕ) → UrgentAnswers P Q o ps qs ask w r w′
     → (r .number ≡ urgentNo P Q o ps qs ask (length w)) × (Refuses (urgentNo P Q o ps qs ask (length w)) → (r ≡ urgentRefused (urgentNo P Q o ps qs ask (length w))) × (w′ ≡ w))
 unfolding urgentAnswer urgentBits urgentGiven urgentRefused
 urgent-no P Q o ps qs ask w r w′ a =

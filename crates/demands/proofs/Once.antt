@@ -41,7 +41,7 @@ use Rattle.shortest.specs.declared.Shortlist.{Shortlist}
 use Rattle.nearest.specs.declared.Found.{Found}
 use Rattle.runs.specs.declared.Run.{Run}
 use Rattle.runs.specs.declared.RunArray.{RunArray}
-use Rattle.ranked.specs.declared.Asked.{Asked as RankAsked}
+use Rattle.ranked.specs.declared.Question.{Question}
 use Rattle.ranked.specs.declared.Busy.{Busy}
 use Rattle.ranked.specs.declared.Urgent.{Urgent}
 use Rattle.many.specs.declared.Which.{Which}
@@ -180,13 +180,13 @@ count-once P Q o which w r r′ t t′ a b = (a .promised .0 ∙ sym (b .promise
 pub own-count-once : (S : List ℤ) (big : ℕ) (g : Bool) (w : List ℕ) (r r′ : Counted) (t t′ : List ℕ) → OwnCountAnswers S big g w r t → OwnCountAnswers S big g w r′ t′ → (r ≡ r′) × (t ≡ t′)
 own-count-once S big g w r r′ t t′ a b = (a .promised .0 ∙ sym (b .promised .0), a .promised .1 ∙ sym (b .promised .1))
 
-pub busiest-once : (P Q : List ℤ) (o : List ℕ) (ask : RankAsked) (w : List ℕ) (r r′ : Busy) (t t′ : List ℕ) → BusyAnswers P Q o ask w r t → BusyAnswers P Q o ask w r′ t′ → (r ≡ r′) × (t ≡ t′)
+pub busiest-once : (P Q : List ℤ) (o : List ℕ) (ask : Question) (w : List ℕ) (r r′ : Busy) (t t′ : List ℕ) → BusyAnswers P Q o ask w r t → BusyAnswers P Q o ask w r′ t′ → (r ≡ r′) × (t ≡ t′)
 busiest-once P Q o ask w r r′ t t′ a b = (a .promised .0 ∙ sym (b .promised .0), a .promised .1 ∙ sym (b .promised .1))
 
 pub busiest-pumps-once : (P Q : List ℤ) (k big : ℕ) (g : Bool) (w : List ℕ) (r r′ : Busy) (t t′ : List ℕ) → PumpAnswers P Q k big g w r t → PumpAnswers P Q k big g w r′ t′ → (r ≡ r′) × (t ≡ t′)
 busiest-pumps-once P Q k big g w r r′ t t′ a b = (a .promised .0 ∙ sym (b .promised .0), a .promised .1 ∙ sym (b .promised .1))
 
-pub urgent-once : (P Q : List ℤ) (o ps qs : List ℕ) (ask : RankAsked) (w : List ℕ) (r r′ : Urgent) (t t′ : List ℕ) → UrgentAnswers P Q o ps qs ask w r t → UrgentAnswers P Q o ps qs ask w r′ t′ → (r ≡ r′) × (t ≡ t′)
+pub urgent-once : (P Q : List ℤ) (o ps qs : List ℕ) (ask : Question) (w : List ℕ) (r r′ : Urgent) (t t′ : List ℕ) → UrgentAnswers P Q o ps qs ask w r t → UrgentAnswers P Q o ps qs ask w r′ t′ → (r ≡ r′) × (t ≡ t′)
 urgent-once P Q o ps qs ask w r r′ t t′ a b = (a .promised .0 ∙ sym (b .promised .0), a .promised .1 ∙ sym (b .promised .1))
 
 -- ---- view
@@ -238,13 +238,13 @@ view-count-once p q o which w r r′ t t′ x y = (x .0 ∙ sym (y .0), x .1 ∙
 pub view-own-count-once : (d : Sheet) (big : ℕ) (g : Bool) (w : List ℕ) (r r′ : Counted) (t t′ : List ℕ) → ViewOwnCounts d big g w r t → ViewOwnCounts d big g w r′ t′ → (r ≡ r′) × (t ≡ t′)
 view-own-count-once d big g w r r′ t t′ x y = (x .0 ∙ sym (y .0), x .1 ∙ sym (y .1))
 
-pub view-busiest-once : (p q : Sheet) (o : List ℕ) (ask : RankAsked) (w : List ℕ) (r r′ : Busy) (t t′ : List ℕ) → ViewBusiest p q o ask w r t → ViewBusiest p q o ask w r′ t′ → (r ≡ r′) × (t ≡ t′)
+pub view-busiest-once : (p q : Sheet) (o : List ℕ) (ask : Question) (w : List ℕ) (r r′ : Busy) (t t′ : List ℕ) → ViewBusiest p q o ask w r t → ViewBusiest p q o ask w r′ t′ → (r ≡ r′) × (t ≡ t′)
 view-busiest-once p q o ask w r r′ t t′ x y = (x .0 ∙ sym (y .0), x .1 ∙ sym (y .1))
 
 pub view-busiest-pumps-once : (p q : Sheet) (k big : ℕ) (g : Bool) (w : List ℕ) (r r′ : Busy) (t t′ : List ℕ) → ViewPumps p q k big g w r t → ViewPumps p q k big g w r′ t′ → (r ≡ r′) × (t ≡ t′)
 view-busiest-pumps-once p q k big g w r r′ t t′ x y = (x .0 ∙ sym (y .0), x .1 ∙ sym (y .1))
 
-pub view-urgent-once : (p q : Sheet) (o ps qs : List ℕ) (ask : RankAsked) (w : List ℕ) (r r′ : Urgent) (t t′ : List ℕ) → ViewUrgent p q o ps qs ask w r t → ViewUrgent p q o ps qs ask w r′ t′ → (r ≡ r′) × (t ≡ t′)
+pub view-urgent-once : (p q : Sheet) (o ps qs : List ℕ) (ask : Question) (w : List ℕ) (r r′ : Urgent) (t t′ : List ℕ) → ViewUrgent p q o ps qs ask w r t → ViewUrgent p q o ps qs ask w r′ t′ → (r ≡ r′) × (t ≡ t′)
 view-urgent-once p q o ps qs ask w r r′ t t′ x y = (x .0 ∙ sym (y .0), x .1 ∙ sym (y .1))
 
 pub open-head-once : (w : List ℤ) (r r′ : Head) → OpenHead w r → OpenHead w r′ → r ≡ r′

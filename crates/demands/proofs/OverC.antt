@@ -59,7 +59,7 @@ use Rattle.depot.proofs.TakeLaws as of-depot
 use Rattle.shortest.specs.declared.Shortlist.{Shortlist}
 use Rattle.nearest.specs.declared.Found.{Found}
 use Rattle.runs.specs.declared.Run.{Run}
-use Rattle.ranked.specs.declared.Asked.{Asked as RankAsked}
+use Rattle.ranked.specs.declared.Question.{Question}
 use Rattle.ranked.specs.declared.Busy.{Busy}
 use Rattle.ranked.specs.declared.Urgent.{Urgent}
 use Rattle.many.specs.declared.Which.{Which}
@@ -287,13 +287,13 @@ count-over P Q o which w r w′ a = record { κs = a .κs; p-at = a .p-at; q-at 
 pub own-count-over : (S : List ℤ) (big : ℕ) (g : Bool) (w : List ℕ) (r : Counted) (w′ : List ℕ) → OwnCountC S big g w r w′ → OwnCountAnswers S big g w r w′
 own-count-over S big g w r w′ a = record { κs = a .κs; w-at = a .w-at; b-at = a .b-at; promised = a .promised }
 
-pub busiest-over : (P Q : List ℤ) (o : List ℕ) (ask : RankAsked) (w : List ℕ) (r : Busy) (w′ : List ℕ) → BusyC P Q o ask w r w′ → BusyAnswers P Q o ask w r w′
+pub busiest-over : (P Q : List ℤ) (o : List ℕ) (ask : Question) (w : List ℕ) (r : Busy) (w′ : List ℕ) → BusyC P Q o ask w r w′ → BusyAnswers P Q o ask w r w′
 busiest-over P Q o ask w r w′ a = record { κs = a .κs; p-at = a .p-at; q-at = a .q-at; o-at = a .o-at; b-at = a .b-at; promised = a .promised }
 
 pub busiest-pumps-over : (P Q : List ℤ) (k big : ℕ) (g : Bool) (w : List ℕ) (r : Busy) (w′ : List ℕ) → PumpC P Q k big g w r w′ → PumpAnswers P Q k big g w r w′
 busiest-pumps-over P Q k big g w r w′ a = record { κs = a .κs; p-at = a .p-at; q-at = a .q-at; b-at = a .b-at; promised = a .promised }
 
-pub urgent-over : (P Q : List ℤ) (o ps qs : List ℕ) (ask : RankAsked) (w : List ℕ) (r : Urgent) (w′ : List ℕ) → UrgentC P Q o ps qs ask w r w′ → UrgentAnswers P Q o ps qs ask w r w′
+pub urgent-over : (P Q : List ℤ) (o ps qs : List ℕ) (ask : Question) (w : List ℕ) (r : Urgent) (w′ : List ℕ) → UrgentC P Q o ps qs ask w r w′ → UrgentAnswers P Q o ps qs ask w r w′
 urgent-over P Q o ps qs ask w r w′ a = record { κs = a .κs; p-at = a .p-at; q-at = a .q-at; o-at = a .o-at; ps-at = a .ps-at; qs-at = a .qs-at; b-at = a .b-at; promised = a .promised }
 
 pub point-over : (w : List ℤ) (i : ℕ) (c : PointAnswer) (r : Pointed) → PointC w i c → PointAnswers w i r → c ≡ pointOver r
@@ -437,13 +437,13 @@ count-c-once P Q o which w r r′ t t′ a b = once.count-once P Q o which w r r
 pub own-count-c-once : (S : List ℤ) (big : ℕ) (g : Bool) (w : List ℕ) (r r′ : Counted) (t t′ : List ℕ) → OwnCountC S big g w r t → OwnCountC S big g w r′ t′ → (r ≡ r′) × (t ≡ t′)
 own-count-c-once S big g w r r′ t t′ a b = once.own-count-once S big g w r r′ t t′ (own-count-over S big g w r t a) (own-count-over S big g w r′ t′ b)
 
-pub busiest-c-once : (P Q : List ℤ) (o : List ℕ) (ask : RankAsked) (w : List ℕ) (r r′ : Busy) (t t′ : List ℕ) → BusyC P Q o ask w r t → BusyC P Q o ask w r′ t′ → (r ≡ r′) × (t ≡ t′)
+pub busiest-c-once : (P Q : List ℤ) (o : List ℕ) (ask : Question) (w : List ℕ) (r r′ : Busy) (t t′ : List ℕ) → BusyC P Q o ask w r t → BusyC P Q o ask w r′ t′ → (r ≡ r′) × (t ≡ t′)
 busiest-c-once P Q o ask w r r′ t t′ a b = once.busiest-once P Q o ask w r r′ t t′ (busiest-over P Q o ask w r t a) (busiest-over P Q o ask w r′ t′ b)
 
 pub busiest-pumps-c-once : (P Q : List ℤ) (k big : ℕ) (g : Bool) (w : List ℕ) (r r′ : Busy) (t t′ : List ℕ) → PumpC P Q k big g w r t → PumpC P Q k big g w r′ t′ → (r ≡ r′) × (t ≡ t′)
 busiest-pumps-c-once P Q k big g w r r′ t t′ a b = once.busiest-pumps-once P Q k big g w r r′ t t′ (busiest-pumps-over P Q k big g w r t a) (busiest-pumps-over P Q k big g w r′ t′ b)
 
-pub urgent-c-once : (P Q : List ℤ) (o ps qs : List ℕ) (ask : RankAsked) (w : List ℕ) (r r′ : Urgent) (t t′ : List ℕ) → UrgentC P Q o ps qs ask w r t → UrgentC P Q o ps qs ask w r′ t′ → (r ≡ r′) × (t ≡ t′)
+pub urgent-c-once : (P Q : List ℤ) (o ps qs : List ℕ) (ask : Question) (w : List ℕ) (r r′ : Urgent) (t t′ : List ℕ) → UrgentC P Q o ps qs ask w r t → UrgentC P Q o ps qs ask w r′ t′ → (r ≡ r′) × (t ≡ t′)
 urgent-c-once P Q o ps qs ask w r r′ t t′ a b = once.urgent-once P Q o ps qs ask w r r′ t t′ (urgent-over P Q o ps qs ask w r t a) (urgent-over P Q o ps qs ask w r′ t′ b)
 
 pub begin-c-once : (s : Source) (r r′ : BookAnswer) → BeginC s r → BeginC s r′ → r ≡ r′

@@ -38,7 +38,7 @@ use Rattle.ring.specs.Numbers.{gridNo}
 use Rattle.ring.proofs.LentLaws.{bits-enough}
 use Rattle.chamber.specs.Sized.{listTo}
 use Rattle.many.specs.Many.{lastLargest, largestNo}
-use Rattle.ranked.specs.declared.Asked.{Asked as RankAsked}
+use Rattle.ranked.specs.declared.Question.{Question}
 use Rattle.ranked.specs.declared.Rank.{Rank}
 use Rattle.ranked.specs.declared.Busy.{Busy}
 use Rattle.ranked.specs.declared.Visit.{Visit}
@@ -103,7 +103,7 @@ module _ (k : ℕ) (l : List Rank) (r : Busy) (is : r ≡ busyGiven (firstBy bus
 
 -- ---- the busiest chambers
 
-module _ (P Q : List ℤ) (p-opens : WellFormed P) (q-opens : WellFormed Q) (o : List ℕ) (ask : RankAsked) (w : List ℕ) (r : Busy) (w′ : List ℕ) (a : BusyAnswers P Q o ask w r w′) where
+module _ (P Q : List ℤ) (p-opens : WellFormed P) (q-opens : WellFormed Q) (o : List ℕ) (ask : Question) (w : List ℕ) (r : Busy) (w′ : List ℕ) (a : BusyAnswers P Q o ask w r w′) where
   -- k from 1 to 16, a contractor with its owner bytes, a largest size in range, sheets of form 1 for the street grid, and words enough are served [BU10]
   pub busiest-served : 1 ≤ ask .k → ask .k ≤ 16 → Whose (ask .contractor) o (points Q) → ask .largest ≤ lastLargest → gridNo (ask .grid) P Q ≡ 0 → need P ≤ length w → r .number ≡ 0
   unfolding busyNo largestNo first given
@@ -206,7 +206,7 @@ module _ (P Q : List ℤ) (p-opens : WellFormed P) (q-opens : WellFormed Q) (k b
 
 -- ---- the most urgent visits
 
-module _ (P Q : List ℤ) (p-opens : WellFormed P) (q-opens : WellFormed Q) (o ps qs : List ℕ) (ask : RankAsked) (w : List ℕ) (r : Urgent) (w′ : List ℕ) (a : UrgentAnswers P Q o ps qs ask w r w′) where
+module _ (P Q : List ℤ) (p-opens : WellFormed P) (q-opens : WellFormed Q) (o ps qs : List ℕ) (ask : Question) (w : List ℕ) (r : Urgent) (w′ : List ℕ) (a : UrgentAnswers P Q o ps qs ask w r w′) where
   -- "a lent score a record, by position, for each sheet (0 to 1,000,000,000)" [BU7, BU10]
   pub urgent-served : 1 ≤ ask .k → ask .k ≤ 16 → Whose (ask .contractor) o (points Q) → ask .largest ≤ lastLargest → gridNo (ask .grid) P Q ≡ 0 → scoresOk ps (points P) ≡ true → scoresOk qs (points Q) ≡ true → need P ≤ length w → r .number ≡ 0
   unfolding urgentNo largestNo scoresNo first given

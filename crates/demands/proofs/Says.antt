@@ -41,7 +41,7 @@ use Rattle.shortest.specs.declared.Shortlist.{Shortlist}
 use Rattle.nearest.specs.declared.Found.{Found}
 use Rattle.runs.specs.declared.Run.{Run}
 use Rattle.runs.proofs.leaf_run as leaf-run
-use Rattle.ranked.specs.declared.Asked.{Asked as RankAsked}
+use Rattle.ranked.specs.declared.Question.{Question}
 use Rattle.ranked.specs.declared.Busy.{Busy}
 use Rattle.ranked.specs.declared.Urgent.{Urgent}
 use Rattle.many.specs.declared.Which.{Which}
@@ -178,7 +178,7 @@ module _ {M : Type 1} (𝓤 : URA M) (H : Heap 𝓤) (A : Atoms 𝓤) (mem : Mem
       ≡ fact 𝓤 (ViewOwnCounts d big g w r w′)
   view-own-count-says κs b-at d big g w r w′ = refl
 
-  pub view-busiest-says : (κs : Lfts 4) (o-at b-at : Place) (p q : Sheet) (o : List ℕ) (ask : RankAsked) (w : List ℕ) (r : Busy) (w′ : List ℕ)
+  pub view-busiest-says : (κs : Lfts 4) (o-at b-at : Place) (p q : Sheet) (o : List ℕ) (ask : Question) (w : List ℕ) (r : Busy) (w′ : List ℕ)
       → view-busiest.ensures-1 𝓤 H κs A mem run p q (slice o-at o) ask (slice b-at w) (record { entry = p; exit = p }) (record { entry = q; exit = q }) (record { entry = slice o-at o; exit = slice o-at o }) (record { entry = ask; exit = ask }) (record { entry = slice b-at w; exit = slice b-at w′ }) r
       ≡ fact 𝓤 (ViewBusiest p q o ask w r w′)
   view-busiest-says κs o-at b-at p q o ask w r w′ = refl
@@ -188,7 +188,7 @@ module _ {M : Type 1} (𝓤 : URA M) (H : Heap 𝓤) (A : Atoms 𝓤) (mem : Mem
       ≡ fact 𝓤 (ViewPumps p q k big g w r w′)
   view-busiest-pumps-says κs b-at p q k big g w r w′ = refl
 
-  pub view-urgent-says : (κs : Lfts 6) (o-at ps-at qs-at b-at : Place) (p q : Sheet) (o ps qs : List ℕ) (ask : RankAsked) (w : List ℕ) (r : Urgent) (w′ : List ℕ)
+  pub view-urgent-says : (κs : Lfts 6) (o-at ps-at qs-at b-at : Place) (p q : Sheet) (o ps qs : List ℕ) (ask : Question) (w : List ℕ) (r : Urgent) (w′ : List ℕ)
       → view-urgent.ensures-1 𝓤 H κs A mem run p q (slice o-at o) (slice ps-at ps) (slice qs-at qs) ask (slice b-at w) (record { entry = p; exit = p }) (record { entry = q; exit = q }) (record { entry = slice o-at o; exit = slice o-at o }) (record { entry = slice ps-at ps; exit = slice ps-at ps }) (record { entry = slice qs-at qs; exit = slice qs-at qs }) (record { entry = ask; exit = ask }) (record { entry = slice b-at w; exit = slice b-at w′ }) r
       ≡ fact 𝓤 (ViewUrgent p q o ps qs ask w r w′)
   view-urgent-says κs o-at ps-at qs-at b-at p q o ps qs ask w r w′ = refl

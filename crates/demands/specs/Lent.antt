@@ -21,7 +21,7 @@ use Rattle.many.specs.declared.Which.{Which}
 use Rattle.many.specs.declared.Wanted.{Wanted}
 use Rattle.many.specs.declared.Counted.{Counted}
 use Rattle.many.specs.declared.Many.{Many}
-use Rattle.ranked.specs.declared.Asked.{Asked as RankAsked}
+use Rattle.ranked.specs.declared.Question.{Question}
 use Rattle.ranked.specs.declared.Busy.{Busy}
 use Rattle.ranked.specs.declared.Urgent.{Urgent}
 use Rattle.demands.specs.Promises.{FilterAnswers, PageAnswers, OwnAnswers, PartnersAnswers, ShortAnswers, NearFilterAnswers, RunAnswers, RunArrayAnswers, PairsAnswers, OwnPairsAnswers, CountAnswers, OwnCountAnswers, BusyAnswers, PumpAnswers, UrgentAnswers}
@@ -43,9 +43,9 @@ pub data Works : ℕ → ℕ → List ℕ → List ℕ → Type 0 where
   works-own-pairs : (S : List ℤ) (key : Key) (big : ℕ) (g : Bool) (slots : List Pair) (w : List ℕ) (r : Many) (slots′ : List Pair) (w′ : List ℕ) → OwnPairsAnswers S key big g slots w r slots′ w′ → Works (need S) (r .number) w w′
   works-count : (P Q : List ℤ) (o : List ℕ) (which : Which) (w : List ℕ) (r : Counted) (w′ : List ℕ) → CountAnswers P Q o which w r w′ → Works (need P) (r .number) w w′
   works-own-count : (S : List ℤ) (big : ℕ) (g : Bool) (w : List ℕ) (r : Counted) (w′ : List ℕ) → OwnCountAnswers S big g w r w′ → Works (need S) (r .number) w w′
-  works-busy : (P Q : List ℤ) (o : List ℕ) (ask : RankAsked) (w : List ℕ) (r : Busy) (w′ : List ℕ) → BusyAnswers P Q o ask w r w′ → Works (need P) (r .number) w w′
+  works-busy : (P Q : List ℤ) (o : List ℕ) (ask : Question) (w : List ℕ) (r : Busy) (w′ : List ℕ) → BusyAnswers P Q o ask w r w′ → Works (need P) (r .number) w w′
   works-pumps : (P Q : List ℤ) (k big : ℕ) (g : Bool) (w : List ℕ) (r : Busy) (w′ : List ℕ) → PumpAnswers P Q k big g w r w′ → Works (need Q) (r .number) w w′
-  works-urgent : (P Q : List ℤ) (o ps qs : List ℕ) (ask : RankAsked) (w : List ℕ) (r : Urgent) (w′ : List ℕ) → UrgentAnswers P Q o ps qs ask w r w′ → Works (need P) (r .number) w w′
+  works-urgent : (P Q : List ℤ) (o ps qs : List ℕ) (ask : Question) (w : List ℕ) (r : Urgent) (w′ : List ℕ) → UrgentAnswers P Q o ps qs ask w r w′ → Works (need P) (r .number) w w′
 
 -- Any of these: how many words it needs, the number of the answer, the words lent and those at its exit.
 pub data Lends : ℕ → ℕ → List ℕ → List ℕ → Type 0 where

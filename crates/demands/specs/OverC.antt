@@ -18,7 +18,7 @@ use Rattle.ring.specs.declared.Placed.{Placed}
 use Rattle.nearest.specs.declared.Found.{Found}
 use Rattle.many.specs.declared.Which.{Which}
 use Rattle.many.specs.declared.Counted.{Counted}
-use Rattle.ranked.specs.declared.Asked.{Asked as RankAsked}
+use Rattle.ranked.specs.declared.Question.{Question}
 use Rattle.ranked.specs.declared.Busy.{Busy}
 use Rattle.ranked.specs.declared.Urgent.{Urgent}
 use Rattle.book.specs.declared.Book.{Book}
@@ -186,7 +186,7 @@ pub record OwnCountC (S : List ℤ) (big : ℕ) (g : Bool) (bits : List ℕ) (r 
   pub promised : own-count-c.Post κs (slice w-at S, (big, (g, (slice b-at bits, tt)))) r (slice w-at S, (big, (g, (slice b-at bits′, tt))))
 
 -- `ring_busiest(P, Q, o, ask, bits)` answers r, and the lent words are `bits′` at its exit
-pub record BusyC (P Q : List ℤ) (o : List ℕ) (ask : RankAsked) (bits : List ℕ) (r : Busy) (bits′ : List ℕ) : Type 0 where
+pub record BusyC (P Q : List ℤ) (o : List ℕ) (ask : Question) (bits : List ℕ) (r : Busy) (bits′ : List ℕ) : Type 0 where
   pub κs : Lfts 4
   pub p-at : Place
   pub q-at : Place
@@ -209,7 +209,7 @@ pub record PumpC (P Q : List ℤ) (k big : ℕ) (g : Bool) (bits : List ℕ) (r 
       (slice p-at P, (slice q-at Q, (k, (big, (g, (slice b-at bits′, tt))))))
 
 -- `ring_urgent(P, Q, o, ps, qs, ask, bits)` answers r, and the lent words are `bits′` at its exit
-pub record UrgentC (P Q : List ℤ) (o ps qs : List ℕ) (ask : RankAsked) (bits : List ℕ) (r : Urgent) (bits′ : List ℕ) : Type 0 where
+pub record UrgentC (P Q : List ℤ) (o ps qs : List ℕ) (ask : Question) (bits : List ℕ) (r : Urgent) (bits′ : List ℕ) : Type 0 where
   pub κs : Lfts 6
   pub p-at : Place
   pub q-at : Place

@@ -62,7 +62,7 @@ use Rattle.many.specs.declared.Wanted.{Wanted}
 use Rattle.many.specs.declared.Counted.{Counted}
 use Rattle.many.specs.declared.Many.{Many}
 use Rattle.many.specs.Many.{pairsAnswer, pairsSlots, pairsBits, ownPairsAnswer, ownPairsSlots, ownPairsBits, countAnswer, countBits, ownCountAnswer, ownCountBits}
-use Rattle.ranked.specs.declared.Asked.{Asked as RankAsked}
+use Rattle.ranked.specs.declared.Question.{Question}
 use Rattle.ranked.specs.declared.Busy.{Busy}
 use Rattle.ranked.specs.declared.Urgent.{Urgent}
 use Rattle.ranked.specs.Busiest.{busyAnswer, busyBits, pumpAnswer, pumpBits}
@@ -365,7 +365,7 @@ NumberAnswers a o P Q big bits r bits′ = CountOfKind (a .own) a o P Q big bits
 -- ---- the first of a list in an order
 
 -- `ranked::busiest::busiest(P, Q, o, ask, bits)` answers r, and the lent words are `bits′` at its exit
-pub record BusyAnswers (P Q : List ℤ) (o : List ℕ) (ask : RankAsked) (bits : List ℕ) (r : Busy) (bits′ : List ℕ) : Type 0 where
+pub record BusyAnswers (P Q : List ℤ) (o : List ℕ) (ask : Question) (bits : List ℕ) (r : Busy) (bits′ : List ℕ) : Type 0 where
   pub κs : Lfts 4
   pub p-at : Place
   pub q-at : Place
@@ -388,7 +388,7 @@ pub record PumpAnswers (P Q : List ℤ) (k big : ℕ) (g : Bool) (bits : List �
       (slice p-at P, (slice q-at Q, (k, (big, (g, (slice b-at bits′, tt))))))
 
 -- `ranked::visits::urgent(P, Q, o, ps, qs, ask, bits)` answers r, and the lent words are `bits′` at its exit
-pub record UrgentAnswers (P Q : List ℤ) (o ps qs : List ℕ) (ask : RankAsked) (bits : List ℕ) (r : Urgent) (bits′ : List ℕ) : Type 0 where
+pub record UrgentAnswers (P Q : List ℤ) (o ps qs : List ℕ) (ask : Question) (bits : List ℕ) (r : Urgent) (bits′ : List ℕ) : Type 0 where
   pub κs : Lfts 6
   pub p-at : Place
   pub q-at : Place
@@ -470,7 +470,7 @@ abbrev pub ViewOwnCounts : Sheet → ℕ → Bool → List ℕ → Counted → L
 ViewOwnCounts d big g bits r bits′ = (r ≡ ownCountAnswer (now (d .words)) big g (length bits)) × (bits′ ≡ ownCountBits (now (d .words)) big g bits)
 
 -- `view::busiest_at(p, q, o, ask, bits)` answers r, and the lent words are `bits′` at its exit
-abbrev pub ViewBusiest : Sheet → Sheet → List ℕ → RankAsked → List ℕ → Busy → List ℕ → Type 0
+abbrev pub ViewBusiest : Sheet → Sheet → List ℕ → Question → List ℕ → Busy → List ℕ → Type 0
 ViewBusiest p q o ask bits r bits′ = (r ≡ busyAnswer (now (p .words)) (now (q .words)) o ask (length bits)) × (bits′ ≡ busyBits (now (p .words)) (now (q .words)) o ask bits)
 
 -- `view::busiest_pumps_at(p, q, k, big, grid, bits)` answers r, and the lent words are `bits′` at its exit
@@ -478,7 +478,7 @@ abbrev pub ViewPumps : Sheet → Sheet → ℕ → ℕ → Bool → List ℕ →
 ViewPumps p q k big g bits r bits′ = (r ≡ pumpAnswer (now (p .words)) (now (q .words)) k big g (length bits)) × (bits′ ≡ pumpBits (now (p .words)) (now (q .words)) k big g bits)
 
 -- `view::urgent_at(p, q, o, ps, qs, ask, bits)` answers r, and the lent words are `bits′` at its exit
-abbrev pub ViewUrgent : Sheet → Sheet → List ℕ → List ℕ → List ℕ → RankAsked → List ℕ → Urgent → List ℕ → Type 0
+abbrev pub ViewUrgent : Sheet → Sheet → List ℕ → List ℕ → List ℕ → Question → List ℕ → Urgent → List ℕ → Type 0
 ViewUrgent p q o ps qs ask bits r bits′ = (r ≡ urgentAnswer (now (p .words)) (now (q .words)) o ps qs ask (length bits)) × (bits′ ≡ urgentBits (now (p .words)) (now (q .words)) o ps qs ask bits)
 
 -- `view::open_head(w)` answers h

@@ -16,8 +16,8 @@ use many::Many;
 use many::Wanted;
 use many::Which;
 use nearest::Found;
-use ranked::Asked;
 use ranked::Busy;
+use ranked::Question;
 use ranked::Urgent;
 use ring::Filtered;
 use ring::Paged;
@@ -570,7 +570,7 @@ pub extern "C" fn ring_busiest(
     p: &[i32],
     q: &[i32],
     owners: &[u8],
-    asked: Asked,
+    asked: Question,
     bits: &mut [u64],
 ) -> Busy
     ensures { λ r. ⌜ (r ≡ busyAnswer (now (p .entry)) (now (q .entry)) (now (owners .entry)) asked (length (now (bits .entry)))) × (now (bits .exit) ≡ busyBits (now (p .entry)) (now (q .entry)) (now (owners .entry)) asked (now (bits .entry))) ⌝ }
@@ -602,7 +602,7 @@ pub extern "C" fn ring_urgent(
     owners: &[u8],
     p_scores: &[u32],
     q_scores: &[u32],
-    asked: Asked,
+    asked: Question,
     bits: &mut [u64],
 ) -> Urgent
     ensures { λ r. ⌜ (r ≡ urgentAnswer (now (p .entry)) (now (q .entry)) (now (owners .entry)) (now («p_scores» .entry)) (now («q_scores» .entry)) asked (length (now (bits .entry)))) × (now (bits .exit) ≡ urgentBits (now (p .entry)) (now (q .entry)) (now (owners .entry)) (now («p_scores» .entry)) (now («q_scores» .entry)) asked (now (bits .entry))) ⌝ }

@@ -21,13 +21,13 @@ use Rattle.ring.proofs.HeadLaws.{headed, head-number}
 use Rattle.ring.proofs.LentLaws.{bits-short, bits-enough}
 use Rattle.many.specs.Many.{largestNo}
 use Rattle.many.proofs.CheckLaws.{first-without, many-undivided, no-bytes}
-use Rattle.ranked.specs.declared.Asked.{Asked}
+use Rattle.ranked.specs.declared.Question.{Question}
 use Rattle.ranked.specs.Busiest.{askedNo, busyNo, pumpNo}
 use Rattle.ranked.specs.Ranks.{Ready}
 
 -- ---- two sheets, and what is asked of them
 
-module _ (P Q : List ℤ) (o : List ℕ) (a : Asked) where
+module _ (P Q : List ℤ) (o : List ℕ) (a : Question) where
   pub asked-p : (h : Head) → h ≡ headOf P → (h .number ≡ 0 → ⊥) → h .number ≡ askedNo P Q o a
   unfolding askedNo
   asked-p h e ne = let n = head-number P h e in n ∙ sym (first-stops (sheetNo P) _ (λ z. ne (n ∙ z)))
@@ -57,7 +57,7 @@ module _ (P Q : List ℤ) (o : List ℕ) (a : Asked) where
 
 -- ---- then the words lent
 
-busy-number : (P Q : List ℤ) (o : List ℕ) (a : Asked) (len : ℕ) → busyNo P Q o a len ≡ first (askedNo P Q o a ∷ bitsNo (need P) len ∷ [])
+busy-number : (P Q : List ℤ) (o : List ℕ) (a : Question) (len : ℕ) → busyNo P Q o a len ≡ first (askedNo P Q o a ∷ bitsNo (need P) len ∷ [])
 unfolding busyNo askedNo
 busy-number P Q o a len =
     first-front
@@ -74,7 +74,7 @@ pump-number P Q k big g len =
     ∙ ap (λ (n : ℕ). first (n ∷ bitsNo (need Q) len ∷ []))
     (sym (first-without two (ownersNo 2 [] (points Q) ∷ three) (contractorNo false 2) many-undivided ∙ first-without two three (ownersNo 2 [] (points Q)) (no-bytes (points Q))))
 
-pub busy-is : (P Q : List ℤ) (o : List ℕ) (a : Asked) (len n : ℕ) → n ≡ askedNo P Q o a → busyNo P Q o a len ≡ first (n ∷ bitsNo (need P) len ∷ [])
+pub busy-is : (P Q : List ℤ) (o : List ℕ) (a : Question) (len n : ℕ) → n ≡ askedNo P Q o a → busyNo P Q o a len ≡ first (n ∷ bitsNo (need P) len ∷ [])
 busy-is P Q o a len n e = busy-number P Q o a len ∙ ap (λ (x : ℕ). first (x ∷ bitsNo (need P) len ∷ [])) (sym e)
 
 pub pump-is : (P Q : List ℤ) (k big : ℕ) (g : Bool) (len n : ℕ) → n ≡ askedNo P Q [] (record { k = k; largest = big; contractor = 2; grid = g }) → pumpNo P Q k big g len ≡ first (n ∷ bitsNo (need Q) len ∷ [])

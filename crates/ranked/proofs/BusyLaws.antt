@@ -38,7 +38,7 @@ use Rattle.join.proofs.Meaning.{points-rise}
 use Rattle.chamber.specs.Sized.{smallFor, listedTo, listTo}
 use Rattle.chamber.proofs.KeepLaws.{row-nil, row-yes, row-no}
 use Rattle.chamber.proofs.ListedLaws.{points-many}
-use Rattle.ranked.specs.declared.Asked.{Asked}
+use Rattle.ranked.specs.declared.Question.{Question}
 use Rattle.ranked.specs.Ranking.{firstBy}
 use Rattle.ranked.specs.Busiest.{busier, ranksFrom, pumpPairs, chamberRank, pumpRank, chamberRanks, pumpRanks, askedTerms, askedList, busiestOf, busiestPumps}
 use Rattle.ranked.specs.Ranks.{rowRank}
@@ -218,7 +218,7 @@ pump-column big g P Q rp i h =
 -- ---- the k busiest
 
 module _ (P Q : List ℤ) (np mp nq mq : ℕ) (op : Opens P np mp) (oq : Opens Q nq mq) where
-  pub busiest-ranks : (o : List ℕ) (a : Asked) → firstBy busier (a .k) (ranksFrom (mine (a .contractor) o) (rowRank (a .largest) (askedTerms a) (pointsOf P) (pointsOf Q)) nq 0) ≡ busiestOf P Q o a
+  pub busiest-ranks : (o : List ℕ) (a : Question) → firstBy busier (a .k) (ranksFrom (mine (a .contractor) o) (rowRank (a .largest) (askedTerms a) (pointsOf P) (pointsOf Q)) nq 0) ≡ busiestOf P Q o a
   unfolding busiestOf chamberRanks askedList
   busiest-ranks o a =
       let p = pointsOf P in

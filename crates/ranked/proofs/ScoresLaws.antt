@@ -24,7 +24,7 @@ use Rattle.ring.specs.Numbers.{gridNo}
 use Rattle.ring.proofs.LentLaws.{bits-short, bits-enough}
 use Rattle.many.specs.Many.{largestNo}
 use Rattle.many.proofs.CheckLaws.{bits-lent}
-use Rattle.ranked.specs.declared.Asked.{Asked}
+use Rattle.ranked.specs.declared.Question.{Question}
 use Rattle.ranked.specs.Busiest.{askedNo}
 use Rattle.ranked.specs.Urgent.{lastScore, scoresOk, scoresNo, urgentNo}
 use Rattle.ranked.specs.Visits.{Scored, Greatest}
@@ -102,14 +102,14 @@ last-served ps qs np nq words len m e z =
 
 -- ---- the call's number
 
-urgent-number : (P Q : List ℤ) (o ps qs : List ℕ) (a : Asked) (len : ℕ) → urgentNo P Q o ps qs a len ≡ first (askedNo P Q o a ∷ scoresNo 41 ps (points P) ∷ scoresNo 42 qs (points Q) ∷ bitsNo (need P) len ∷ [])
+urgent-number : (P Q : List ℤ) (o ps qs : List ℕ) (a : Question) (len : ℕ) → urgentNo P Q o ps qs a len ≡ first (askedNo P Q o a ∷ scoresNo 41 ps (points P) ∷ scoresNo 42 qs (points Q) ∷ bitsNo (need P) len ∷ [])
 unfolding urgentNo askedNo
 urgent-number P Q o ps qs a len =
     first-front
     (sheetNo P ∷ sheetNo Q ∷ contractorNo false (a .contractor) ∷ ownersNo (a .contractor) o (points Q) ∷ gridNo (a .grid) P Q ∷ sizeNo (a .k) ∷ largestNo (a .largest) ∷ [])
     (scoresNo 41 ps (points P) ∷ scoresNo 42 qs (points Q) ∷ bitsNo (need P) len ∷ [])
 
-module _ (P Q : List ℤ) (o ps qs : List ℕ) (a : Asked) (len n : ℕ) (e : n ≡ askedNo P Q o a) where
+module _ (P Q : List ℤ) (o ps qs : List ℕ) (a : Question) (len n : ℕ) (e : n ≡ askedNo P Q o a) where
   after : urgentNo P Q o ps qs a len ≡ first (n ∷ scoresNo 41 ps (points P) ∷ scoresNo 42 qs (points Q) ∷ bitsNo (need P) len ∷ [])
   after = urgent-number P Q o ps qs a len ∙ ap (λ (x : ℕ). first (x ∷ scoresNo 41 ps (points P) ∷ scoresNo 42 qs (points Q) ∷ bitsNo (need P) len ∷ [])) (sym e)
 

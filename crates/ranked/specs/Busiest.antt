@@ -22,7 +22,7 @@ use Rattle.ring.specs.Lent.{need, bitsNo, wipedBy}
 use Rattle.ring.specs.Numbers.{gridNo}
 use Rattle.chamber.specs.Sized.{listTo}
 use Rattle.many.specs.Many.{largestNo}
-use Rattle.ranked.specs.declared.Asked.{Asked}
+use Rattle.ranked.specs.declared.Question.{Question}
 use Rattle.ranked.specs.declared.Rank.{Rank}
 use Rattle.ranked.specs.declared.Busy.{Busy}
 use Rattle.ranked.specs.Ranking.{firstBy, sixteen}
@@ -72,15 +72,15 @@ pumpRanks P l = ranksFrom (λ i. true) (λ i. pumpRank l (idAt P i)) (length P) 
 -- ---- the numbers: "1-8 P, 1-8 Q, 27, 26, 29, 10, 40, 24"
 
 -- the list asked for: whole chambers, of a contractor, to a size [BU4]
-abbrev pub askedTerms : Asked → Terms
+abbrev pub askedTerms : Question → Terms
 askedTerms a = ofContractor (a .contractor) (withBy (a .grid) 0)
 
 -- [BU4]
-unfoldable pub askedList : List ℤ → List ℤ → List ℕ → Asked → List Pair
+unfoldable pub askedList : List ℤ → List ℤ → List ℕ → Question → List Pair
 askedList P Q o a = listTo (a .largest) (askedTerms a) o (pointsOf P) (pointsOf Q)
 
 -- what is refused whatever is lent: no promise of an open call cites this
-unfoldable pub askedNo : List ℤ → List ℤ → List ℕ → Asked → ℕ
+unfoldable pub askedNo : List ℤ → List ℤ → List ℕ → Question → ℕ
 askedNo P Q o a =
     first
     (sheetNo P
@@ -93,7 +93,7 @@ askedNo P Q o a =
     ∷ [])
 
 -- for so many lent words [BU9, BU10]
-unfoldable pub busyNo : List ℤ → List ℤ → List ℕ → Asked → ℕ → ℕ
+unfoldable pub busyNo : List ℤ → List ℤ → List ℕ → Question → ℕ → ℕ
 busyNo P Q o a len =
     first
     (sheetNo P
@@ -121,7 +121,7 @@ unfoldable pub busyRefused : ℕ → Busy
 busyRefused n = record { number = n; count = 0; rows = replicate 16 noRank }
 
 -- "the k chambers with the most ring partners, in order, ties by id, k 1 to 16, fewer if there are fewer" [BU1]
-unfoldable pub busiestOf : List ℤ → List ℤ → List ℕ → Asked → List Rank
+unfoldable pub busiestOf : List ℤ → List ℤ → List ℕ → Question → List Rank
 busiestOf P Q o a = firstBy busier (a .k) (chamberRanks (a .contractor) o (pointsOf Q) (askedList P Q o a))
 
 -- "and the same of pump houses" [BU5]
@@ -129,11 +129,11 @@ unfoldable pub busiestPumps : List ℤ → List ℤ → ℕ → ℕ → Bool →
 busiestPumps P Q k big g = firstBy busier k (pumpRanks (pointsOf P) (listTo big (withBy g 0) [] (pointsOf P) (pointsOf Q)))
 
 -- the answer by its number, and the lent words after it
-unfoldable pub busyAnswer : List ℤ → List ℤ → List ℕ → Asked → ℕ → Busy
+unfoldable pub busyAnswer : List ℤ → List ℤ → List ℕ → Question → ℕ → Busy
 busyAnswer P Q o a len = answer (busyNo P Q o a len) (busyGiven (busiestOf P Q o a)) busyRefused
 
 -- [BU11]
-unfoldable pub busyBits : List ℤ → List ℤ → List ℕ → Asked → List ℕ → List ℕ
+unfoldable pub busyBits : List ℤ → List ℤ → List ℕ → Question → List ℕ → List ℕ
 busyBits P Q o a ws = wipedBy (busyNo P Q o a (length ws)) (need P) ws
 
 unfoldable pub pumpAnswer : List ℤ → List ℤ → ℕ → ℕ → Bool → ℕ → Busy

@@ -19,7 +19,7 @@ use Rattle.list.specs.Pages.{sizeNo, contractorNo, ownersNo}
 use Rattle.ring.specs.Lent.{need, bitsNo, wipedBy}
 use Rattle.ring.specs.Numbers.{gridNo}
 use Rattle.many.specs.Many.{largestNo}
-use Rattle.ranked.specs.declared.Asked.{Asked}
+use Rattle.ranked.specs.declared.Question.{Question}
 use Rattle.ranked.specs.declared.Visit.{Visit}
 use Rattle.ranked.specs.declared.Urgent.{Urgent}
 use Rattle.ranked.specs.Ranking.{firstBy, sixteen}
@@ -65,7 +65,7 @@ noVisit = record { pair = none; score = 0 }
 -- ---- the numbers: those of the busiest chambers, and before 24 "41 the scores of P [..], 42 the same of Q"
 
 -- [BU9, BU10]
-unfoldable pub urgentNo : List ℤ → List ℤ → List ℕ → List ℕ → List ℕ → Asked → ℕ → ℕ
+unfoldable pub urgentNo : List ℤ → List ℤ → List ℕ → List ℕ → List ℕ → Question → ℕ → ℕ
 urgentNo P Q o ps qs a len =
     first
     (sheetNo P
@@ -83,7 +83,7 @@ urgentNo P Q o ps qs a len =
 -- ---- the answer
 
 -- "the k ring pairs with the highest sum of scores among those of at most a given size" [BU6]
-unfoldable pub urgentOf : List ℤ → List ℤ → List ℕ → List ℕ → List ℕ → Asked → List Visit
+unfoldable pub urgentOf : List ℤ → List ℤ → List ℕ → List ℕ → List ℕ → Question → List Visit
 urgentOf P Q o ps qs a = firstBy ahead (a .k) (map (visitOf (pointsOf P) (pointsOf Q) ps qs) (askedList P Q o a))
 
 -- how many visits, and the visits; the unused rows are zeros [BU6]
@@ -95,9 +95,9 @@ unfoldable pub urgentRefused : ℕ → Urgent
 urgentRefused n = record { number = n; count = 0; rows = replicate 16 noVisit }
 
 -- the answer by its number, and the lent words after it
-unfoldable pub urgentAnswer : List ℤ → List ℤ → List ℕ → List ℕ → List ℕ → Asked → ℕ → Urgent
+unfoldable pub urgentAnswer : List ℤ → List ℤ → List ℕ → List ℕ → List ℕ → Question → ℕ → Urgent
 urgentAnswer P Q o ps qs a len = answer (urgentNo P Q o ps qs a len) (urgentGiven (urgentOf P Q o ps qs a)) urgentRefused
 
 -- [BU11]
-unfoldable pub urgentBits : List ℤ → List ℤ → List ℕ → List ℕ → List ℕ → Asked → List ℕ → List ℕ
+unfoldable pub urgentBits : List ℤ → List ℤ → List ℕ → List ℕ → List ℕ → Question → List ℕ → List ℕ
 urgentBits P Q o ps qs a ws = wipedBy (urgentNo P Q o ps qs a (length ws)) (need P) ws

@@ -1,6 +1,6 @@
 // The chambers, or the pump houses, that are in the most pairs of a list.
-use crate::Asked;
 use crate::Busy;
+use crate::Question;
 use crate::Rank;
 use crate::ranks::Ranks;
 use list::Terms;
@@ -145,7 +145,7 @@ fn refused(number: u32) -> Busy
 // fewer. The words lent for kept sets, as many as the points of P need, are zeros after an answer.
 // Refused by 1 to 8 of P, then of Q, then by 27 for the contractor, then by 26 for the owner bytes, then by 29 where the street grid is asked of a sheet of form 2, then by 10 where k is not
 // 1 to 16, then by 40 for the largest size, then by 24 where fewer words are lent; no word is touched then, nor ever one past them.
-pub fn busiest(p: &[i32], q: &[i32], owners: &[u8], asked: Asked, bits: &mut [u64]) -> Busy
+pub fn busiest(p: &[i32], q: &[i32], owners: &[u8], asked: Question, bits: &mut [u64]) -> Busy
     ensures { λ r. ⌜ (r ≡ busyAnswer (now (p .entry)) (now (q .entry)) (now (owners .entry)) asked (length (now (bits .entry)))) × (now (bits .exit) ≡ busyBits (now (p .entry)) (now (q .entry)) (now (owners .entry)) asked (now (bits .entry))) ⌝ }
 {
     let c = crate::check::checked(p, q, owners, asked);
@@ -190,7 +190,7 @@ pub fn busiest_pumps(
 ) -> Busy
     ensures { λ r. ⌜ (r ≡ pumpAnswer (now (p .entry)) (now (q .entry)) k largest grid (length (now (bits .entry)))) × (now (bits .exit) ≡ pumpBits (now (p .entry)) (now (q .entry)) k largest grid (now (bits .entry))) ⌝ }
 {
-    let asked = Asked {
+    let asked = Question {
         k: k,
         largest: largest,
         contractor: 2,

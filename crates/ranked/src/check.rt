@@ -1,5 +1,5 @@
 // What a call is refused by before the words lent are looked at, and with 0 the counts of its sheets.
-use crate::Asked;
+use crate::Question;
 use sheet::Size;
 ghost use mathlib.Core.Path.{_≡_};
 ghost use mathlib.Core.Bool.{false};
@@ -46,7 +46,7 @@ fn largest_no(largest: u64) -> u32
 }
 
 // What is refused of sheets that open, of which Q has n chambers: by 27, 26, 29, 10, then 40.
-fn rest_no(p: &[i32], q: &[i32], owners: &[u8], n: usize, asked: Asked) -> u32
+fn rest_no(p: &[i32], q: &[i32], owners: &[u8], n: usize, asked: Question) -> u32
     ensures { λ r. ⌜ r ≡ first (contractorNo false (asked .contractor) ∷ ownersNo (asked .contractor) (now (owners .entry)) n ∷ gridNo (asked .grid) (now (p .entry)) (now (q .entry)) ∷ sizeNo (asked .k) ∷ largestNo (asked .largest) ∷ []) ⌝ }
 {
     let a = list::contractor_no(false, asked.contractor);
@@ -69,7 +69,7 @@ fn shut(number: u32) -> Passed
 }
 
 // Two sheets, the owner bytes, and what is asked.
-pub(crate) fn checked(p: &[i32], q: &[i32], owners: &[u8], asked: Asked) -> Passed
+pub(crate) fn checked(p: &[i32], q: &[i32], owners: &[u8], asked: Question) -> Passed
     ensures { λ r. ⌜ (r .number ≡ askedNo (now (p .entry)) (now (q .entry)) (now (owners .entry)) asked) × (r .number ≡ 0 → Ready (now (p .entry)) (now (q .entry)) (r .hp) (r .hq) (asked .k)) ⌝ }
 {
     let a = ring::open::head_of(p);

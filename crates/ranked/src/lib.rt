@@ -9,7 +9,7 @@ use list::Pair;
 
 // What is asked for: how many, of the list to the largest size, of a contractor's chambers (2: of all), of a profile.
 #[repr(C)]
-pub struct Asked {
+pub struct Question {
     pub k: usize,
     pub largest: u64,
     pub contractor: u32,

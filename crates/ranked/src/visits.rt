@@ -1,5 +1,5 @@
 // The visits of a list with the highest sum of scores.
-use crate::Asked;
+use crate::Question;
 use crate::Urgent;
 use crate::Visit;
 use crate::tops::Tops;
@@ -316,7 +316,7 @@ pub fn urgent(
     owners: &[u8],
     p_scores: &[u32],
     q_scores: &[u32],
-    asked: Asked,
+    asked: Question,
     bits: &mut [u64],
 ) -> Urgent
     ensures { λ r. ⌜ (r ≡ urgentAnswer (now (p .entry)) (now (q .entry)) (now (owners .entry)) (now («p_scores» .entry)) (now («q_scores» .entry)) asked (length (now (bits .entry)))) × (now (bits .exit) ≡ urgentBits (now (p .entry)) (now (q .entry)) (now (owners .entry)) (now («p_scores» .entry)) (now («q_scores» .entry)) asked (now (bits .entry))) ⌝ }

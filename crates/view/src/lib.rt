@@ -8,8 +8,8 @@ use many::Many;
 use many::Wanted;
 use many::Which;
 use nearest::Found;
-use ranked::Asked;
 use ranked::Busy;
+use ranked::Question;
 use ranked::Urgent;
 use ring::Filtered;
 use ring::Head;
@@ -251,7 +251,7 @@ pub fn busiest_at<'a, 'b, 'c, 'd>(
     p: Sheet<'a>,
     q: Sheet<'b>,
     owners: &'c [u8],
-    ask: Asked,
+    ask: Question,
     bits: &'d mut [u64],
 ) -> Busy
     ensures { λ r. ⌜ (r ≡ busyAnswer (now (p .entry .words)) (now (q .entry .words)) (now (owners .entry)) ask (length (now (bits .entry)))) × (now (bits .exit) ≡ busyBits (now (p .entry .words)) (now (q .entry .words)) (now (owners .entry)) ask (now (bits .entry))) ⌝ }
@@ -280,7 +280,7 @@ pub fn urgent_at<'a, 'b, 'c, 'd, 'e, 'f>(
     owners: &'c [u8],
     ps: &'d [u32],
     qs: &'e [u32],
-    ask: Asked,
+    ask: Question,
     bits: &'f mut [u64],
 ) -> Urgent
     ensures { λ r. ⌜ (r ≡ urgentAnswer (now (p .entry .words)) (now (q .entry .words)) (now (owners .entry)) (now (ps .entry)) (now (qs .entry)) ask (length (now (bits .entry)))) × (now (bits .exit) ≡ urgentBits (now (p .entry .words)) (now (q .entry .words)) (now (owners .entry)) (now (ps .entry)) (now (qs .entry)) ask (now (bits .entry))) ⌝ }
