@@ -1,113 +1,74 @@
--- The pairs that are left after a key, and that the pages come to an end. Assumes nothing.
-use mathlib.Core.Path.{_≡_, refl, sym, ap, subst, _∙_}
-use mathlib.Core.Bool.{Bool, true, false, cond}
-use mathlib.Core.List.{List, [], _∷_}
-use Prim.Native.Nat.{ℕ, zero, suc, _+_, _*_, _≤_, _<_}
-use native.Mathlib.Nat.{mul-le-mul}
+-- The chambers one after the other: the pairs kept are the ring pairs, there is room for their lines, and they are counted. Assumes nothing.
+use mathlib.Core.Path.{_≡_, sym, ap, _∙_}
+use mathlib.Core.Bool.{Bool}
+use mathlib.Core.List.{List}
+use Prim.Native.Nat.{ℕ, _+_, _≤_, _<_}
 use native.Mathlib.Omega.{arith}
-use borrow.Author.Tests.{ltb-true, not-false}
 use lib.IntN.{ℤ}
-use lib.ListN.{length, take, drop, length-append, length-take, length-drop}
+use lib.ListN.{length}
+use Rattle.sheet.specs.declared.Size.{Size}
 use Rattle.sheet.specs.Places.{pointsOf}
-use Rattle.sheet.proofs.PointsLaws.{length-points}
-use Rattle.list.specs.declared.Key.{Key}
+use Rattle.bits.specs.Set.{Holds}
 use Rattle.list.specs.declared.Pair.{Pair}
-use Rattle.list.specs.Pairs.{start, after, isNone}
-use Rattle.list.specs.Pages.{shown}
-use Rattle.list.specs.Rows.{row, rows, listBy}
+use Rattle.list.specs.Rows.{listBy}
 use Rattle.list.specs.RingList.{ringListBy, ringPair, pairAt}
-use Rattle.list.proofs.Order.{after-all}
-use Rattle.list.proofs.PageLaws.{after-shown, none-drop}
-use Rattle.ring.specs.declared.Head.{Head}
-use Rattle.printout.specs.declared.Shown.{Shown}
-use Rattle.printout.specs.Outcome.{Both, InRange, pairsOf, ShownBy}
-use Rattle.printout.proofs.ShowLaws.{ascending}
+use Rattle.list.specs.Terms.{full}
+use Rattle.list.proofs.RowLaws.{row-same}
+use Rattle.chamber.specs.Sized.{smallFor}
+use Rattle.chamber.specs.Chamber.{PairsOn, ListedOn}
+use Rattle.chamber.proofs.KeepLaws.{row-short}
+use Rattle.chamber.proofs.ListedLaws.{points-many, Counting, chamber-count-start, count-room, count-more, count-by, chamber-count-end, count-fits}
+use Rattle.chamber.proofs.WholeLaws.{small-ring}
+use Rattle.printout.specs.Outcome.{Both, pairsOf}
+use Rattle.printout.proofs.FormLaws.{few-points}
 
--- ---- a list by a rule has at most a pair for each two positions
+module _ {P Q : List ℤ} {hp hq : Size} (b : Both P hp Q hq) where
+  abbrev rule : ℕ → ℕ → Bool
+  rule = ringPair (pointsOf P) (pointsOf Q)
 
-module _ (rule : ℕ → ℕ → Bool) (pair : ℕ → ℕ → Pair) where
-  row-few : (j k i : ℕ) → length (row rule pair j k i) ≤ k
-  unfolding row
-  row-few j zero i = omega arith
-  row-few j (suc k) i = by (rule j i) (row-few j k (i + 1))
-    where
-      by : (t : Bool) → length (row rule pair j k (i + 1)) ≤ k → length (cond t (pair j i ∷ row rule pair j k (i + 1)) (row rule pair j k (i + 1))) ≤ suc k
-      by true h = omega arith
-      by false h = omega arith
+  abbrev pair : ℕ → ℕ → Pair
+  pair = pairAt (pointsOf P) (pointsOf Q)
 
-  rows-few : (n k j : ℕ) → length (rows rule pair n k j) ≤ k * n
-  unfolding rows
-  rows-few n zero j = omega arith
-  rows-few n (suc k) j = omega (arith, length-append (row rule pair j n 0) (rows rule pair n k (j + 1)), row-few j n 0, rows-few n k (j + 1))
+  np-few : hp .n ≤ 1000
+  np-few = omega (arith, few-points P (b .p-no), b .p-opens .n-is)
 
--- ---- two sheets that open: what is left after a key, and how many pairs stand before
+  pub sixteen-hold : (ws : List ℕ) → length ws ≡ 16 → Holds ws (hp .n)
+  sixteen-hold ws e = record { enough = omega (arith, np-few); numbered = omega arith }
 
-pub record Left (l : List Pair) (key : Key) (total : ℕ) (end : Bool) : Type 0 where
-  pub sum : total + length (after key l) ≡ length l
-  pub last : end ≡ true → length (after key l) ≡ 0
-  pub in-range : InRange key
+  -- the pairs kept are the ring pairs, at most 1,000
+  module _ (j : ℕ) (h : j < hq .n) (ws : List ℕ) (count : ℕ) (on : PairsOn (smallFor 8_000_000_000_000_000_000 full (pointsOf P) (pointsOf Q)) pair j (hp .n) ws count) where
+    ring : (i : ℕ) → i < hp .n → smallFor 8_000_000_000_000_000_000 full (pointsOf P) (pointsOf Q) j i ≡ rule j i
+    ring i l = small-ring P Q (hp .n) (hp .m) (hq .n) (hq .m) (b .p-opens) (b .q-opens) j i (omega (arith, points-many Q (hq .n) (hq .m) (b .q-opens))) (omega (arith, points-many P (hp .n) (hp .m) (b .p-opens)))
 
--- the measure: the pairs left, and one more as long as there is no end mark
-abbrev pub toGo : List Pair → Key → Bool → ℕ
-toGo l key true = 0
-toGo l key false = suc (length (after key l))
-
-module _ {P Q : List ℤ} {hp hq : Head} (b : Both P hp Q hq) where
-  pub pairs-few : length (pairsOf P Q) ≤ 3600000000
-  unfolding ringListBy listBy
-  pairs-few =
-      let p = length-points P ∙ b .p-opens .n-is in
-      let q = length-points Q ∙ b .q-opens .n-is in
-      let few = rows-few (ringPair (pointsOf P) (pointsOf Q)) (pairAt (pointsOf P) (pointsOf Q)) (length (pointsOf P)) (length (pointsOf Q)) 0 in
-      let hq : length (pointsOf Q) ≤ 60000 = rw q (b .q-opens .n-le) in
-      let hp : length (pointsOf P) ≤ 60000 = rw p (b .p-opens .n-le) in
-      let most : length (pointsOf Q) * length (pointsOf P) ≤ 60000 * 60000 = mul-le-mul hq hp in
-      omega (arith, few, most)
-
-  pub left-all : Left (pairsOf P Q) start 0 false
-  left-all = record {
-    sum = omega (arith, ap length (after-all start (pairsOf P Q) (ascending b)));
-    last = λ e. absurd (subst (λ (t : Bool). cond t ⊥ (Unit {0})) e tt);
-    in-range = (omega arith, omega arith);
-  }
-
-  module _ (key : Key) (s : Shown) (h : ShownBy (pairsOf P Q) key s) where
-    next : after (s .key) (pairsOf P Q) ≡ drop 16 (after key (pairsOf P Q))
-    next = ap (λ (k : Key). after k (pairsOf P Q)) (h .key) ∙ after-shown start key (pairsOf P Q) 16 (ascending b)
-
-    counted : s .count ≡ length (take 16 (after key (pairsOf P Q)))
-    unfolding shown
-    counted = h .count
-
-    end-is : s .end ≡ isNone (after (s .key) (pairsOf P Q))
-    end-is = h .end ∙ ap (λ (k : Key). isNone (after k (pairsOf P Q))) (sym (h .key))
-
-    pub room : {total : ℕ} {end : Bool} → Left (pairsOf P Q) key total end → total + s .count ≤ 3600000000
-    room l = omega (arith, l .sum, pairs-few, counted, length-take 16 (after key (pairsOf P Q)))
-
-    no-more : isNone (after (s .key) (pairsOf P Q)) ≡ true → length (after (s .key) (pairsOf P Q)) ≡ 0
-    unfolding isNone
-    no-more = go (after (s .key) (pairsOf P Q))
-      where
-        go : (d : List Pair) → isNone d ≡ true → length d ≡ 0
-        go [] e = refl
-        go (v ∷ d) e = absurd (subst (λ (t : Bool). cond t ⊥ (Unit {0})) e tt)
-
-    pub left-more : {total : ℕ} {end : Bool} → Left (pairsOf P Q) key total end → Left (pairsOf P Q) (s .key) (total + s .count) (s .end)
-    left-more l = record {
-      sum = omega (arith, l .sum, ap length next, counted, length-take 16 (after key (pairsOf P Q)), length-drop 16 (after key (pairsOf P Q)));
-      last = λ e. no-more (sym end-is ∙ e);
-      in-range = h .in-range;
+    pub ring-kept : PairsOn rule pair j (hp .n) ws count
+    ring-kept = record {
+      held = λ i l. on .held i l ∙ ring i l;
+      counted = on .counted ∙ ap length (row-same (smallFor 8_000_000_000_000_000_000 full (pointsOf P) (pointsOf Q)) rule pair j (hp .n) 0 (λ i l m. ring i (omega arith)));
     }
 
-    pub fewer : toGo (pairsOf P Q) (s .key) (s .end) < toGo (pairsOf P Q) key false
-    fewer = by (s .end) refl
-      where
-        by : (t : Bool) → s .end ≡ t → toGo (pairsOf P Q) (s .key) t < suc (length (after key (pairsOf P Q)))
-        by true e = omega arith
-        by false e =
-            let more = ltb-true 16 (length (after key (pairsOf P Q))) (not-false _ (sym (none-drop 16 (after key (pairsOf P Q))) ∙ ap isNone (sym next) ∙ sym end-is ∙ e)) in
-            omega (arith, more, ap length next, length-drop 16 (after key (pairsOf P Q)))
+    pub printout-few : count ≤ 1000
+    printout-few = omega (arith, ring-kept .counted, row-short rule pair j (hp .n) 0, np-few)
 
-  pub all-listed : {key : Key} {total : ℕ} {end : Bool} → Left (pairsOf P Q) key total end → end ≡ true → total ≡ length (pairsOf P Q)
-  all-listed l e = omega (arith, l .sum, l .last e)
+  -- so many pairs were listed up to chamber j
+  abbrev pub Listing : ℕ → ℕ → Type 0
+  Listing total j = Counting rule pair (hp .n) (hq .n) total j
+
+  pub printout-start : Listing 0 0
+  printout-start = chamber-count-start rule pair (hp .n) (hq .n)
+
+  module _ (total j : ℕ) (s : Listing total j) (h : j < hq .n) (ws : List ℕ) (found wide : ℕ) (e : wide ≡ found) (on : PairsOn rule pair j (hp .n) ws found) where
+    listed : ListedOn rule pair j (hp .n) ws found
+    listed = record { counted = on .counted; held = λ z. on .held }
+
+    pub printout-fits : total + wide < 18446744073709551616
+    printout-fits = count-fits found total wide (hp .n) {nq = hq .n} e (count-room rule pair (hp .n) (hq .n) total j s h ws found listed) (b .p-opens .n-le) (b .q-opens .n-le)
+
+    pub printout-more : Listing (total + wide) (j + 1)
+    printout-more = count-by rule pair (hp .n) (hq .n) total found wide (j + 1) e (count-more rule pair (hp .n) (hq .n) total j s h ws found listed)
+
+  pub all-listed : (total j : ℕ) → Listing total j → hq .n ≤ j → total ≡ length (pairsOf P Q)
+  unfolding ringListBy
+  all-listed total j s h =
+      chamber-count-end rule pair (hp .n) (hq .n) total j s h
+      ∙ ap (λ (n : ℕ). length (listBy rule pair n (hq .n))) (sym (points-many P (hp .n) (hp .m) (b .p-opens)))
+      ∙ ap (λ (n : ℕ). length (listBy rule pair (length (pointsOf P)) n)) (sym (points-many Q (hq .n) (hq .m) (b .q-opens)))

@@ -1,19 +1,16 @@
--- Sheets of form 1, which alone the listing takes: such a sheet opens, and sixteen words hold its kept bits. Assumes nothing.
+-- Sheets of form 1, which alone the listing takes: such a sheet opens, and has at most 1,000 points. Assumes nothing.
 use mathlib.Core.Path.{_≡_, _∙_}
 use mathlib.Core.List.{List}
 use Prim.Native.Nat.{_≤_}
-use native.Mathlib.Omega.{arith}
 use lib.IntN.{ℤ, pos}
 use Rattle.words.proofs.FirstLaws.{none-applies, given-held}
 use Rattle.words.proofs.Signs.{is-word}
-use Rattle.bits.proofs.LentLaws.{words-few}
 use Rattle.sheet.specs.Limits.{form1}
 use Rattle.sheet.specs.Layout.{form, points, trailerNo}
 use Rattle.sheet.specs.Open.{openNo, sheetNo}
 use Rattle.sheet.proofs.SheetLaws.{open-trailer, form1-as-before}
 use Rattle.ring.specs.declared.Head.{Head}
 use Rattle.ring.specs.Answers.{headOf}
-use Rattle.ring.specs.Lent.{need}
 use Rattle.ring.proofs.HeadLaws.{Headed, headed, head-number}
 use Rattle.printout.specs.Outcome.{firstNo}
 
@@ -30,9 +27,6 @@ pub headed-first : (w : List ℤ) (h : Head) → h ≡ headOf w → firstNo w �
 headed-first w h e z = headed w h e (head-number w h e ∙ listed-first w z)
 
 -- it has at most 1,000 points
-first-few : (w : List ℤ) → firstNo w ≡ 0 → points w ≤ 1000
+pub few-points : (w : List ℤ) → firstNo w ≡ 0 → points w ≤ 1000
 unfolding form1
-first-few w e = open-trailer form1 w e .n-le
-
-pub first-need : (w : List ℤ) → firstNo w ≡ 0 → need w ≤ 16
-first-need w e = omega (arith, first-few w e, words-few (points w))
+few-points w e = open-trailer form1 w e .n-le

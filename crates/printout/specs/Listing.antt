@@ -1,16 +1,13 @@
 -- What the listing of two sets of points is, line by line.
-use mathlib.Core.Bool.{cond}
 use mathlib.Core.List.{List, [], _∷_, _++_}
-use Prim.Native.Nat.{ℕ, zero, suc, _<_}
+use Prim.Native.Nat.{ℕ, zero, suc, _+_, _<_}
 use lib.IntN.{_+ℤ_}
 use lib.ListN.{length}
 use Rattle.plane.specs.declared.Spot.{Spot}
 use Rattle.plane.specs.Point.{Point, spotAt}
-use Rattle.list.specs.declared.Key.{Key}
 use Rattle.list.specs.declared.Pair.{Pair}
-use Rattle.list.specs.Pairs.{after, lastOr, isNone}
-use Rattle.list.specs.Pages.{shown}
-use Rattle.list.specs.RingList.{ringList}
+use Rattle.list.specs.Rows.{row}
+use Rattle.list.specs.RingList.{ringPair, pairAt, ringList}
 use Rattle.sheet.specs.Find.{positionOf}
 use Rattle.text.specs.Text.{lineText, endText}
 
@@ -38,12 +35,14 @@ unfoldable pub linesOf : List Point → List Point → List Pair → List ℕ
 linesOf P Q [] = []
 linesOf P Q (v ∷ l) = lineOf P Q v ++ linesOf P Q l
 
--- the lines of pages of sixteen from a key on, each next key the last pair shown, until the end mark (at most f pages): what the program writes, page
--- after page
-unfoldable pub pagesText : ℕ → List Point → List Point → List Pair → Key → List ℕ
-pagesText zero P Q l key = []
-pagesText (suc f) P Q l key =
-    linesOf P Q (shown l key 16) ++ cond (isNone (after (lastOr key (shown l key 16)) l)) [] (pagesText f P Q l (lastOr key (shown l key 16)))
+-- the ring pairs of the chamber at position j
+abbrev pub ringRow : List Point → List Point → ℕ → List Pair
+ringRow P Q j = row (ringPair P Q) (pairAt P Q) j (length P) 0
+
+-- the lines of the pairs of k chambers from position j on: what the program writes, chamber after chamber
+unfoldable pub chambersText : List Point → List Point → ℕ → ℕ → List ℕ
+chambersText P Q zero j = []
+chambersText P Q (suc k) j = linesOf P Q (ringRow P Q j) ++ chambersText P Q k (j + 1)
 
 -- a line for each ring pair, "last `end` and the number of pairs" [X9, X15]
 unfoldable pub listingOf : List Point → List Point → List ℕ

@@ -2,27 +2,22 @@
 use mathlib.Core.Path.{_≡_}
 use mathlib.Core.Bool.{cond}
 use mathlib.Core.List.{List, []}
-use Prim.Native.Nat.{ℕ, _/_, _≤_}
+use Prim.Native.Nat.{ℕ, _/_}
 use lib.IntN.{ℤ}
 use lib.ListN.{length, take, drop}
 use Rattle.input.specs.declared.Got.{Got}
 use Rattle.input.specs.declared.Got.the-variants.{Bytes, Failed}
 use Rattle.words.specs.Bytes.{wordsOf}
-use Rattle.words.specs.Range.{lastId}
 use Rattle.words.specs.First.{answer}
+use Rattle.sheet.specs.declared.Size.{Size}
 use Rattle.sheet.specs.Places.{pointsOf}
 use Rattle.sheet.specs.Limits.{form1}
 use Rattle.sheet.specs.Open.{openNo, Opens}
-use Rattle.list.specs.declared.Key.{Key}
 use Rattle.list.specs.declared.Pair.{Pair}
-use Rattle.list.specs.Pairs.{lastOr, after, isNone}
-use Rattle.list.specs.Pages.{shown}
 use Rattle.list.specs.RingList.{ringList}
-use Rattle.ring.specs.declared.Head.{Head}
 use Rattle.text.specs.Text.{refusedText, inputText}
 use Rattle.printout.specs.Split.{splitAt, badInput}
 use Rattle.printout.specs.Listing.{listingOf}
-use Rattle.printout.specs.declared.Shown.{Shown}
 use Rattle.printout.specs.declared.Outcome.{Outcome}
 use Rattle.printout.specs.declared.Outcome.the-variants.{BadInput, BadQ, BadP, Listed}
 
@@ -66,19 +61,8 @@ printed P Q (BadP n) = refusal (BadP n)
 printed P Q (Listed n) = listingOf (pointsOf P) (pointsOf Q)
 
 -- two sheets of form 1 that open, as the functions inside ask it
-pub record Both (P : List ℤ) (hp : Head) (Q : List ℤ) (hq : Head) : Type 0 where
+pub record Both (P : List ℤ) (hp : Size) (Q : List ℤ) (hq : Size) : Type 0 where
   pub p-no : firstNo P ≡ 0
   pub q-no : firstNo Q ≡ 0
   pub p-opens : Opens P (hp .n) (hp .m)
   pub q-opens : Opens Q (hq .n) (hq .m)
-
--- a key that a page request takes
-abbrev pub InRange : Key → Type 0
-InRange k = (k .q ≤ lastId) × (k .p ≤ lastId)
-
--- the page after a key was shown: how many pairs it has, the next key, which a request takes too, and the end mark
-pub record ShownBy (l : List Pair) (k : Key) (s : Shown) : Type 0 where
-  pub count : s .count ≡ length (shown l k 16)
-  pub key : s .key ≡ lastOr k (shown l k 16)
-  pub end : s .end ≡ isNone (after (lastOr k (shown l k 16)) l)
-  pub in-range : InRange (s .key)

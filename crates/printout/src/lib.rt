@@ -1,11 +1,12 @@
 // The listing program's work: what it does with what it reads. What is put into a buffer is promised; that each buffer is written, once and to standard
 // output, is not.
+mod chambers;
 mod lines;
-mod pages;
 mod split;
 
 use input::Got;
 use libc::STDOUT_FILENO;
+use sheet::Size;
 ghost use mathlib.Core.Path.{_≡_};
 ghost use Prim.Native.Nat.{_+_, _≤_};
 ghost use lib.ListN.{length};
@@ -19,14 +20,6 @@ pub enum Outcome {
     BadQ(u32),
     BadP(u32),
     Listed(u64),
-}
-
-// A shown page: where its text ends, how many pairs it has, the key of the last, and whether no pair follows.
-pub struct Shown {
-    pub to: usize,
-    pub count: usize,
-    pub key: list::Key,
-    pub end: bool,
 }
 
 // What came of reading and of what was read.
@@ -67,9 +60,11 @@ pub fn list_sheets(p: &[i32], q: &[i32]) -> Outcome
     if p_no != 0 {
         return Outcome::BadP(p_no);
     }
-    let hq = ring::open::head_of(q);
-    let hp = ring::open::head_of(p);
-    Outcome::Listed(pages::list_pairs(p, hp, q, hq))
+    let b = ring::open::head_of(q);
+    let a = ring::open::head_of(p);
+    let hp = Size { n: a.n, m: a.m };
+    let hq = Size { n: b.n, m: b.m };
+    Outcome::Listed(chambers::list_pairs(p, hp, q, hq))
 }
 
 // Splits the words into P and Q.

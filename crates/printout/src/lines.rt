@@ -1,27 +1,17 @@
-// The lines of the listing: of a pair, and of a page.
-use list::Page;
+// The lines of the listing: of a pair, and of a chamber.
 use list::Pair;
 use plane::Spot;
-use ring::Head;
-ghost use mathlib.Core.Path.{_≡_};
-ghost use Prim.Native.Nat.{ℕ, _+_, _≤_, _<_};
-ghost use lib.ListN.{length, getD};
+use sheet::Size;
+ghost use Prim.Native.Nat.{_+_, _*_, _≤_, _<_};
+ghost use lib.ListN.{length};
 ghost use Rattle.plane.specs.Rule.{SpotIn};
+ghost use Rattle.bits.specs.Set.{Holds};
 ghost use Rattle.sheet.specs.Places.{pointsOf};
 ghost use Rattle.sheet.specs.Open.{Opens};
-ghost use Rattle.list.specs.Pairs.{none};
-ghost use Rattle.list.specs.Pages.{pagePairs};
+ghost use Rattle.list.specs.RingList.{ringPair, pairAt};
+ghost use Rattle.chamber.specs.Chamber.{PairsOn};
 ghost use Rattle.text.specs.Text.{Grown};
-ghost use Rattle.printout.specs.Listing.{Has, standsAt, HasBoth, lineAt, lineOf, linesOf};
-
-// Where the record of an id stands.
-fn stands_at(s: &[i32], h: Head, id: u32) -> Spot
-    requires { ⌜ Opens (now s) (h .n) (h .m) × Has (pointsOf (now s)) id ⌝ }
-    ensures { λ r. ⌜ (r ≡ standsAt (pointsOf (now (s .entry))) id) × SpotIn r ⌝ }
-{
-    let i = sheet::find::position_of(s, h.n, h.m, id);
-    sheet::reads::spot_at(s, h.n, h.m, i)
-}
+ghost use Rattle.printout.specs.Listing.{lineAt, lineOf, linesOf, ringRow};
 
 // The line of a pair whose q stands at a and whose p stands at b.
 fn put_line(v: Pair, a: Spot, b: Spot, out: &mut [u8], at: usize) -> usize
@@ -32,41 +22,51 @@ fn put_line(v: Pair, a: Spot, b: Spot, out: &mut [u8], at: usize) -> usize
     text::put_line(v.q, v.p, a.x + b.x, a.y + b.y, v.size, out, at)
 }
 
-// The line of a pair of two sheets.
-fn put_pair(p: &[i32], hp: Head, q: &[i32], hq: Head, v: Pair, out: &mut [u8], at: usize) -> usize
-    requires { ⌜ Opens (now p) (hp .n) (hp .m) × Opens (now q) (hq .n) (hq .m) ⌝ }
-    requires { ⌜ HasBoth (pointsOf (now p)) (pointsOf (now q)) v × (at + 107 ≤ length (now out)) ⌝ }
-    ensures { λ r. ⌜ Grown (now (out .entry)) at (now (out .exit)) r (lineOf (pointsOf (now (p .entry))) (pointsOf (now (q .entry))) v) ⌝ }
-    ensures { λ r. ⌜ r ≤ at + 107 ⌝ }
-{
-    let a = stands_at(q, hq, v.q);
-    let b = stands_at(p, hp, v.p);
-    put_line(v, a, b, out, at)
-}
-
-// The lines of the pairs that a page shows.
-pub fn put_page(
+// The line of the pair of position j of Q and position i of P.
+fn put_pair(
     p: &[i32],
-    hp: Head,
+    hp: Size,
     q: &[i32],
-    hq: Head,
-    g: Page,
+    hq: Size,
+    j: usize,
+    i: usize,
     out: &mut [u8],
     at: usize,
 ) -> usize
-    requires { ⌜ Opens (now p) (hp .n) (hp .m) × Opens (now q) (hq .n) (hq .m) ⌝ }
-    requires { ⌜ ((k : ℕ) → k < g .count → HasBoth (pointsOf (now p)) (pointsOf (now q)) (getD (g .pairs) k none)) ⌝ }
-    requires { ⌜ (g .count ≤ 16) × (at + 1712 ≤ length (now out)) ⌝ }
-    ensures { λ r. ⌜ Grown (now (out .entry)) at (now (out .exit)) r (linesOf (pointsOf (now (p .entry))) (pointsOf (now (q .entry))) (pagePairs g)) ⌝ }
-    ensures { λ r. ⌜ r ≤ at + 1712 ⌝ }
+    requires { ⌜ Opens (now p) (hp .n) (hp .m) × Opens (now q) (hq .n) (hq .m) × (j < hq .n) × (i < hp .n) × (at + 107 ≤ length (now out)) ⌝ }
+    ensures { λ r. ⌜ Grown (now (out .entry)) at (now (out .exit)) r (lineOf (pointsOf (now (p .entry))) (pointsOf (now (q .entry))) (pairAt (pointsOf (now (p .entry))) (pointsOf (now (q .entry))) j i)) ⌝ }
+    ensures { λ r. ⌜ r ≤ at + 107 ⌝ }
 {
-    let n = g.count;
-    let mut i = 0;
+    let v = walk::pair::pair_at(p, hp, q, hq, j, i);
+    let a = sheet::reads::spot_at(q, hq.n, hq.m, j);
+    let b = sheet::reads::spot_at(p, hp.n, hp.m, i);
+    put_line(v, a, b, out, at)
+}
+
+// The lines of the pairs of the chamber at position j: `count` pairs, which are kept on the words lent.
+pub fn put_chamber(
+    p: &[i32],
+    hp: Size,
+    q: &[i32],
+    hq: Size,
+    j: usize,
+    bits: &[u64],
+    count: usize,
+    out: &mut [u8],
+    at: usize,
+) -> usize
+    requires { ⌜ Opens (now p) (hp .n) (hp .m) × Opens (now q) (hq .n) (hq .m) × (j < hq .n) × Holds (now bits) (hp .n) ⌝ }
+    requires { ⌜ PairsOn (ringPair (pointsOf (now p)) (pointsOf (now q))) (pairAt (pointsOf (now p)) (pointsOf (now q))) j (hp .n) (now bits) count ⌝ }
+    requires { ⌜ at + 107 * count ≤ length (now out) ⌝ }
+    ensures { λ r. ⌜ Grown (now (out .entry)) at (now (out .exit)) r (linesOf (pointsOf (now (p .entry))) (pointsOf (now (q .entry))) (ringRow (pointsOf (now (p .entry))) (pointsOf (now (q .entry))) j)) ⌝ }
+    ensures { λ r. ⌜ r ≤ at + 107 * count ⌝ }
+{
+    let n = hp.n;
     let mut to = at;
+    let mut i = seeds::scan::next_from(bits, 0);
     while i < n {
-        let v = g.pairs[i];
-        to = put_pair(p, hp, q, hq, v, out, to);
-        i += 1;
+        to = put_pair(p, hp, q, hq, j, i, out, to);
+        i = seeds::scan::next_from(bits, i + 1);
     }
     to
 }

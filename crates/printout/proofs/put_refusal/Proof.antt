@@ -1,10 +1,9 @@
 -- `printout::put_refusal` meets its contract. Assumes nothing.
 use mathlib.Core.Path.{_≡_, sym, subst}
-use mathlib.Core.List.{List, []}
+use mathlib.Core.List.{List}
 use Prim.Native.Nat.{ℕ}
 use native.Mathlib.Omega.{arith}
 use Rattle.text.specs.Text.{Grown}
-use Rattle.printout.specs.Listing.{linesOf}
 use Rattle.printout.specs.Outcome.{refusal}
 use Rattle.printout.specs.declared.Outcome.{Outcome}
 use Rattle.printout.proofs.LineLaws.{no-line}
@@ -65,8 +64,8 @@ returns-3 c =
     (alike (c .before .before .before .before .before .o2 .given .1) (p .0), p .1)
 
 returns-4 : tie.Need-returns-4
-unfolding refusal linesOf
-returns-4 c = (alike (c .enum-told2 .given .1) (no-line [] [] _ _), omega arith)
+unfolding refusal
+returns-4 c = (alike (c .enum-told2 .given .1) (no-line _ _), omega arith)
 
 pub put-refusal-spec : {M : Type 1} → statement M
 put-refusal-spec =

@@ -1,12 +1,15 @@
--- `printout::pages::make_room` meets its contract. Assumes nothing.
+-- `printout::chambers::make_room` meets its contract. Assumes nothing.
 use mathlib.Core.Path.{sym}
 use lib.Seq.{length-take-le}
 use borrow.Author.Needs.{needs}
-use Rattle.printout.proofs.pages.make_room.Statement.{statement}
-use Rattle.printout.proofs.pages.make_room.Tie as tie
+use Rattle.printout.proofs.chambers.make_room.Statement.{statement}
+use Rattle.printout.proofs.chambers.make_room.Tie as tie
 
 sub-if1 : tie.Need-sub-if1
 sub-if1 c = search needs
+
+mul-if1 : tie.Need-mul-if1
+mul-if1 c = search needs
 
 returns : tie.Need-returns
 returns c = search needs
@@ -21,5 +24,4 @@ returns-2 : tie.Need-returns-2
 returns-2 c = search needs
 
 pub make-room-spec : {M : Type 1} → statement M
-make-room-spec =
-    tie.close (tie.spec sub-if1 returns slice-aggregate-write-all write-all-requires returns-2)
+make-room-spec = tie.close (tie.spec sub-if1 mul-if1 returns slice-aggregate-write-all write-all-requires returns-2)
