@@ -6,6 +6,7 @@ use list::Source;
 use list::Terms;
 use sheet::Size;
 use walk::Answer;
+use walk::filter::ROOM;
 ghost use mathlib.Core.Path.{_≡_};
 ghost use Prim.Native.Nat.{ℕ, _+_, _*_, _≤_, _<_};
 ghost use lib.ListN.{length};
@@ -225,7 +226,7 @@ fn wide(t: u32) -> usize
 }
 
 // The q at position j: filtered, on the words lent, and its kept partners tried; for a page of t above 0 all of them, and shown where at least t are ring partners.
-// The filter of a self join meets q too, which changes the bit of q alone.
+// The filter of a self join meets q too, which changes the bit of q alone. What it tries first stands in the list lent.
 fn with_chamber(
     p: &[i32],
     hp: Size,
@@ -234,13 +235,14 @@ fn with_chamber(
     ask: Ask,
     j: usize,
     bits: &mut [u64],
+    latest: &mut [u32],
     d: Draft,
 ) -> Draft
     requires { ⌜ Opens (now p) (hp .n) (hp .m) × Opens (now q) (hq .n) (hq .m) × (j < hq .n) × (ask .size ≤ 16) × Holds (now bits) (hp .n) × (d .opened + (hp .m + hp .n * (hp .m + hq .m)) < 9223372036854775808) × Alone (ask .terms) (now p) (now q) ⌝ }
     ensures { λ r. ⌜ r ≡ chamber (walksFor (walksBy (ask .terms) (length (now (bits .entry))) (now (p .entry)) (now (q .entry))) (hp .n) (ask .terms .threshold)) (ask .key) (ask .size) (hp .n) j d ⌝ }
 {
     let z = sheet::reads::spot_at(q, hq.n, hq.m, j);
-    let opened = walk::filter::kept_by(p, hp.n, hp.m, z, bits, ask.terms.grid);
+    let opened = walk::filter::kept_by(p, hp.n, hp.m, z, bits, latest, ask.terms.grid);
     let mut r = d;
     r.opened = d.opened + opened;
     let terms = ask.terms;
@@ -296,6 +298,7 @@ pub fn made_on(
         more: false,
         opened: 0,
     };
+    let mut latest = [0u32; ROOM];
     let n = hq.n;
     let key = ask.key;
     let c = ask.terms.contractor;
@@ -305,7 +308,7 @@ pub fn made_on(
             return r;
         }
         if list::is_mine(owners, c, j) {
-            r = with_chamber(p, hp, q, hq, ask, j, bits, r);
+            r = with_chamber(p, hp, q, hq, ask, j, bits, &mut latest, r);
         }
         j += 1;
     }

@@ -1,6 +1,7 @@
 // The filter walk.
 use crate::Filtered;
 use plane::Spot;
+use walk::filter::ROOM;
 ghost use mathlib.Core.Path.{_≡_};
 ghost use lib.ListN.{length};
 ghost use Rattle.bits.specs.Set.{Holds};
@@ -25,7 +26,8 @@ fn kept_on(p: &[i32], n: usize, m: usize, q: Spot, bits: &mut [u64]) -> Filtered
     requires { ⌜ Opens (now p) n m × SpotIn q × Holds (now bits) n ⌝ }
     ensures { λ r. ⌜ (r ≡ filteredTo (filterKept (length (now (bits .entry))) (now (p .entry)) q)) × (now (bits .exit) ≡ filterKept (length (now (bits .entry))) (now (p .entry)) q .bits) ⌝ }
 {
-    let opened = walk::filter::filter_kept(p, n, m, q, bits);
+    let mut latest = [0u32; ROOM];
+    let opened = walk::filter::filter_kept(p, n, m, q, bits, &mut latest);
     Filtered {
         number: 0,
         count: bits::len(bits),

@@ -7,7 +7,7 @@ use mathlib.Core.List.{List}
 use Prim.Native.Nat.{ℕ, _+_, _-_, _*_, _≤_, _<_}
 use native.Mathlib.Omega.{arith}
 use native.Mathlib.Decide.{ℕ-discrete}
-use lib.ListN.{length, getD, set, length-set}
+use lib.ListN.{length, getD, set}
 use lib.Seq.{getD-set-same, getD-set-other}
 use Rattle.integers.proofs.Bools.{clash}
 use Rattle.bits.specs.Set.{kept, with, none, some, Known, Finds}
@@ -52,11 +52,10 @@ module _ (latest : List ℕ) (q : ℕ → Bool) (c : ℕ) where
 
 -- ---- none is kept at the start
 
-pub tries-none : (words : ℕ) (ws : List ℕ) (n : ℕ) (latest : List ℕ) → ws ≡ none words → length latest ≡ 256 → Tries ws n latest n 0
-tries-none words ws n latest e l =
+pub tries-none : (words : ℕ) (ws : List ℕ) (n : ℕ) (latest : List ℕ) → ws ≡ none words → Tries ws n latest n 0
+tries-none words ws n latest e =
     record {
       known = known-past ws n n (omega arith);
-      long = l;
       listed = λ h. record {
         below = λ k b. absurd (omega arith);
         is-kept = λ k b. absurd (omega arith);
@@ -67,7 +66,7 @@ tries-none words ws n latest e l =
 -- ---- what was found is tried first
 
 pub tries-found : (ws : List ℕ) (n : ℕ) (latest : List ℕ) (last c by : ℕ) → Known ws n by → Tries ws n latest last c → Tries ws n latest by c
-tries-found ws n latest last c by k t = record { known = k; long = t .long; listed = t .listed }
+tries-found ws n latest last c by k t = record { known = k; listed = t .listed }
 
 -- ---- one more is kept
 
@@ -76,9 +75,9 @@ module _ (ws : List ℕ) (n i : ℕ) (latest : List ℕ) (last c : ℕ) (h : i <
   last-more ws′ e = known-more ws ws′ n i last e m (t .known)
 
   -- it stands at the end of the list, and every other where it stood
-  module _ (r : c < 256) where
+  module _ (r : c < length latest) where
     end-is : getD (set latest c i) c 0 ≡ i
-    end-is = getD-set-same latest c i 0 (omega (arith, t .long))
+    end-is = getD-set-same latest c i 0 r
 
     rest-is : (k : ℕ) → k < c → getD (set latest c i) k 0 ≡ getD latest k 0
     rest-is k l = getD-set-other latest c k i 0 (λ (e : k ≡ c). omega arith)
@@ -108,10 +107,9 @@ module _ (ws : List ℕ) (n i : ℕ) (latest : List ℕ) (last c : ℕ) (h : i <
     tries-more ws′ e =
         record {
           known = last-more ws′ e;
-          long = length-set latest c i ∙ t .long;
           listed = λ l. subst (λ (x : List ℕ). Lists x n (set latest c i) (c + 1)) (sym e) (lists-more (t .listed (omega arith)));
         }
 
   -- or there is no room for it
-  pub tries-full : (ws′ : List ℕ) (c′ : ℕ) → ws′ ≡ with ws i → 256 < c′ → Tries ws′ n latest last c′
-  tries-full ws′ c′ e f = record { known = last-more ws′ e; long = t .long; listed = λ l. absurd (omega arith) }
+  pub tries-full : (ws′ : List ℕ) (c′ : ℕ) → ws′ ≡ with ws i → length latest < c′ → Tries ws′ n latest last c′
+  tries-full ws′ c′ e f = record { known = last-more ws′ e; listed = λ l. absurd (omega arith) }

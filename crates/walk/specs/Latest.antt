@@ -1,4 +1,4 @@
--- The positions of the latest kept points, in a list of 256 that the filter walk's code goes by: it says in which order kept points are tried, and changes no answer.
+-- The positions of the latest kept points, in a list that is lent to the filter walk's code: it says in which order kept points are tried, and changes no answer.
 use mathlib.Core.Path.{_≡_}
 use mathlib.Core.Bool.{true}
 use mathlib.Core.List.{List}
@@ -12,8 +12,7 @@ pub record Lists (ws : List ℕ) (n : ℕ) (latest : List ℕ) (c : ℕ) : Type 
   pub is-kept : (k : ℕ) → k < c → kept ws (getD latest k 0) ≡ true
   pub each : (i : ℕ) → i < n → kept ws i ≡ true → (k : ℕ) × (k < c) × (getD latest k 0 ≡ i)
 
--- where the position to try first is one of the first n, it is a kept one; and the list has them all, unless c is more than it has room for
+-- where the position to try first is one of the first n, it is a kept one; and the list has them all, unless c is more than it has room for: its length is its room
 pub record Tries (ws : List ℕ) (n : ℕ) (latest : List ℕ) (last c : ℕ) : Type 0 where
   pub known : Known ws n last
-  pub long : length latest ≡ 256
-  pub listed : c ≤ 256 → Lists ws n latest c
+  pub listed : c ≤ length latest → Lists ws n latest c

@@ -13,36 +13,45 @@ use Rattle.walk.proofs.filter.consider_at.Statement.{statement}
 use Rattle.walk.proofs.filter.consider_at.Tie as tie
 
 spot-at-requires : tie.Need-spot-at-requires
-spot-at-requires c κs = (c .before .pre .0, c .before .pre .2)
+spot-at-requires c κs = (c .before .before .pre .0, c .before .before .pre .2)
 
 drops-spot-requires : tie.Need-drops-spot-requires
 drops-spot-requires c κs =
-    let p = c .before .before .before .before .pre in
+    let p = c .before .before .before .before .before .pre in
     (p .0, p .1, spot-fits _ _ _ (p .0) _ _ (p .2) (c .before .before .spot-at .ensures), p .3, p .4)
 
 same-length : tie.Need-same-length
 same-length c = search needs
 
+same-length-2 : tie.Need-same-length-2
+same-length-2 c = search needs
+
 returns : tie.Need-returns
 returns c =
     let f = c .before .drops-spot .ensures in
     let z = c .before .before .before .before in
-    (consider-yes _ _ _ _ _ (dropped-is _ _ _ _ _ _ _ _ (z .spot-at .ensures) refl (finds-some _ _ _ _ f (c .if1 .taken))), tries-found _ _ _ _ _ _ (f .known) (z .before .before .pre .4))
+    (consider-yes _ _ _ _ _ (dropped-is _ _ _ _ _ _ _ _ (z .spot-at .ensures) refl (finds-some _ _ _ _ f (c .if1 .taken))), tries-found _ _ _ _ _ _ (f .known) (z .before .before .before .pre .4))
 
 insert-requires : tie.Need-insert-requires
 insert-requires c κs = search needs
 
+cast-latest : tie.Need-cast-latest
+cast-latest c = let p = c .before .before .before .before .before .before .before .before .before .before .before .before .pre in record { fits = omega (arith, p .2, p .0 .n-le) }
+
 mul-latest : tie.Need-mul-latest
 mul-latest c = search needs
 
-element-write-latest : tie.Need-element-write-latest
-element-write-latest c = search needs
+slice-write-latest : tie.Need-slice-write-latest
+slice-write-latest c = search needs
 
-add-t19 : tie.Need-add-t19
-add-t19 c = search needs
+add-t22 : tie.Need-add-t22
+add-t22 c = search needs
 
-same-length-2 : tie.Need-same-length-2
-same-length-2 c = search needs
+same-length-3 : tie.Need-same-length-3
+same-length-3 c = search needs
+
+same-length-4 : tie.Need-same-length-4
+same-length-4 c = search needs
 
 -- ---- once position i is kept
 
@@ -50,7 +59,7 @@ abbrev asked : tie.After-insert → tie.Else1
 asked c = c .before .before
 
 abbrev start : tie.After-insert → tie.Start
-start c = asked c .before .before .before .before .before .before
+start c = asked c .before .before .before .before .before .before .before
 
 considered : (c : tie.After-insert) → c .insert .last .0 ≡ consider (start c .args .w .now) (start c .args .n) (start c .args .q) (start c .args .i) (start c .args .bits .now)
 considered c =
@@ -66,8 +75,14 @@ returns-2 c =
     let p = start k .pre in
     (considered k, tries-more _ _ _ _ _ _ (p .2) (room k) (p .4) (c .if2 .taken) _ (k .insert .ensures))
 
-same-length-3 : tie.Need-same-length-3
-same-length-3 c = search needs
+add-t24 : tie.Need-add-t24
+add-t24 c = search needs
+
+same-length-5 : tie.Need-same-length-5
+same-length-5 c = search needs
+
+same-length-6 : tie.Need-same-length-6
+same-length-6 c = search needs
 
 returns-3 : tie.Need-returns-3
 returns-3 c =
@@ -82,12 +97,17 @@ consider-at-spec =
     spot-at-requires
     drops-spot-requires
     same-length
+    same-length-2
     returns
     insert-requires
+    cast-latest
     mul-latest
-    element-write-latest
-    add-t19
-    same-length-2
-    returns-2
+    slice-write-latest
+    add-t22
     same-length-3
+    same-length-4
+    returns-2
+    add-t24
+    same-length-5
+    same-length-6
     returns-3)
