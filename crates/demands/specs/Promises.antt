@@ -364,7 +364,7 @@ NumberAnswers a o P Q big bits r bits′ = CountOfKind (a .own) a o P Q big bits
 
 -- ---- the first of a list in an order
 
--- `ranked::busiest::busiest(P, Q, o, ask, bits)` answers r, and the lent words are `bits′` at its exit
+-- `ranked::busiest::busiest(P, Q, o, ask, bits)` answers r, and the lent words are `bits′` at its exit [BU12]
 pub record BusyAnswers (P Q : List ℤ) (o : List ℕ) (ask : Question) (bits : List ℕ) (r : Busy) (bits′ : List ℕ) : Type 0 where
   pub κs : Lfts 4
   pub p-at : Place
@@ -387,7 +387,7 @@ pub record PumpAnswers (P Q : List ℤ) (k big : ℕ) (g : Bool) (bits : List �
       r
       (slice p-at P, (slice q-at Q, (k, (big, (g, (slice b-at bits′, tt))))))
 
--- `ranked::visits::urgent(P, Q, o, ps, qs, ask, bits)` answers r, and the lent words are `bits′` at its exit
+-- `ranked::visits::urgent(P, Q, o, ps, qs, ask, bits)` answers r, and the lent words are `bits′` at its exit [BU12]
 pub record UrgentAnswers (P Q : List ℤ) (o ps qs : List ℕ) (ask : Question) (bits : List ℕ) (r : Urgent) (bits′ : List ℕ) : Type 0 where
   pub κs : Lfts 6
   pub p-at : Place

@@ -134,20 +134,21 @@ visits-apart f is key (v ∷ l) e =
 
 -- ---- scores
 
-pub score-at : (s : List Point) (sc : List ℕ) → ((x y : ℕ) → x < y → y < length s → idAt s x < idAt s y) → (i : ℕ) → i < length s → i < length sc → scoreOf s sc (idAt s i) ≡ getD sc i 0
+-- it is the one at the record's position, 0 where there is none
+pub score-at : (s : List Point) (sc : List ℕ) → ((x y : ℕ) → x < y → y < length s → idAt s x < idAt s y) → (i : ℕ) → i < length s → scoreOf s sc (idAt s i) ≡ getD sc i 0
 unfolding scoreOf
-score-at [] sc r i h g = absurd (omega arith)
-score-at (z ∷ s) [] r i h g = absurd (omega arith)
-score-at (z ∷ s) (c ∷ sc) r zero h g = rw (eq-eqb (z .id) (z .id) refl)
-score-at (z ∷ s) (c ∷ sc) r (suc i) h g =
+score-at [] sc r i h = absurd (omega arith)
+score-at (z ∷ s) [] r i h = refl
+score-at (z ∷ s) (c ∷ sc) r zero h = rw (eq-eqb (z .id) (z .id) refl)
+score-at (z ∷ s) (c ∷ sc) r (suc i) h =
     let other : z .id < idAt s i = r 0 (suc i) (omega arith) h in
-    rw (ne-eqb (z .id) (idAt s i) (λ e. omega (arith, other))) (score-at s sc (λ x y a b. r (suc x) (suc y) (omega arith) (omega arith)) i (omega arith) (omega arith))
+    rw (ne-eqb (z .id) (idAt s i) (λ e. omega (arith, other))) (score-at s sc (λ x y a b. r (suc x) (suc y) (omega arith) (omega arith)) i (omega arith))
 
 -- of the points of a sheet
 pub score-of : (w : List ℤ) (n m : ℕ) → Opens w n m → (sc : List ℕ) → Scored sc n → (i : ℕ) → i < n → scoreOf (pointsOf w) sc (idAt (pointsOf w) i) ≡ getD sc i 0
 score-of w n m o sc s i h =
     let many = points-many w n m o in
-    score-at (pointsOf w) sc (λ x y a b. rises-far (idAt (pointsOf w)) (length (pointsOf w)) (points-rise o) x y a b) i (omega arith) (omega (arith, s .long))
+    score-at (pointsOf w) sc (λ x y a b. rises-far (idAt (pointsOf w)) (length (pointsOf w)) (points-rise o) x y a b) i (omega arith)
 
 -- ---- those held
 
