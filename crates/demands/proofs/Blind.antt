@@ -57,7 +57,7 @@ use Rattle.ranked.specs.declared.Rank.{Rank}
 use Rattle.ranked.specs.declared.Busy.{Busy}
 use Rattle.ranked.specs.declared.Visit.{Visit}
 use Rattle.ranked.specs.declared.Urgent.{Urgent}
-use Rattle.ranked.specs.Ranking.{firstBy}
+use Rattle.sorting.specs.Ranking.{firstBy}
 use Rattle.ranked.specs.Busiest.{busier, chamberRanks, askedTerms, askedList, busyNo, busyGiven, busyRefused, busiestOf, busyAnswer, busyBits}
 use Rattle.ranked.specs.Urgent.{ahead, lastScore, scoresNo, visitOf, urgentNo, urgentGiven, urgentRefused, urgentOf, urgentAnswer, urgentBits}
 use Rattle.ranked.specs.Blind.{Rescored}

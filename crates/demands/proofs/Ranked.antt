@@ -43,14 +43,14 @@ use Rattle.ranked.specs.declared.Rank.{Rank}
 use Rattle.ranked.specs.declared.Busy.{Busy}
 use Rattle.ranked.specs.declared.Visit.{Visit}
 use Rattle.ranked.specs.declared.Urgent.{Urgent}
-use Rattle.ranked.specs.Ranking.{firstBy, sixteen, Apart}
+use Rattle.sorting.specs.Ranking.{firstBy, sixteen, Apart}
 use Rattle.ranked.specs.Busiest.{busier, Busier, noRank, pumpPairs, chamberRank, pumpRank, chamberRanks, pumpRanks, askedTerms, askedList, busyNo, pumpNo, busyGiven, busyRefused, busiestOf, busiestPumps, busyAnswer, pumpAnswer}
 use Rattle.ranked.specs.Urgent.{ahead, Ahead, noVisit, scoreOf, scoresOk, scoresNo, visitOf, urgentNo, urgentGiven, urgentRefused, urgentOf, urgentAnswer}
-use Rattle.ranked.proofs.HeldLaws.{at-sixteen, of-sixteen}
+use Rattle.sorting.proofs.HeldLaws.{at-sixteen, of-sixteen}
 use Rattle.ranked.proofs.RanksLaws.{busier-order, busier-says, ranks-only, ranks-there, ranks-apart}
 use Rattle.ranked.proofs.ScoresLaws.{scores-scored}
 use Rattle.ranked.proofs.VisitsLaws.{ahead-order, ahead-says, map-only, visits-apart, visit-pair, score-of}
-use Rattle.ranked.proofs.FirstMeaning.{first-long, ranked-only, first-rises, first-ahead}
+use Rattle.sorting.proofs.FirstMeaning.{first-long, ranked-only, first-rises, first-ahead}
 use Rattle.demands.specs.Promises.{BusyAnswers, PumpAnswers, UrgentAnswers}
 use Rattle.demands.proofs.Demand1.{busy-no, pump-no, urgent-no}
 use Rattle.demands.proofs.Demand2.{WellFormed, Whose}

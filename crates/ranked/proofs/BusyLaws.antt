@@ -39,7 +39,7 @@ use Rattle.chamber.specs.Sized.{smallFor, listedTo, listTo}
 use Rattle.chamber.proofs.KeepLaws.{row-nil, row-yes, row-no}
 use Rattle.chamber.proofs.ListedLaws.{points-many}
 use Rattle.ranked.specs.declared.Question.{Question}
-use Rattle.ranked.specs.Ranking.{firstBy}
+use Rattle.sorting.specs.Ranking.{firstBy}
 use Rattle.ranked.specs.Busiest.{busier, ranksFrom, pumpPairs, chamberRank, pumpRank, chamberRanks, pumpRanks, askedTerms, askedList, busiestOf, busiestPumps}
 use Rattle.ranked.specs.Ranks.{rowRank}
 use Rattle.ranked.proofs.RanksLaws.{ranks-same}

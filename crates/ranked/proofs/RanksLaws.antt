@@ -36,12 +36,12 @@ use Rattle.chamber.proofs.ListedLaws.{points-many}
 use Rattle.ranked.specs.declared.Rank.{Rank}
 use Rattle.ranked.specs.declared.Busy.{Busy}
 use Rattle.ranked.specs.declared.ranks.Ranks.{Ranks}
-use Rattle.ranked.specs.Ranking.{putBy, firstBy, gathered, Sorted, Apart, Order}
+use Rattle.sorting.specs.Ranking.{putBy, firstBy, gathered, Sorted, Apart, Order}
 use Rattle.ranked.specs.Busiest.{busier, Busier, noRank, ranksFrom, busyGiven}
 use Rattle.ranked.specs.Ranks.{ranksOf, heldRanks, HeldRanks, rankPut, Below, Idle, rowRank}
-use Rattle.ranked.proofs.RankingLaws.{gathered-first, gathered-two, gathered-short, gathered-sorted, gathered-only}
-use Rattle.ranked.proofs.HeldLaws.{of-sixteen, held-of, held-put, held-over, held-same, ranked-last, put-asks}
-use Rattle.ranked.proofs.LexLaws.{or-first, or-second, or-and, and-none, less-order, more-order, more-total, above, number-order, lex-order}
+use Rattle.sorting.proofs.RankingLaws.{gathered-first, gathered-two, gathered-short, gathered-sorted, gathered-only}
+use Rattle.sorting.proofs.HeldLaws.{of-sixteen, held-of, held-put, held-over, held-same, ranked-last, put-asks}
+use Rattle.sorting.proofs.LexLaws.{or-first, or-second, or-and, and-none, less-order, more-order, more-total, above, number-order, lex-order}
 
 -- ---- the order
 

@@ -46,12 +46,12 @@ use Rattle.chamber.proofs.ListedLaws.{points-many, row-empty, rows-next, rows-e
 use Rattle.ranked.specs.declared.Visit.{Visit}
 use Rattle.ranked.specs.declared.Urgent.{Urgent}
 use Rattle.ranked.specs.declared.tops.Tops.{Tops}
-use Rattle.ranked.specs.Ranking.{putBy, firstBy, gathered, Sorted, Apart, Order}
+use Rattle.sorting.specs.Ranking.{putBy, firstBy, gathered, Sorted, Apart, Order}
 use Rattle.ranked.specs.Urgent.{ahead, Ahead, noVisit, scoreOf, visitOf, urgentGiven}
 use Rattle.ranked.specs.Visits.{topsOf, heldVisits, HeldVisits, visitPut, Past, Scored, Greatest, Late, Enters, Listed, scored, withScore}
-use Rattle.ranked.proofs.RankingLaws.{ranked-stays, gathered-first, gathered-two, gathered-short, gathered-sorted, gathered-only}
-use Rattle.ranked.proofs.HeldLaws.{of-sixteen, held-of, held-put, held-over, held-same, ranked-last, put-asks}
-use Rattle.ranked.proofs.LexLaws.{or-first, or-second, or-and, and-none, less-order, less-total, more-order, more-total, above, number-order, lex-order}
+use Rattle.sorting.proofs.RankingLaws.{ranked-stays, gathered-first, gathered-two, gathered-short, gathered-sorted, gathered-only}
+use Rattle.sorting.proofs.HeldLaws.{of-sixteen, held-of, held-put, held-over, held-same, ranked-last, put-asks}
+use Rattle.sorting.proofs.LexLaws.{or-first, or-second, or-and, and-none, less-order, less-total, more-order, more-total, above, number-order, lex-order}
 use Rattle.ranked.proofs.BusyLaws.{listed-mine, listed-not}
 
 -- ---- the order

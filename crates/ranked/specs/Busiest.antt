@@ -25,7 +25,7 @@ use Rattle.many.specs.Many.{largestNo}
 use Rattle.ranked.specs.declared.Question.{Question}
 use Rattle.ranked.specs.declared.Rank.{Rank}
 use Rattle.ranked.specs.declared.Busy.{Busy}
-use Rattle.ranked.specs.Ranking.{firstBy, sixteen}
+use Rattle.sorting.specs.Ranking.{firstBy, sixteen}
 
 -- ---- the order: "the most ring partners, in order, ties by id"
 

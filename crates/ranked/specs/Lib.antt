@@ -1,11 +1,9 @@
 -- The first of a list in an order.
---     Ranking    the first k of any list in any order
 --     Busiest    the busiest chambers and pump houses: the calls' numbers and answers
 --     Urgent     the most urgent visits: the call's number and answer
 --     Blind      the scores of chambers in two runs
 --     Ranks      the ranks held, as the code has them
 --     Visits     the visits held, as the code has them
-pub mod Ranking
 pub mod Busiest
 pub mod Urgent
 pub mod Blind

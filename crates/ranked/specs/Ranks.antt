@@ -15,7 +15,7 @@ use Rattle.list.specs.Terms.{profileFor}
 use Rattle.chamber.specs.Sized.{smallFor}
 use Rattle.ranked.specs.declared.Rank.{Rank}
 use Rattle.ranked.specs.declared.ranks.Ranks.{Ranks}
-use Rattle.ranked.specs.Ranking.{putBy, sixteen, Held}
+use Rattle.sorting.specs.Ranking.{putBy, sixteen, Held}
 use Rattle.ranked.specs.Busiest.{busier, noRank}
 
 -- those that hold these ranks; the ranks held

@@ -22,7 +22,7 @@ use Rattle.many.specs.Many.{largestNo}
 use Rattle.ranked.specs.declared.Question.{Question}
 use Rattle.ranked.specs.declared.Visit.{Visit}
 use Rattle.ranked.specs.declared.Urgent.{Urgent}
-use Rattle.ranked.specs.Ranking.{firstBy, sixteen}
+use Rattle.sorting.specs.Ranking.{firstBy, sixteen}
 use Rattle.ranked.specs.Busiest.{askedList}
 
 -- ---- scores

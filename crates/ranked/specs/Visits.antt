@@ -9,7 +9,7 @@ use Rattle.list.specs.declared.Pair.{Pair}
 use Rattle.list.specs.declared.Terms.{Terms}
 use Rattle.ranked.specs.declared.Visit.{Visit}
 use Rattle.ranked.specs.declared.tops.Tops.{Tops}
-use Rattle.ranked.specs.Ranking.{putBy, sixteen, Held}
+use Rattle.sorting.specs.Ranking.{putBy, sixteen, Held}
 use Rattle.ranked.specs.Urgent.{ahead, noVisit, lastScore, scoreOf}
 
 -- those that hold these visits; the visits held

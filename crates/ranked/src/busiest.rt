@@ -14,7 +14,7 @@ ghost use Rattle.sheet.specs.Places.{pointsOf};
 ghost use Rattle.bits.specs.Set.{wordsFor, none, Holds, Numbered, card};
 ghost use Rattle.list.specs.Contractor.{mine};
 ghost use Rattle.join.specs.Sheets.{Alone};
-ghost use Rattle.ranked.specs.Ranking.{firstBy, gathered};
+ghost use Rattle.sorting.specs.Ranking.{firstBy, gathered};
 ghost use Rattle.ranked.specs.Busiest.{busier, ranksFrom, busyGiven, busyRefused, busyAnswer, busyBits, pumpAnswer, pumpBits};
 ghost use Rattle.ranked.specs.Ranks.{ranksOf, heldRanks, HeldRanks, Below, Idle, rowRank};
 

@@ -3,7 +3,7 @@ use crate::Visit;
 ghost use mathlib.Core.Path.{_≡_};
 ghost use Prim.Native.Nat.{_≤_, _<_};
 ghost use lib.ListN.{take};
-ghost use Rattle.ranked.specs.Ranking.{putBy, Sorted};
+ghost use Rattle.sorting.specs.Ranking.{putBy, Sorted};
 ghost use Rattle.ranked.specs.Urgent.{ahead};
 ghost use Rattle.ranked.specs.Visits.{topsOf, heldVisits, HeldVisits, visitPut, Late, Enters};
 

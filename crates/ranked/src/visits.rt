@@ -21,7 +21,7 @@ ghost use Rattle.list.specs.Terms.{profileFor};
 ghost use Rattle.chamber.specs.Sized.{smallFor, listedTo, listTo};
 ghost use Rattle.words.specs.First.{first};
 ghost use Rattle.ring.specs.Lent.{bitsNo};
-ghost use Rattle.ranked.specs.Ranking.{firstBy, gathered};
+ghost use Rattle.sorting.specs.Ranking.{firstBy, gathered};
 ghost use Rattle.ranked.specs.Urgent.{ahead, scoresOk, scoresNo, visitOf, urgentGiven, urgentRefused, urgentAnswer, urgentBits};
 ghost use Rattle.ranked.specs.Visits.{topsOf, heldVisits, HeldVisits, Past, Scored, Greatest, Listed, scored, withScore};
 

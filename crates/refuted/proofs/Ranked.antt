@@ -18,7 +18,7 @@ use Rattle.chamber.specs.Sized.{smallFor, listedTo, listTo}
 use Rattle.many.specs.Many.{lastLargest}
 use Rattle.ranked.specs.declared.Rank.{Rank}
 use Rattle.ranked.specs.declared.Visit.{Visit}
-use Rattle.ranked.specs.Ranking.{putBy, sortedBy, firstBy}
+use Rattle.sorting.specs.Ranking.{putBy, sortedBy, firstBy}
 use Rattle.ranked.specs.Busiest.{busier, ranksFrom, pumpPairs, chamberRank, chamberRanks, pumpRanks}
 use Rattle.ranked.specs.Urgent.{ahead, scoreOf, scoresOk, visitOf}
 use Rattle.refuted.proofs.Cases.{to, pumps, chambers}

@@ -6,7 +6,7 @@ use lib.ListN.{length}
 use Rattle.sheet.specs.Places.{pointsOf}
 use Rattle.list.specs.Contractor.{mine}
 use Rattle.walk.proofs.FilterCode.{still-holds}
-use Rattle.ranked.specs.Ranking.{sixteen}
+use Rattle.sorting.specs.Ranking.{sixteen}
 use Rattle.ranked.specs.Ranks.{rowRank}
 use Rattle.ranked.proofs.RanksLaws.{Going, rank-start, ranks-below, rank-turn, rank-done, rank-rises}
 use Rattle.ranked.proofs.busiest.of_all.Statement.{statement}

@@ -13,7 +13,7 @@ use Rattle.ranked.specs.declared.ranks.Ranks.{Ranks}
 use Rattle.ranked.specs.Busiest.{busier, noRank}
 use Rattle.ranked.specs.Ranks.{rankPut}
 use Rattle.ranked.proofs.RanksLaws.{busier-order}
-use Rattle.ranked.proofs.HeldLaws.{Shifted, shift-start, shift-on, shift-stop, shift-end}
+use Rattle.sorting.proofs.HeldLaws.{Shifted, shift-start, shift-on, shift-stop, shift-end}
 use Rattle.ranked.proofs.ranks.with_rank.Statement.{statement}
 use Rattle.ranked.proofs.ranks.with_rank.Tie as tie
 

@@ -13,7 +13,7 @@ use Rattle.ranked.specs.declared.tops.Tops.{Tops}
 use Rattle.ranked.specs.Urgent.{ahead, noVisit}
 use Rattle.ranked.specs.Visits.{visitPut}
 use Rattle.ranked.proofs.VisitsLaws.{ahead-order}
-use Rattle.ranked.proofs.HeldLaws.{Shifted, shift-start, shift-on, shift-stop, shift-end}
+use Rattle.sorting.proofs.HeldLaws.{Shifted, shift-start, shift-on, shift-stop, shift-end}
 use Rattle.ranked.proofs.tops.with_visit.Statement.{statement}
 use Rattle.ranked.proofs.tops.with_visit.Tie as tie
 

@@ -11,7 +11,7 @@ use Rattle.list.specs.RingList.{pairBy}
 use Rattle.list.specs.Terms.{profileFor}
 use Rattle.walk.proofs.FilterCode.{still-holds}
 use Rattle.chamber.specs.Sized.{listedTo}
-use Rattle.ranked.specs.Ranking.{firstBy, sixteen}
+use Rattle.sorting.specs.Ranking.{firstBy, sixteen}
 use Rattle.ranked.specs.Urgent.{ahead, visitOf}
 use Rattle.ranked.specs.Visits.{topsOf}
 use Rattle.ranked.proofs.VisitsLaws.{Visiting, visit-start, visit-past, visit-turn, visit-done, visits-list, visits-ascend, visits-rise, visit-pair}

@@ -12,8 +12,8 @@ use Prim.Native.Nat.{ℕ, zero, suc, min, _<_}
 use native.Mathlib.Omega.{arith}
 use lib.ListN.{length, take, drop, getD, length-take, take-append-drop}
 use Rattle.integers.proofs.Bools.{clash}
-use Rattle.ranked.specs.Ranking.{putBy, sortedBy, firstBy, Apart, Sorted, Order}
-use Rattle.ranked.proofs.RankingLaws.{ranked-put-long, put-only, put-has, put-sorted, take-member, drop-member}
+use Rattle.sorting.specs.Ranking.{putBy, sortedBy, firstBy, Apart, Sorted, Order}
+use Rattle.sorting.proofs.RankingLaws.{ranked-put-long, put-only, put-has, put-sorted, take-member, drop-member}
 
 module _ {A : Type 0} (before : A → A → Bool) where
   sorted-only : (v : A) (l : List A) → List·Memᴰ v (sortedBy before l) → List·Memᴰ v l

@@ -9,7 +9,7 @@ use native.Mathlib.Nat.{le-antisymm}
 use lib.Dec.{eqb, ltb}
 use borrow.Author.Tests.{ltb-true, ltb-false, lt-ltb, le-ltb, eqb-true, eq-eqb}
 use Rattle.integers.proofs.Bools.{decide, and-both, or-both-false}
-use Rattle.ranked.specs.Ranking.{Order}
+use Rattle.sorting.specs.Ranking.{Order}
 
 pub or-first : (a b : Bool) → a ≡ true → (a || b) ≡ true
 or-first a b e = rw e

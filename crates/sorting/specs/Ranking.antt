@@ -12,12 +12,12 @@ module _ {A : Type 0} (before : A → A → Bool) where
   putBy v [] = v ∷ []
   putBy v (w ∷ l) = cond (before v w) (v ∷ (w ∷ l)) (w ∷ putBy v l)
 
-  -- a list "in order" [BU1]
+  -- a list "in order" [H1, BU1]
   unfoldable pub sortedBy : List A → List A
   sortedBy [] = []
   sortedBy (v ∷ l) = putBy v (sortedBy l)
 
-  -- its first k, "fewer if there are fewer" [BU1]
+  -- its first k, "fewer if there are fewer" [H1, BU1]
   unfoldable pub firstBy : ℕ → List A → List A
   firstBy k l = take k (sortedBy l)
 

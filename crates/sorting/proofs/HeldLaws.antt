@@ -12,8 +12,8 @@ use native.Mathlib.Omega.{arith}
 use native.Mathlib.Nat.{eq-or-lt-of-le}
 use lib.ListN.{length, take, drop, set, getD, replicate, length-set, length-take, drop-of-length-le, List·getD-append}
 use lib.Seq.{length-take-le, take-suc, drop-cons, take-take, take-append-le, take-append-seam, drop-append-le, drop-append-add, set-split, getD-set-same, take-set-le, drop-set-lt, getD-take, append-snoc}
-use Rattle.ranked.specs.Ranking.{putBy, sixteen, Sorted, Held, Order}
-use Rattle.ranked.proofs.RankingLaws.{ranked-put-long, put-none, put-before, put-last, take-sorted, sorted-last, ranked-keeps, ranked-enters, ranked-stays}
+use Rattle.sorting.specs.Ranking.{putBy, sixteen, Sorted, Held, Order}
+use Rattle.sorting.proofs.RankingLaws.{ranked-put-long, put-none, put-before, put-last, take-sorted, sorted-last, ranked-keeps, ranked-enters, ranked-stays}
 
 module _ {A : Type 0} (before : A → A → Bool) (z : A) where
   pub record Shifted (v : A) (B : List A) (n : ℕ) (C : List A) (i : ℕ) : Type 0 where

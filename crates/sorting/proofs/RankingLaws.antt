@@ -3,6 +3,7 @@
 --     take-put          the first k after one is put depend on the first k before alone
 --     gathered-first    those of a list gathered from nothing are its first k
 --     ranked-keeps, ranked-enters, ranked-stays     what one more does to those held: with fewer than k it is put among them, with k of them only if it stands before the last
+--     behind-stays, behind-on, behind-last     one that stands before none of k held: it is not among the k, nor after others were offered
 -- Assumes nothing.
 use mathlib.Core.Path.{_≡_, refl, sym, ap, subst, _∙_}
 use mathlib.Core.Bool.{Bool, true, false, cond}
@@ -13,7 +14,7 @@ use native.Mathlib.Omega.{arith}
 use lib.ListN.{length, take, drop, getD, length-take}
 use lib.Seq.{take-all, take-suc, take-at, take-length, take-take}
 use Rattle.integers.proofs.Bools.{decide, clash}
-use Rattle.ranked.specs.Ranking.{putBy, sortedBy, firstBy, Sorted, gathered, Apart, Order}
+use Rattle.sorting.specs.Ranking.{putBy, sortedBy, firstBy, Sorted, gathered, Apart, Order}
 
 module _ {A : Type 0} (before : A → A → Bool) where
   pub put-none : (v : A) → putBy before v [] ≡ v ∷ []
@@ -239,6 +240,33 @@ module _ {A : Type 0} (before : A → A → Bool) where
 
   -- ---- one more, and those held
 
+  -- one that stands before none of those held is not among the k, where k are held
+  pub behind-stays : (k : ℕ) (v : A) (s : List A) → length s ≡ k → ((w : A) → List·Memᴰ w s → before v w ≡ false) → take k (putBy before v s) ≡ s
+  behind-stays k v s full f = ap (take k) (put-last v s f) ∙ take-at s (v ∷ []) k full
+
+  module _ (o : Order before) where
+    -- nor after another was offered
+    pub behind-on : (k : ℕ) (v u : A) (s : List A) → length s ≡ k → ((w : A) → List·Memᴰ w s → before v w ≡ false) → (w : A) → List·Memᴰ w (take k (putBy before u s)) → before v w ≡ false
+    behind-on k v u s full f w m =
+        ⊎-elim
+        (λ (e : w ≡ u). rw e (⊎-elim (λ (h : before v u ≡ true). clash h (stays h (subst (λ (x : A). List·Memᴰ x (take k (putBy before u s))) e m))) (λ (h : before v u ≡ false). h) (decide (before v u))))
+        (λ (n : List·Memᴰ w s). f w n)
+        (put-only u w s (take-member k w (putBy before u s) m))
+      where
+        -- where v stands before u, all of s does, and u is not among the k
+        stays : before v u ≡ true → List·Memᴰ u (take k (putBy before u s)) → before v u ≡ false
+        stays h n =
+            f u
+            (subst (List·Memᴰ u)
+            (behind-stays k u s full (λ x y. not-both-ways o x u (⊎-elim (λ (a : before v x ≡ true). clash a (f x y)) (λ (a : before x u ≡ true). a) (o .parts v x u h))))
+            n)
+
+    -- of a list in order, one that does not stand before the last stands before none
+    pub behind-last : (v d : A) (s : List A) (m : ℕ) → length s ≡ suc m → Sorted before s → before v (getD s m d) ≡ false → (w : A) → List·Memᴰ w s → before v w ≡ false
+    behind-last v d s m full h e w n =
+        let cut : s ≡ take m s ++ (getD s m d ∷ []) = sym (take-all (suc m) s (omega arith)) ∙ take-suc s m d (omega arith) in
+        sorted-last o v (getD s m d) (take m s) (subst (Sorted before) cut h) e w (subst (List·Memᴰ w) cut n)
+
   module _ (k : ℕ) (v : A) (s : List A) where
     pub ranked-keeps : length s < k → take k (putBy before v s) ≡ putBy before v (take (length s) s)
     ranked-keeps h = take-all k (putBy before v s) (omega (arith, ranked-put-long v s)) ∙ ap (putBy before v) (sym (take-length s))
@@ -248,8 +276,4 @@ module _ {A : Type 0} (before : A → A → Bool) where
       ranked-enters e = ap (λ (n : ℕ). take n (putBy before v s)) least ∙ take-before m v d s (omega arith) e
 
       pub ranked-stays : Order before → Sorted before s → before v (getD s m d) ≡ false → take k (putBy before v s) ≡ s
-      ranked-stays o h e =
-          let cut : s ≡ take m s ++ (getD s m d ∷ []) = sym (take-all (suc m) s (omega arith)) ∙ take-suc s m d (omega arith) in
-          let last = sorted-last o v (getD s m d) (take m s) (subst (Sorted before) cut h) e in
-          ap (take k) (put-last v s (λ w n. last w (subst (List·Memᴰ w) cut n)))
-          ∙ take-at s (v ∷ []) k (omega arith)
+      ranked-stays o h e = behind-stays k v s (full ∙ sym least) (behind-last o v d s m full h e)
