@@ -82,7 +82,8 @@ module _ (P Q : List ℤ) (p-opens : WellFormed P) (q-opens : WellFormed Q) (k :
   -- "with the smallest squared size": what is not given comes after all that is [H1]
   pub shortest-first : (v w : Pair) → List·Memᴰ v (pairsOf P Q) → (List·Memᴰ v given → ⊥) → List·Memᴰ w given → Before w v
   shortest-first v w m out n =
-      of-shortest.shorter-before w v (of-shortest.shortest-pairs-first k (pairsOf P Q) v w m (λ x. out (subst (List·Memᴰ v) (sym given-are) x)) (subst (List·Memᴰ w) given-are n))
+      let asc = pairs-ascend (sheet-facts P p-opens) (sheet-facts Q q-opens) in
+      of-shortest.shorter-before w v (of-shortest.shortest-pairs-first k (pairsOf P Q) start asc v w m (λ x. out (subst (List·Memᴰ v) (sym given-are) x)) (subst (List·Memᴰ w) given-are n))
 
 -- "It depends on the points alone": whatever the forms, the editions and the trees
 pub shortest-by-points : (P P′ Q Q′ : List ℤ) → WellFormed P → WellFormed P′ → WellFormed Q → WellFormed Q′ → (k : ℕ) → 1 ≤ k → k ≤ 16 → pointsOf P ≡ pointsOf P′ → pointsOf Q ≡ pointsOf Q′

@@ -7,7 +7,8 @@ use lib.Dec.{eqb, ltb}
 use lib.ListN.{take}
 use Rattle.list.specs.declared.Pair.{Pair}
 use Rattle.list.specs.Pairs.{follows}
-use Rattle.shortest.specs.Order.{shorter, insert, inOrder, shortestOf}
+use Rattle.sorting.specs.Ranking.{putBy, sortedBy, firstBy}
+use Rattle.shortest.specs.Order.{shorter, shortestOf}
 use Rattle.refuted.proofs.Cases.{to, key}
 
 -- Ties by p id, then q id. "ties by q id and then p id". [H2]
@@ -23,5 +24,5 @@ abbrev firstOnes : ℕ → List Pair → List Pair
 firstOnes k l = take k l
 
 pub first-ones-wrong : (firstOnes 1 (to 5 1 16 ∷ to 6 2 4 ∷ []) ≡ to 5 1 16 ∷ []) × (shortestOf 1 (to 5 1 16 ∷ to 6 2 4 ∷ []) ≡ to 6 2 4 ∷ [])
-unfolding shortestOf inOrder insert shorter follows
+unfolding firstBy sortedBy putBy shorter follows
 first-ones-wrong = (refl, refl)

@@ -1,11 +1,11 @@
 -- "give in order the k pairs with the smallest squared size, ties by q id and then p id, k from 1 to 16, fewer if the list is shorter"
 use mathlib.Core.Path.{_≡_}
-use mathlib.Core.Bool.{Bool, cond, _&&_, _||_}
+use mathlib.Core.Bool.{Bool, _&&_, _||_}
 use mathlib.Core.Logic.{_⊎_}
-use mathlib.Core.List.{List, [], _∷_}
+use mathlib.Core.List.{List}
 use Prim.Native.Nat.{ℕ, _<_}
 use lib.Dec.{eqb, ltb}
-use lib.ListN.{take}
+use Rattle.sorting.specs.Ranking.{firstBy}
 use Rattle.list.specs.declared.Pair.{Pair}
 use Rattle.list.specs.Pairs.{keyOf, follows}
 
@@ -17,16 +17,6 @@ shorter v w = ltb (v .size) (w .size) || (eqb (v .size) (w .size) && follows (ke
 abbrev pub Before : Pair → Pair → Type 0
 Before v w = (v .size < w .size) ⊎ ((v .size ≡ w .size) × ((v .q < w .q) ⊎ ((v .q ≡ w .q) × (v .p < w .p))))
 
--- v put before the first pair that it is shorter than
-unfoldable pub insert : Pair → List Pair → List Pair
-insert v [] = v ∷ []
-insert v (w ∷ l) = cond (shorter v w) (v ∷ (w ∷ l)) (w ∷ insert v l)
-
--- the pairs of a list "in order", the shortest first [H1]
-unfoldable pub inOrder : List Pair → List Pair
-inOrder [] = []
-inOrder (v ∷ l) = insert v (inOrder l)
-
--- "the k pairs with the smallest squared size [..], fewer if the list is shorter" [H1]
-unfoldable pub shortestOf : ℕ → List Pair → List Pair
-shortestOf k l = take k (inOrder l)
+-- "the k pairs with the smallest squared size [..], fewer if the list is shorter", "in order", the shortest first [H1]
+abbrev pub shortestOf : ℕ → List Pair → List Pair
+shortestOf k l = firstBy shorter k l

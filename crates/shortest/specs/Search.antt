@@ -1,18 +1,14 @@
--- The pairs gathered chamber by chamber, as the code has them. No promise of the open call cites this.
-use mathlib.Core.Path.{_≡_}
-use mathlib.Core.Bool.{false}
-use mathlib.Core.List.{List, [], _∷_, _++_, List·Memᴰ}
-use Prim.Native.Nat.{ℕ, suc, _≤_}
-use lib.ListN.{length, take, drop}
+-- The pairs held, as the code has them. No promise of the open call cites this.
+use mathlib.Core.Bool.{cond}
+use mathlib.Core.List.{List, _++_}
+use Prim.Native.Nat.{ℕ, suc, _-_}
+use lib.Dec.{ltb}
+use lib.ListN.{length, take, drop, getD}
+use Rattle.sorting.specs.Ranking.{putBy, sixteen, Held}
 use Rattle.list.specs.declared.Pair.{Pair}
-use Rattle.list.specs.Pages.{padded}
+use Rattle.list.specs.Pairs.{none}
 use Rattle.shortest.specs.declared.Search.{Search}
-use Rattle.shortest.specs.Order.{shorter, insert}
-
--- no pair is shorter than one that stands before it
-unfoldable pub Ordered : List Pair → Type 0
-Ordered [] = Unit
-Ordered (v ∷ l) = ((w : Pair) → List·Memᴰ w l → shorter w v ≡ false) × Ordered l
+use Rattle.shortest.specs.Order.{shorter}
 
 -- the pairs held
 abbrev pub held : Search → List Pair
@@ -20,19 +16,16 @@ held g = take (g .count) (g .pairs)
 
 -- a search that holds these pairs
 abbrev pub searchOf : List Pair → Search
-searchOf s = record { pairs = padded s; count = length s }
+searchOf s = record { pairs = sixteen none s; count = length s }
 
 -- at most k pairs are held, in order, and the unused ones are three zeros
-pub record HeldOrdered (k : ℕ) (g : Search) : Type 0 where
-  pub few : length (held g) ≤ k
-  pub whole : g ≡ searchOf (held g)
-  pub ordered : Ordered (held g)
+abbrev pub HeldOrdered : ℕ → Search → Type 0
+HeldOrdered k g = Held shorter none k (g .pairs) (g .count)
 
 -- a pair put among the first n
 unfoldable pub putAt : ℕ → Pair → Search → Search
-putAt n v g = record { pairs = insert v (take n (g .pairs)) ++ drop (suc n) (g .pairs); count = suc n }
+putAt n v g = record { pairs = putBy shorter v (take n (g .pairs)) ++ drop (suc n) (g .pairs); count = suc n }
 
--- the pairs of l put one after the other among those held, of which the k shortest stay
-unfoldable pub gathered : ℕ → List Pair → List Pair → List Pair
-gathered k [] s = s
-gathered k (v ∷ l) s = gathered k l (take k (insert v s))
+-- no longer pair is among the k: the size of the last where k are held, and the greatest size that is taken where fewer are
+unfoldable pub boundOf : ℕ → Search → ℕ
+boundOf k g = cond (ltb (g .count) k) 8_000_000_000_000_000_000 (getD (g .pairs) (k - 1) none .size)

@@ -9,12 +9,11 @@ ghost use Rattle.bits.specs.Set.{none, Holds};
 ghost use Rattle.sheet.specs.Open.{Opens};
 ghost use Rattle.sheet.specs.Places.{pointsOf};
 ghost use Rattle.list.specs.Rows.{row};
-ghost use Rattle.list.specs.RingList.{pairBy};
-ghost use Rattle.list.specs.Terms.{full, profileFor};
-ghost use Rattle.chamber.specs.Sized.{smallFor};
-ghost use Rattle.shortest.specs.Order.{shorter, insert};
+ghost use Rattle.list.specs.RingList.{ringPair, pairAt};
+ghost use Rattle.sorting.specs.Ranking.{putBy, Sorted, gathered};
+ghost use Rattle.shortest.specs.Order.{shorter};
 ghost use Rattle.shortest.specs.Answer.{shortGiven, shortRefused, shortAnswer, shortBits};
-ghost use Rattle.shortest.specs.Search.{Ordered, held, searchOf, HeldOrdered, putAt, gathered};
+ghost use Rattle.shortest.specs.Search.{held, searchOf, HeldOrdered, putAt, boundOf};
 
 // What the call answers: 0, how many pairs and the pairs, the unused three zeros; or the number of refusal and zeros.
 #[repr(C)]
@@ -40,7 +39,7 @@ fn is_shorter(v: Pair, w: Pair) -> bool
 
 // The pair `v` put in its place among the first n, which move up to make room.
 fn with_pair(g: Search, n: usize, v: Pair) -> Search
-    requires { ⌜ (n < 16) × Ordered (take n (g .pairs)) ⌝ }
+    requires { ⌜ (n < 16) × Sorted shorter (take n (g .pairs)) ⌝ }
     ensures { λ r. ⌜ r ≡ putAt n v g ⌝ }
 {
     let mut r = g;
@@ -62,7 +61,7 @@ fn with_pair(g: Search, n: usize, v: Pair) -> Search
 // The pair `v` among those held, of which the k shortest stay: one that is not shorter than the last of k is dropped at once.
 fn with_one(g: Search, k: usize, v: Pair) -> Search
     requires { ⌜ (1 ≤ k) × (k ≤ 16) × HeldOrdered k g ⌝ }
-    ensures { λ r. ⌜ r ≡ searchOf (take k (insert v (held g))) ⌝ }
+    ensures { λ r. ⌜ r ≡ searchOf (take k (putBy shorter v (held g))) ⌝ }
 {
     let at = g.count;
     if at < k {
@@ -75,7 +74,19 @@ fn with_one(g: Search, k: usize, v: Pair) -> Search
     g
 }
 
-// The pairs of the chamber at position j, kept on the words lent, one after the other.
+// No pair longer than this is among the k: it is the size of the last where k are held, and the greatest size that is taken where fewer are.
+fn bound(g: Search, k: usize) -> u64
+    requires { ⌜ (1 ≤ k) × (k ≤ 16) ⌝ }
+    ensures { λ r. ⌜ r ≡ boundOf k g ⌝ }
+{
+    if g.count < k {
+        return 8_000_000_000_000_000_000;
+    }
+    let last = g.pairs[k - 1];
+    last.size
+}
+
+// The ring pairs of the chamber at position j, one after the other. Those that are longer than the last of k are not looked for.
 fn with_chamber(
     p: &[i32],
     hp: Size,
@@ -87,20 +98,21 @@ fn with_chamber(
     bits: &mut [u64],
 ) -> Search
     requires { ⌜ Opens (now p) (hp .n) (hp .m) × Opens (now q) (hq .n) (hq .m) × Holds (now bits) (hp .n) × (j < hq .n) × (1 ≤ k) × (k ≤ 16) × HeldOrdered k g ⌝ }
-    ensures { λ r. ⌜ r ≡ searchOf (gathered k (row (smallFor 8_000_000_000_000_000_000 full (pointsOf (now (p .entry))) (pointsOf (now (q .entry)))) (pairBy (profileFor full) (pointsOf (now (p .entry))) (pointsOf (now (q .entry)))) j (hp .n) 0) (held g)) ⌝ }
+    ensures { λ r. ⌜ r ≡ searchOf (gathered shorter k (row (ringPair (pointsOf (now (p .entry))) (pointsOf (now (q .entry)))) (pairAt (pointsOf (now (p .entry))) (pointsOf (now (q .entry)))) j (hp .n) 0) (held g)) ⌝ }
 {
     let n = hp.n;
+    let largest = bound(g, k);
     let terms = Terms {
         threshold: 0,
         contractor: 2,
         own: false,
         grid: false,
     };
-    chamber::pairs_of(p, hp, q, hq, terms, 8_000_000_000_000_000_000, j, bits);
+    chamber::pairs_of(p, hp, q, hq, terms, largest, j, bits);
     let mut r = g;
     let mut i = seeds::scan::next_from(bits, 0);
     while i < n {
-        let v = walk::pair::pair_by(p, hp, q, hq, j, i, false);
+        let v = walk::pair::pair_at(p, hp, q, hq, j, i);
         r = with_one(r, k, v);
         i = seeds::scan::next_from(bits, i + 1);
     }

@@ -8,17 +8,15 @@ use borrow.Author.Needs.{needs}
 use Rattle.sheet.specs.Places.{pointsOf}
 use Rattle.bits.specs.Set.{none}
 use Rattle.walk.proofs.FilterCode.{still-holds}
-use Rattle.list.specs.Pages.{padded}
-use Rattle.list.specs.RingList.{pairBy}
-use Rattle.list.specs.Terms.{full, profileFor}
-use Rattle.chamber.specs.Sized.{smallFor}
+use Rattle.list.specs.RingList.{ringPair, pairAt}
+use Rattle.sorting.specs.Ranking.{sixteen}
 use Rattle.shortest.specs.Answer.{shortGiven}
-use Rattle.shortest.proofs.SearchLaws.{Going, shortest-going-start, going-on, all-gathered, whole-list}
+use Rattle.shortest.proofs.SearchLaws.{Going, shortest-going-start, going-on, all-gathered, whole-list, whole-apart}
 use Rattle.shortest.proofs.given.Statement.{statement}
 use Rattle.shortest.proofs.given.Tie as tie
 
 abbrev Inv-loop : tie.InvT-loop
-Inv-loop p hp q hq k bits₀ n g₀ j₀ bits g j = (length bits ≡ length bits₀) × Going (smallFor 8_000_000_000_000_000_000 full (pointsOf p) (pointsOf q)) (pairBy (profileFor full) (pointsOf p) (pointsOf q)) k (hp .n) (hq .n) g j
+Inv-loop p hp q hq k bits₀ n g₀ j₀ bits g j = (length bits ≡ length bits₀) × Going (ringPair (pointsOf p) (pointsOf q)) (pairAt (pointsOf p) (pointsOf q)) k (hp .n) (hq .n) g j
 
 abbrev μ-loop : tie.MeasureT-loop
 μ-loop p hp q hq k bits₀ n g₀ j₀ bits g j = hq .n - j
@@ -27,8 +25,8 @@ abbrev start : tie.At-loop Inv-loop μ-loop → tie.Start Inv-loop μ-loop
 start l = l .before .before
 
 loop-holds : tie.Need-loop-holds Inv-loop μ-loop
-unfolding padded
-loop-holds c = (refl, shortest-going-start _ _ _ _ _)
+unfolding sixteen
+loop-holds c = let p = c .before .pre in (refl, shortest-going-start _ _ _ _ _ (whole-apart _ _ _ _ _ _ (p .0) (p .1)))
 
 with-chamber-requires : tie.Need-with-chamber-requires Inv-loop μ-loop
 with-chamber-requires c κs =

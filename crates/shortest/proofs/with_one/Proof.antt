@@ -2,12 +2,13 @@
 use mathlib.Core.Path.{sym, _∙_}
 use native.Mathlib.Omega.{arith}
 use borrow.Author.Needs.{needs}
+use Rattle.list.specs.Pairs.{none}
 use Rattle.shortest.proofs.SearchLaws.{one-asks, one-put, one-over, one-drop}
 use Rattle.shortest.proofs.with_one.Statement.{statement}
 use Rattle.shortest.proofs.with_one.Tie as tie
 
 with-pair-requires : tie.Need-with-pair-requires
-with-pair-requires c κs = let p = c .before .pre in one-asks _ (p .0) (p .1) _ (p .2) _ (omega arith) (c .if1 .taken)
+with-pair-requires c κs = let p = c .before .pre in one-asks _ (p .0) (p .1) _ (p .2) none _ (omega arith) (c .if1 .taken)
 
 returns : tie.Need-returns
 returns c = let p = c .before .before .pre in one-put _ (p .0) (p .1) _ (p .2) _ (c .before .if1 .taken) _ (c .with-pair .ensures)
@@ -30,7 +31,7 @@ sub-with-pair c = search needs
 with-pair-requires-2 : tie.Need-with-pair-requires-2
 with-pair-requires-2 c κs =
     let p = c .before .before .before .before .pre in
-    one-asks _ (p .0) (p .1) _ (p .2) _ (omega (arith, c .before .before .before .if1 .left)) (omega (arith, p .0))
+    one-asks _ (p .0) (p .1) _ (p .2) none _ (omega (arith, c .before .before .before .if1 .left)) (omega (arith, p .0))
 
 returns-2 : tie.Need-returns-2
 returns-2 c =

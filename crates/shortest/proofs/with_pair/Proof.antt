@@ -1,4 +1,4 @@
--- `shortest::with_pair` meets its contract. The loop's invariant is `Moved`: what is left to do at place i. Assumes nothing.
+-- `shortest::with_pair` meets its contract. The loop's invariant is `Shifted`: what is left to do at place i. Assumes nothing.
 use mathlib.Core.Path.{_≡_, refl, ap, _∙_}
 use mathlib.Core.List.{List}
 use Prim.Native.Nat.{ℕ, suc, _+_, _-_, _<_}
@@ -12,7 +12,9 @@ use borrow.Author.Needs.{needs}
 use Rattle.integers.proofs.Bools.{failed, passed}
 use Rattle.shortest.specs.declared.Search.{Search}
 use Rattle.shortest.specs.Search.{putAt}
-use Rattle.shortest.proofs.PutLaws.{Moved, shortest-moved-start, moved-on, shortest-moved-stop, shortest-moved-end}
+use Rattle.shortest.specs.Order.{shorter}
+use Rattle.sorting.proofs.HeldLaws.{Shifted, shift-start, shift-on, shift-stop, shift-end}
+use Rattle.shortest.proofs.OrderLaws.{shorter-order}
 use Rattle.shortest.proofs.with_pair.Statement.{statement}
 use Rattle.shortest.proofs.with_pair.Tie as tie
 
@@ -21,7 +23,7 @@ with-rest : (r : Search) (n : ℕ) → r ≡ record { pairs = r .pairs; count = 
 with-rest r n e A B p = ap (λ (x : Search). record { pairs = A; count = x .count }) e ∙ (λ t. record { pairs = p t; count = add-one n t })
 
 abbrev Inv-loop : tie.InvT-loop
-Inv-loop n v r₀ i₀ r i = Moved v (r₀ .pairs) n (r .pairs) i × _≡_ {A = Search} r (record { pairs = r .pairs; count = r₀ .count })
+Inv-loop n v r₀ i₀ r i = Shifted shorter none v (r₀ .pairs) n (r .pairs) i × _≡_ {A = Search} r (record { pairs = r .pairs; count = r₀ .count })
 
 abbrev μ-loop : tie.MeasureT-loop
 μ-loop n v r₀ i₀ r i = i
@@ -33,7 +35,7 @@ add-r : tie.Need-add-r Inv-loop μ-loop
 add-r c = search needs
 
 loop-holds : tie.Need-loop-holds Inv-loop μ-loop
-loop-holds c = (shortest-moved-start _ _ _, refl)
+loop-holds c = (shift-start shorter none _ _ _, refl)
 
 sub-w : tie.Need-sub-w Inv-loop μ-loop
 sub-w c = search needs
@@ -59,7 +61,7 @@ returns c =
     let l = c .before .before .before .before in
     let a = l .before .args in
     let inside : l .loop .i < length (a .g .pairs) = omega (arith, long (l .before), l .loop .inv .0 .upto, l .before .pre .0) in
-    let put = shortest-moved-stop (a .v) (a .g .pairs) (a .n) (l .loop .r .pairs) (l .loop .i) (l .loop .i - 1) (omega arith) (l .loop .inv .0) _ refl inside (l .before .pre .1) (failed (c .before .is-shorter .ensures) (c .if1 .taken)) in
+    let put = shift-stop shorter none (a .v) (a .g .pairs) (a .n) (l .loop .r .pairs) (l .loop .i) (l .loop .i - 1) (omega arith) (l .loop .inv .0) _ refl inside shorter-order (l .before .pre .1) (failed (c .before .is-shorter .ensures) (c .if1 .taken)) in
     with-rest (l .loop .r) (a .n) (l .loop .inv .1) _ _ put
 
 mul-w-2 : tie.Need-mul-w-2 Inv-loop μ-loop
@@ -79,7 +81,7 @@ loop-again c =
     let l = c .before .before .before .before in
     let a = l .before .args in
     let inside : l .loop .i < length (a .g .pairs) = omega (arith, long (l .before), l .loop .inv .0 .upto, l .before .pre .0) in (
-      moved-on (a .v) (a .g .pairs) (a .n) (l .loop .r .pairs) (l .loop .i) (l .loop .i - 1) (omega arith) (l .loop .inv .0) _ refl inside (passed (c .before .is-shorter .ensures) (c .if1 .left)),
+      shift-on shorter none (a .v) (a .g .pairs) (a .n) (l .loop .r .pairs) (l .loop .i) (l .loop .i - 1) (omega arith) (l .loop .inv .0) _ refl inside (passed (c .before .is-shorter .ensures) (c .if1 .left)),
       ap (λ (g : Search). record { pairs = set (l .loop .r .pairs) (l .loop .i) (getD (l .loop .r .pairs) (l .loop .i - 1) none); count = g .count }) (l .loop .inv .1),
     )
 
@@ -91,7 +93,7 @@ unfolding putAt
 returns-2 c =
     let l = c .before in
     let a = l .before .args in
-    let put = shortest-moved-end (a .v) (a .g .pairs) (a .n) (l .loop .r .pairs) (l .loop .i) (omega arith) (l .loop .inv .0) (omega (arith, long (l .before))) in
+    let put = shift-end shorter none (a .v) (a .g .pairs) (a .n) (l .loop .r .pairs) (l .loop .i) (omega arith) (l .loop .inv .0) (omega (arith, long (l .before))) in
     with-rest (l .loop .r) (a .n) (l .loop .inv .1) _ _ put
 
 pub with-pair-spec : {M : Type 1} → statement M
