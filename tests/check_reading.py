@@ -251,53 +251,6 @@ def first_of(rows, k, values, place):
     assert all(one < other for one, other in zip(places, places[1:])) and (not places or all(places[-1] < other for other in left))
 
 
-def busiest(rules, *given):
-    return rules.busiest_call(*given)
-
-
-def busiest_pumps(rules, *given):
-    return rules.busiest_pumps_call(*given)
-
-
-def urgent(rules, *given):
-    return rules.urgent_call(*given)
-
-
-def ranked():
-    """Requests for the busiest and the most urgent: cases for the wrong readings of them. Each number with some that come after it; k, sizes and scores at their ends;
-    sheets of which one needs a word more than the other."""
-    rng, asked, some = Chance("ranked"), [], reading.SCORE
-    for k in range(60):
-        places, grid = towns.PLACES[k % len(towns.PLACES)], k % 2 > 0
-        sizes = (rng.randint(65, 70), rng.randint(0, 6)) if k % 10 == 8 else (rng.randint(0, 6), rng.randint(65, 70)) if k % 10 == 9 else (rng.randint(1, 24), rng.randint(1, 24))
-        p_words, q_words = [towns.sheet(rng, places, n, 5)[1] for n in sizes]
-        p, q = reading.Sheet(p_words), reading.Sheet(q_words)
-        grid = grid and 2 not in (p.form, q.form)
-        whole = reading.ring_list(p.points, q.points, grid)
-        owners = tuple(rng.randint(0, 1) for _ in range(q.n))
-        for _ in range(6):
-            contractor, rows, largest = rng.randint(0, 2), rng.choice([1, 2, 3, 16]), rng.choice([reading.ANY_SIZE, 0] + [pair[2] for pair in whole[:3]])
-            whose = owners if contractor < 2 else ()
-            of_p, of_q = ([rng.choice([0, 1, 2, some]) if rng.random() < 0.8 else some for _ in range(sheet.n)] for sheet in (p, q))
-            words = [7, 8, 9]
-            asked += [(busiest, p_words, q_words, rows, largest, whole, words, grid, contractor, whose), (busiest_pumps, p_words, q_words, rows, largest, whole, words, grid),
-                      (urgent, p_words, q_words, of_p, of_q, rows, largest, whole, words, grid, contractor, whose)]
-            # of what may be wrong some is; a sheet's form is said to be 2, so that the street grid is refused
-            rows, largest = rng.choice([rows, rows, 0, 17]), rng.choice([largest, largest, reading.ANY_SIZE + 1])
-            contractor, whose = rng.choice([(contractor, whose)] * 4 + [(3, ()), (3, owners), (2, owners), (0, owners + (0,)), (1, owners[1:]), (1, (2,) * q.n)])
-            of_p, of_q = (rng.choice([scores] * 4 + [scores[1:], scores + [0], scores[:-1] + [some + 1], [some + 1] + scores[1:]]) for scores in (of_p, of_q))
-            words, wide = rng.choice([words, [7], []]), rng.random() < 0.3
-            p_bad, q_bad = ((sheet[:-1] + [2] if wide and rng.random() < 0.7 else sheet) for sheet in (p_words, q_words))
-            if rng.random() < 0.1:
-                q_bad = q_bad[:-1] + [3]
-            by = grid or wide
-            asked += [(busiest, p_bad, q_bad, rows, largest, None, words, by, contractor, whose), (busiest_pumps, p_bad, q_bad, rows, largest, None, words, by),
-                      (urgent, p_bad, q_bad, of_p, of_q, rows, largest, None, words, by, contractor, whose)]
-    lines = [ask(reading, *given) for ask, *given in asked]
-    assert {0, 2, 27, 26, 29, 10, 40, 41, 42, 24} == {line[0] for line in lines}
-    return types.SimpleNamespace(name="the busiest", asked=asked, lines=lines)
-
-
 def followed_pages(rng, page_from):
     found, end = [], False
     while not end:
@@ -363,9 +316,11 @@ def handed_many(rules, p, q, pairs, contractor, owners, key, size, t, grid):
 
 
 def handed_ranked(rules, p, q, pairs, contractor, owners, key, size, t, grid):
-    """What a contractor is handed for a request for the busiest chambers, and for the most urgent visits, where scores go by places."""
+    """What a contractor is handed for a request for the busiest chambers, and for the most urgent visits, where scores go by places, those of the other's chambers by
+    ids."""
     largest = reading.ANY_SIZE if size == 16 else 5 * size
     scores = [[abs(7 * point[1] + point[2]) % 4 for point in reading.Sheet(words).points] for words in (p, q)]
+    scores[1] = [score if owner == contractor else point[0] % 4 for score, owner, point in zip(scores[1], owners, reading.Sheet(q).points)]
     return (rules.busiest_call(p, q, size, largest, pairs, [7, 7], grid, contractor, owners),
             rules.urgent_call(p, q, *scores, size, largest, pairs, [7, 7], grid, contractor, owners))
 
@@ -404,6 +359,8 @@ def contractors_are_blind():
     assert unlike(reading, handed_ranked) is None, unlike(reading, handed_ranked)
     for old, new in wrong_readings.UNBLIND_MANY:
         assert unlike(wrong_readings.misread(old, new), handed_many), "the blind check of many pairs lets through the reading `%s`" % new
+    for old, new in wrong_readings.UNBLIND_RANKED:
+        assert unlike(wrong_readings.misread(old, new), handed_ranked), "the blind check of the busiest and the most urgent lets through the reading `%s`" % new
 
 
 def streets_turned(rng):
@@ -566,7 +523,6 @@ def main():
     many_examples()
     ranked_examples()
     contractors_are_blind()
-    assert not wrong_readings.untold(ranked()), "no case tells the reading `%s`" % wrong_readings.untold(ranked())[0]
     book()
     one_corner_is_enough(Chance("corners"))
     streets_turned(Chance("streets"))

@@ -8,6 +8,7 @@ import make_examples
 import make_many
 import make_near
 import make_pages
+import make_ranked
 import make_runs
 import make_sheets
 import make_shortest
@@ -15,7 +16,7 @@ import make_views
 import make_walks
 from stored import Cases
 
-GENERATORS = [make_examples, make_sheets, make_walks, make_pages, make_contractors, make_runs, make_shortest, make_near, make_views, make_many]
+GENERATORS = [make_examples, make_sheets, make_walks, make_pages, make_contractors, make_runs, make_shortest, make_near, make_views, make_many, make_ranked]
 
 
 def joined(parts):

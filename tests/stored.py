@@ -12,11 +12,13 @@ TOP = os.path.join(os.path.dirname(os.path.abspath(__file__)), "..")
 RULES, OPEN, POINT, PACK, WALKS = range(1, 6)
 PAGES, PARTNERS, OWN, RUNS, SHORTEST, NEAR, VIEWS, MARK = range(7, 15)
 MANY, OWN_MANY, COUNT, OWN_COUNT = range(15, 19)
+BUSIEST, PUMPS, URGENT = range(19, 22)
 
 # of the kinds that are asked of two sheets: the words of a request, of which the first says how many words for kept bits are lent
-WIDTH = {PAGES: 6, PARTNERS: 3, OWN: 5, RUNS: 3, SHORTEST: 2, NEAR: 5, VIEWS: 10, MANY: 9, OWN_MANY: 8, COUNT: 6, OWN_COUNT: 5}
+WIDTH = {PAGES: 6, PARTNERS: 3, OWN: 5, RUNS: 3, SHORTEST: 2, NEAR: 5, VIEWS: 10, MANY: 9, OWN_MANY: 8, COUNT: 6, OWN_COUNT: 5,
+         BUSIEST: 6, PUMPS: 6, URGENT: 6}
 # those that end with a contractor and its owner bytes
-OWNED = (PAGES, MANY, COUNT)
+OWNED = (PAGES, MANY, COUNT, BUSIEST, URGENT)
 # of the views: the call that is a page request
 VIEW_PAGE = 6
 
@@ -30,7 +32,10 @@ def request_end(kind, words, at):
     """Where the request ends that begins there."""
     end = at + WIDTH[kind]
     if kind in OWNED or kind == VIEWS and words[at + 1] == VIEW_PAGE:
-        return end + 2 + words[end + 1]
+        end += 2 + words[end + 1]
+    # the scores of P, and those of Q
+    for _ in range(2 if kind == URGENT else 0):
+        end += 1 + words[end]
     return end
 
 # How many words for kept bits the program has, of which some are lent; what number k of those that can be lent holds before a call.

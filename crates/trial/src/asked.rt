@@ -49,6 +49,19 @@ fn many_answered(kind: usize, p: &[i32], q: &[i32], bits: &mut [u64]) {
         crate::lists::count_case(p, q, bits);
     } else if kind == 18 {
         crate::lists::own_count_case(p, bits);
+    } else {
+        ranked_answered(kind, p, q, bits);
+    }
+}
+
+// Of the first rows of a list in an order.
+fn ranked_answered(kind: usize, p: &[i32], q: &[i32], bits: &mut [u64]) {
+    if kind == 19 {
+        crate::ranks::busiest_case(p, q, bits);
+    } else if kind == 20 {
+        crate::ranks::pumps_case(p, q, bits);
+    } else if kind == 21 {
+        crate::ranks::urgent_case(p, q, bits);
     }
 }
 

@@ -8,6 +8,7 @@ mod marks;
 mod near;
 mod pages;
 mod places;
+mod ranks;
 mod say;
 mod sheets;
 mod tape;

@@ -116,6 +116,17 @@ pub fn fill_bytes(out: &mut [u8], n: usize)
     }
 }
 
+// The next n words go to the first n places of `out`, as numbers of 32 bits.
+pub fn fill_numbers(out: &mut [u32], n: usize)
+    requires { ⌜ n ≤ length (now out) ⌝ }
+{
+    let mut i = 0;
+    while i < n {
+        out[i] = next_id();
+        i += 1;
+    }
+}
+
 // The next n words go to the first n places of `out`. The others stay as they were.
 pub fn fill(out: &mut [i32], n: usize)
     requires { ⌜ n ≤ length (now out) ⌝ }
