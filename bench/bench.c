@@ -1,6 +1,7 @@
 /* The proved calls and their plain C twins, on the same sheets in one process. Prints a line for each measure: its name, what was measured on, how long each
    took in nanoseconds (the best of several runs), and whether their answers agree. With `streets` only the list of the street grid is measured, against the
-   circle's on the same sheets; with another argument each call is done once: the answers are compared, and the times say nothing. */
+   circle's on the same sheets; with `answers` each call is done once: the answers are compared, and the times say nothing. For a count of instructions, `count
+   WORK KIND N` packs two sheets and does a work once: `open` or `list` by the proved calls, `twin-open` or `twin-list` by the twins, or nothing. */
 #include "../include/ring.h"
 #include "../tests/c/province.h"
 #include "twins.h"
@@ -9,6 +10,8 @@ typedef struct { long sec, nsec; } moment;
 int clock_gettime(int clock, moment *at);
 int printf(const char *format, ...);
 void *malloc(unsigned long size);
+int atoi(const char *text);
+int strcmp(const char *a, const char *b);
 
 #define MOST 1000
 #define ROOM (5 * MOST + 7 * 400 + 6)
@@ -208,9 +211,18 @@ static void running(const char *kind, int n, const packed *p, const packed *q, u
 
 typedef void (*maker)(int);
 
+/* one side's work, alone */
+static void work(const char *name, const packed *p, const packed *q)
+{
+    if (!strcmp(name, "open")) ring_open(p->words, p->len);
+    if (!strcmp(name, "list")) list_proved(p, q, 16, 0);
+    if (!strcmp(name, "twin-open")) twin_open(p->words, p->len);
+    if (!strcmp(name, "twin-list")) list_twin(p, q, 16);
+}
+
 int main(int count, char **arguments)
 {
-    int only = count > 1 && arguments[1][0] == 's';
+    int only = count > 1 && !strcmp(arguments[1], "streets"), counts = count > 4 && !strcmp(arguments[1], "count");
     once = count > 1 && !only;
     static const char *kinds[] = {"uniform", "clustered", "grid", "wide"};
     static const maker makers[] = {uniform, clustered, grid, wide};
@@ -220,12 +232,15 @@ int main(int count, char **arguments)
     for (int k = 0; k < 4; k++)
         for (int s = 0; s < 3; s++) {
             int n = sizes[s];
+            if (counts && (strcmp(arguments[3], kinds[k]) || atoi(arguments[4]) != n)) continue;
             for (int side = 0; side < 2; side++) {
                 makers[k](n);
                 for (int i = 0; i < n; i++) points[3 * i] = 10 * i + 1 + side;
                 province_tile(points, order, (size_t)n);
                 packing(side ? "packing-q" : "packing-p", kinds[k], n, side ? &q : &p, forms[k], 7 + 2 * (unsigned)side);
             }
+            if (counts) work(arguments[2], &p, &q);
+            if (counts) continue;
             if ((only || once) && forms[k] == 1) streets(kinds[k], n, &p, &q);
             if (only) continue;
             opening(kinds[k], n, &p);

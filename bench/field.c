@@ -4,7 +4,7 @@
 
      field [SIZE [KIND [ORDER]]]        what is left out, or 0 or -, is each of them
      field worst                        the worst cases alone
-     field once SIDE SIZE KIND ORDER    that side alone, once: for a count of instructions */
+     field once SIDE SIZE KIND ORDER    that side alone, once, or none: for a count of instructions */
 #include "../include/ring.h"
 #include "seeded.h"
 #include "twins.h"
@@ -215,7 +215,7 @@ static long best(size_t (*side)(void), int runs, size_t *count)
 
 static void measure(const char *name, const char *order, size_t n)
 {
-    int runs = n <= 1000 ? 9 : n <= 16000 ? 3 : 2, agree = 1;
+    int runs = n <= 1000 ? 9 : !strcmp(order, "random") ? 1 : 3, agree = 1;
     size_t pairs, count, seeded;
     long took = best(by_pairs, runs, &pairs);
     RingPair *made = had; had = want, want = made;
@@ -339,8 +339,8 @@ int main(int count, char **words)
             for (int o = 0; o < 2; o++) {
                 size_t n = sizes[s];
                 if ((size && size != n) || !asked(kind, kinds[k]) || !asked(order, orders[o])) continue;
-                /* in random order the large lists take minutes, and say nothing more */
-                if (n > 16000 && o && !size) continue;
+                /* in random order the largest lists take minutes, and say nothing more: only where they are asked for */
+                if (n > 16000 && o && !strcmp(order, "-")) continue;
                 make(n, k, o);
                 if (!once) measure(kinds[k], orders[o], n);
                 else if (!strcmp(words[2], "pairs")) by_pairs();

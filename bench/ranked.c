@@ -1,5 +1,5 @@
 /* The busiest chambers and pump houses and the most urgent visits against the whole list by ring_pairs, on the same sheets in one process. A line for each measure:
-   what, n, how many pairs, nanoseconds of the call and of the list (the best of several runs), and whether the answer is what the list says. */
+   what, of which points, n, how many pairs, nanoseconds of the call and of the list (the best of several runs), and whether the answer is what the list says. */
 #include "../include/ring.h"
 #include "../tests/c/province.h"
 
@@ -29,11 +29,25 @@ static size_t position(int side, size_t n, uint32_t id)
     return a;
 }
 
-static void made(size_t n)
+/* towns of 25 and nothing else, the towns of one sheet apart from those of the other */
+static void towns(int32_t *a, size_t n, uint64_t seed)
+{
+    uint64_t state = 88172645463325252ull ^ seed * 0x9e3779b97f4a7c15ull, across = 1;
+    while (across * across < n) across++;
+    int32_t x = 0, y = 0, reach = (int32_t)(PROVINCE_EDGE / 50 / across * 32);
+    for (size_t i = 0; i < n; i++, a += 3) {
+        if (i % 25 == 0) x = province_near(&state, 0, PROVINCE_EDGE / 10 * 9), y = province_near(&state, 0, PROVINCE_EDGE / 10 * 9);
+        a[0] = (int32_t)(2 * i + seed % 2 + 1), a[1] = province_near(&state, x, reach), a[2] = province_near(&state, y, reach);
+    }
+}
+
+static const char *kinds[] = {"province", "clustered"};
+
+static void made(int kind, size_t n)
 {
     uint64_t state = 977;
     for (int side = 0; side < 2; side++) {
-        province_points(points[side], n, 11 + (uint64_t)side);
+        (kind ? towns : province_points)(points[side], n, 11 + (uint64_t)side);
         province_tile(points[side], order, n);
         length[side] = ring_sheet_len(n);
         ring_pack(2, n, points[side], 3 * n, order, n, 5, sheets[side], length[side]);
@@ -78,9 +92,9 @@ int main(void)
     RingPair *list = malloc(SLOTS * sizeof(RingPair));
     size_t sizes[] = {1000, MOST};
     bool fine = true;
-    for (int z = 0; z < 2; z++) {
-        size_t n = sizes[z], words = RING_WORDS(n), runs = n > 1000 ? 2 : 9;
-        made(n);
+    for (int z = 0; z < 4; z++) {
+        size_t n = sizes[z % 2], words = RING_WORDS(n), runs = n > 1000 ? 3 : 9;
+        made(z / 2, n);
         RingWanted wanted = {{0, 0}, ALL, 0, 2, false};
         RingAsked asked = {16, ALL, 2, false};
         long best[4] = {1l << 60, 1l << 60, 1l << 60, 1l << 60};
@@ -105,7 +119,7 @@ int main(void)
         const char *names[] = {"busiest", "busiest-pumps", "urgent"};
         for (int i = 0; i < 3; i++) {
             bool agree = right[i] && !all.number && !all.more;
-            printf("%s %lu %lu %ld %ld %s\n", names[i], (unsigned long)n, (unsigned long)all.count, best[i + 1], best[0], agree ? "agree" : "differ");
+            printf("%s %s %lu %lu %ld %ld %s\n", names[i], kinds[z / 2], (unsigned long)n, (unsigned long)all.count, best[i + 1], best[0], agree ? "agree" : "differ");
             fine = fine && agree;
         }
     }

@@ -12,22 +12,27 @@ static int within(i64 v, i64 lo, i64 hi) { return lo <= v && v <= hi; }
 /* the most points and nodes, and the farthest coordinate, of each form */
 static const struct { i64 points, nodes, reach; } limits[3] = {{0, 0, 0}, {1000, 400, 1000000}, {60000, 24000, 1000000000}};
 
+/* These two go through all the words, and look at the end whether one was wrong: a sheet that opens has to be gone through anyway. */
 static int points_ok(const twin_word *w, twin_size n, i64 reach)
 {
+    unsigned edge = (unsigned)reach, wrong = 0;
+    twin_word before = 0;
     for (twin_size i = 0; i < n; i++) {
         const twin_word *p = w + 3 * i;
-        if (!within(p[0], 1, 2000000000) || !within(p[1], -reach, reach) || !within(p[2], -reach, reach)) return 0;
-        if (i && p[-3] >= p[0]) return 0;
+        wrong |= (p[0] <= before) | (p[0] > 2000000000) | ((unsigned)p[1] + edge > 2 * edge) | ((unsigned)p[2] + edge > 2 * edge);
+        before = p[0];
     }
-    return 1;
+    return !wrong;
 }
 
 static int order_ok(const twin_word *w, twin_size n)
 {
     const twin_word *order = w + 3 * n, *rank = w + 4 * n;
-    for (twin_size i = 0; i < n; i++)
-        if (order[i] < 0 || (twin_size)order[i] >= n || rank[i] < 0 || (twin_size)rank[i] >= n || order[rank[i]] != (twin_word)i) return 0;
-    return 1;
+    unsigned most = (unsigned)n, wrong = 0;
+    for (twin_size i = 0; i < n; i++) wrong |= ((unsigned)order[i] >= most) | ((unsigned)rank[i] >= most);
+    if (wrong) return 0;
+    for (twin_size i = 0; i < n; i++) wrong |= order[rank[i]] != (twin_word)i;
+    return !wrong;
 }
 
 static int nodes_ok(const twin_word *w, twin_size n, twin_size m)
@@ -48,24 +53,41 @@ static int nodes_ok(const twin_word *w, twin_size n, twin_size m)
     return 1;
 }
 
+typedef struct { twin_word xmin, ymin, xmax, ymax; } sides;
+
+static twin_word least(twin_word a, twin_word b) { return b < a ? b : a; }
+static twin_word greatest(twin_word a, twin_word b) { return b > a ? b : a; }
+
+/* the box around the points whose positions stand in so many words of an order */
+static sides around_points(const twin_word *points, const twin_word *order, twin_size count)
+{
+    const twin_word *p = points + 3 * order[0];
+    sides o = {p[1], p[2], p[1], p[2]};
+    for (twin_size k = 1; k < count; k++) {
+        p = points + 3 * order[k];
+        o.xmin = least(o.xmin, p[1]), o.ymin = least(o.ymin, p[2]), o.xmax = greatest(o.xmax, p[1]), o.ymax = greatest(o.ymax, p[2]);
+    }
+    return o;
+}
+
+/* the box around so many nodes' boxes */
+static sides around_nodes(const twin_word *a, twin_size count)
+{
+    sides o = {a[3], a[4], a[5], a[6]};
+    for (twin_size k = 1; k < count; k++) {
+        a += 7;
+        o.xmin = least(o.xmin, a[3]), o.ymin = least(o.ymin, a[4]), o.xmax = greatest(o.xmax, a[5]), o.ymax = greatest(o.ymax, a[6]);
+    }
+    return o;
+}
+
 static int boxes_ok(const twin_word *w, twin_size n, twin_size m)
 {
     const twin_word *order = w + 3 * n, *t = w + 5 * n;
     for (twin_size j = 0; j < m; j++) {
         const twin_word *a = t + 7 * j;
-        twin_word box[4];
-        for (twin_word k = a[1]; k < a[1] + a[2]; k++) {
-            twin_word part[4];
-            if (a[0] == 0) {
-                const twin_word *p = w + 3 * order[k];
-                part[0] = part[2] = p[1]; part[1] = part[3] = p[2];
-            } else {
-                for (int s = 0; s < 4; s++) part[s] = t[7 * k + 3 + s];
-            }
-            for (int s = 0; s < 4; s++)
-                if (k == a[1] || (s < 2 ? part[s] < box[s] : part[s] > box[s])) box[s] = part[s];
-        }
-        for (int s = 0; s < 4; s++) if (box[s] != a[3 + s]) return 0;
+        sides o = a[0] ? around_nodes(t + 7 * a[1], (twin_size)a[2]) : around_points(w, order + a[1], (twin_size)a[2]);
+        if ((o.xmin != a[3]) | (o.ymin != a[4]) | (o.xmax != a[5]) | (o.ymax != a[6])) return 0;
     }
     return 1;
 }
@@ -108,19 +130,8 @@ static unsigned pack_by(unsigned form, twin_size n, const twin_word *points, con
         twin_size count = next + 16 < top ? 16 : top - next;
         twin_word *a = t + 7 * j;
         a[0] = (twin_word)level; a[1] = (twin_word)next; a[2] = (twin_word)count;
-        twin_word box[4];
-        for (twin_size k = next; k < next + count; k++) {
-            twin_word part[4];
-            if (level == 0) {
-                const twin_word *p = points + 3 * order[k];
-                part[0] = part[2] = p[1]; part[1] = part[3] = p[2];
-            } else {
-                for (int s = 0; s < 4; s++) part[s] = t[7 * k + 3 + s];
-            }
-            for (int s = 0; s < 4; s++)
-                if (k == next || (s < 2 ? part[s] < box[s] : part[s] > box[s])) box[s] = part[s];
-        }
-        for (int s = 0; s < 4; s++) a[3 + s] = box[s];
+        sides o = level ? around_nodes(t + 7 * next, count) : around_points(points, order + next, count);
+        a[3] = o.xmin; a[4] = o.ymin; a[5] = o.xmax; a[6] = o.ymax;
         next += count;
         if (next == top) { level++; next = head; head = j + 1; top = j + 1; }
     }
@@ -156,41 +167,48 @@ static int blocks(spot a, spot b, spot z) { i64 d = dot(a, b, z); return d < 0 |
 static twin_size words_for(twin_size n) { return (n + 63) / 64; }
 static void wipe(u64 *bits, twin_size words) { for (twin_size w = 0; w < words; w++) bits[w] = 0; }
 
-/* The kept set on lent words, and beside it the positions in the order in which they were kept; where count is more than 256 the list does not have them all. */
-typedef struct { u64 *bits; twin_size words; u64 opened; twin_size last, count, latest[256]; } kept;
+typedef struct { i64 xmin, ymin, xmax, ymax; } boxed;
 
-static int drops_box(spot q, spot p, const twin_word *o)
+static boxed box_of(const twin_word *a) { boxed o = {a[3], a[4], a[5], a[6]}; return o; }
+
+/* Whether a record at p drops the box o, or the place z, for q. These two tests stand in the innermost loops, each in its own. */
+static int drops_box(spot q, spot p, boxed o)
 {
-    spot c = {p.x < q.x ? o[2] : o[0], p.y < q.y ? o[3] : o[1]};
+    spot c = {p.x < q.x ? o.xmax : o.xmin, p.y < q.y ? o.ymax : o.ymin};
     i64 d = dot(q, c, p);
     if (d) return d < 0;
-    return !same(p, q) && !(o[0] <= p.x && p.x <= o[2] && o[1] <= p.y && p.y <= o[3]);
+    return !same(p, q) && !(o.xmin <= p.x && p.x <= o.xmax && o.ymin <= p.y && p.y <= o.ymax);
 }
 
-/* Whether a kept point drops the box (or the point z where o is null): the one that dropped last is tried first, then the others from the latest kept to the first. */
-static int dropped(const sheet *s, spot q, kept *k, const twin_word *o, spot z)
-{
-    if (k->last < s->n) {
-        spot p = spot_at(s, k->last);
-        if (o ? drops_box(q, p, o) : blocks(q, z, p)) return 1;
+static int drops_place(spot q, spot p, spot z) { return blocks(q, z, p); }
+
+/* The kept set on lent words, and beside it the positions in the order in which they were kept; where count is more than 256 the list does not have them all.
+   Nothing of the list is set beforehand. */
+typedef struct { u64 *bits; twin_size words; u64 opened; twin_size last, count, latest[256]; } kept;
+
+/* Whether a kept point drops what is tried: the one that dropped last is tried first, then the others from the latest kept to the first. A function for boxes, and
+   one for places. */
+#define DROPPED(name, tried, drops) \
+    static inline __attribute__((always_inline)) int name(const sheet *s, spot q, kept *k, tried z) \
+    { \
+        if (k->last < s->n && drops(q, spot_at(s, k->last), z)) return 1; \
+        if (k->count <= 256) { \
+            for (twin_size c = k->count; c > 0;) { \
+                twin_size i = k->latest[--c]; \
+                if (drops(q, spot_at(s, i), z)) { k->last = i; return 1; } \
+            } \
+            return 0; \
+        } \
+        for (twin_size w = 0; w < k->words; w++) { \
+            for (u64 b = k->bits[w]; b; b &= b - 1) { \
+                twin_size i = 64 * w + (twin_size)__builtin_ctzll(b); \
+                if (drops(q, spot_at(s, i), z)) { k->last = i; return 1; } \
+            } \
+        } \
+        return 0; \
     }
-    if (k->count <= 256) {
-        for (twin_size c = k->count; c > 0;) {
-            twin_size i = k->latest[--c];
-            spot p = spot_at(s, i);
-            if (o ? drops_box(q, p, o) : blocks(q, z, p)) { k->last = i; return 1; }
-        }
-        return 0;
-    }
-    for (twin_size w = 0; w < k->words; w++) {
-        for (u64 b = k->bits[w]; b; b &= b - 1) {
-            twin_size i = 64 * w + (twin_size)__builtin_ctzll(b);
-            spot p = spot_at(s, i);
-            if (o ? drops_box(q, p, o) : blocks(q, z, p)) { k->last = i; return 1; }
-        }
-    }
-    return 0;
-}
+DROPPED(dropped_box, boxed, drops_box)
+DROPPED(dropped_place, spot, drops_place)
 
 static void keep(kept *k, twin_size i)
 {
@@ -202,37 +220,51 @@ static void keep(kept *k, twin_size i)
 static void filter_node(const sheet *s, spot q, twin_size j, kept *k)
 {
     const twin_word *a = s->w + 5 * s->n + 7 * j;
-    spot none = {0, 0};
-    if (dropped(s, q, k, a + 3, none)) return;
+    if (dropped_box(s, q, k, box_of(a))) return;
     k->opened++;
-    for (twin_word c = a[1]; c < a[1] + a[2]; c++) {
-        if (a[0]) { filter_node(s, q, (twin_size)c, k); continue; }
-        twin_size i = (twin_size)s->w[3 * s->n + (twin_size)c];
-        if (!dropped(s, q, k, 0, spot_at(s, i))) keep(k, i);
+    twin_size first = (twin_size)a[1], end = first + (twin_size)a[2];
+    if (a[0]) {
+        for (twin_size c = first; c < end; c++) filter_node(s, q, c, k);
+        return;
+    }
+    for (twin_size c = first; c < end; c++) {
+        twin_size i = (twin_size)s->w[3 * s->n + c];
+        if (!dropped_place(s, q, k, spot_at(s, i))) keep(k, i);
     }
 }
 
 static u64 out_of(i64 lo, i64 hi, i64 c) { i64 d = c < lo ? lo - c : c > hi ? c - hi : 0; return (u64)d * (u64)d; }
 
+/* a pair's circle: its ends, its squared diameter */
+typedef struct { spot a, b; u64 d; } circle;
+
 /* 1 where something blocks */
-static int ring_node(const sheet *s, spot a, spot b, twin_size j, u64 *opened)
+static int ring_node(const sheet *s, const circle *r, twin_size j, u64 *opened)
 {
-    const twin_word *t = s->w + 5 * s->n + 7 * j, *o = t + 3;
-    u64 d = (u64)dot(a, a, b), dx = out_of(2 * (i64)o[0], 2 * (i64)o[2], a.x + b.x);
-    if (dx > d || out_of(2 * (i64)o[1], 2 * (i64)o[3], a.y + b.y) > d - dx) return 0;
-    spot ll = {o[0], o[1]}, lh = {o[0], o[3]}, hl = {o[2], o[1]}, hh = {o[2], o[3]};
+    const twin_word *t = s->w + 5 * s->n + 7 * j;
+    spot a = r->a, b = r->b;
+    boxed o = box_of(t);
+    u64 dx = out_of(2 * o.xmin, 2 * o.xmax, a.x + b.x);
+    if (dx > r->d || out_of(2 * o.ymin, 2 * o.ymax, a.y + b.y) > r->d - dx) return 0;
+    spot ll = {o.xmin, o.ymin}, lh = {o.xmin, o.ymax}, hl = {o.xmax, o.ymin}, hh = {o.xmax, o.ymax};
     int i0 = dot(a, b, ll) < 0, i1 = dot(a, b, lh) < 0, i2 = dot(a, b, hl) < 0, i3 = dot(a, b, hh) < 0;
     if ((i0 & i1) | (i0 & i2) | (i2 & i3) | (i1 & i3)) return 1;
     (*opened)++;
-    for (twin_word c = t[1]; c < t[1] + t[2]; c++) {
-        if (t[0]) {
-            if (ring_node(s, a, b, (twin_size)c, opened)) return 1;
-            continue;
-        }
-        twin_size i = (twin_size)s->w[3 * s->n + (twin_size)c];
-        if (blocks(a, b, spot_at(s, i))) return 1;
+    twin_size first = (twin_size)t[1], end = first + (twin_size)t[2];
+    if (t[0]) {
+        for (twin_size c = first; c < end; c++) if (ring_node(s, r, c, opened)) return 1;
+        return 0;
     }
+    for (twin_size c = first; c < end; c++)
+        if (blocks(a, b, spot_at(s, (twin_size)s->w[3 * s->n + c]))) return 1;
     return 0;
+}
+
+/* whether something of Q, then of P, blocks the pair of a and z */
+static int blocked(const sheet *p, const sheet *q, spot a, spot z, u64 *opened)
+{
+    circle r = {a, z, (u64)dot(a, a, z)};
+    return ring_node(q, &r, q->m - 1, opened) || ring_node(p, &r, p->m - 1, opened);
 }
 
 static sheet sheet_of(const twin_word *w, twin_size len)
@@ -248,7 +280,8 @@ static void page_on(const sheet *p, const sheet *q, twin_key key, twin_size size
         unsigned qid = (unsigned)q->w[3 * j];
         if (qid < key.q) continue;
         spot a = spot_at(q, j);
-        kept k = {bits, words, 0, ~0ul, 0, {0}};
+        kept k;
+        k.bits = bits, k.words = words, k.opened = 0, k.last = ~0ul, k.count = 0;
         wipe(bits, words);
         if (p->m) filter_node(p, a, p->m - 1, &k);
         r->opened += k.opened;
@@ -259,7 +292,7 @@ static void page_on(const sheet *p, const sheet *q, twin_key key, twin_size size
                 if (qid == key.q && pid <= key.p) continue;
                 spot z = spot_at(p, i);
                 u64 opened = 0;
-                int hit = ring_node(q, a, z, q->m - 1, &opened) || ring_node(p, a, z, p->m - 1, &opened);
+                int hit = blocked(p, q, a, z, &opened);
                 r->opened += opened;
                 if (hit) continue;
                 if (r->count == size) return;
@@ -287,33 +320,37 @@ twin_page_answer twin_page(const twin_word *pw, twin_size plen, const twin_word 
 
 typedef struct { spot q[16]; twin_size c; u64 *bits; twin_size words; u64 opened; } crowd;
 
-/* Whether another chamber of the leaf, or a point kept for chamber k, drops the box (or the point z where o is null). */
-static int ruled_out(const sheet *s, const crowd *g, twin_size k, const twin_word *o, spot z)
-{
-    for (twin_size h = 0; h < g->c; h++)
-        if (h != k && (o ? drops_box(g->q[k], g->q[h], o) : blocks(g->q[k], z, g->q[h]))) return 1;
-    for (twin_size w = 0; w < g->words; w++) {
-        for (u64 b = g->bits[k * g->words + w]; b; b &= b - 1) {
-            spot p = spot_at(s, 64 * w + (twin_size)__builtin_ctzll(b));
-            if (o ? drops_box(g->q[k], p, o) : blocks(g->q[k], z, p)) return 1;
-        }
+/* Whether another chamber of the leaf, or a point kept for chamber k, drops what is tried: again a function for boxes, and one for places. */
+#define RULED_OUT(name, tried, drops) \
+    static inline __attribute__((always_inline)) int name(const sheet *s, const crowd *g, twin_size k, tried z) \
+    { \
+        for (twin_size h = 0; h < g->c; h++) \
+            if (h != k && drops(g->q[k], g->q[h], z)) return 1; \
+        for (twin_size w = 0; w < g->words; w++) \
+            for (u64 b = g->bits[k * g->words + w]; b; b &= b - 1) \
+                if (drops(g->q[k], spot_at(s, 64 * w + (twin_size)__builtin_ctzll(b)), z)) return 1; \
+        return 0; \
     }
-    return 0;
-}
+RULED_OUT(rules_box, boxed, drops_box)
+RULED_OUT(rules_place, spot, drops_place)
 
 static void crowd_node(const sheet *s, twin_size j, crowd *g)
 {
     const twin_word *a = s->w + 5 * s->n + 7 * j;
-    spot none = {0, 0};
+    boxed o = box_of(a);
     twin_size k = 0;
-    while (k < g->c && ruled_out(s, g, k, a + 3, none)) k++;
+    while (k < g->c && rules_box(s, g, k, o)) k++;
     if (k == g->c) return;
     g->opened++;
-    for (twin_word c = a[1]; c < a[1] + a[2]; c++) {
-        if (a[0]) { crowd_node(s, (twin_size)c, g); continue; }
-        twin_size i = (twin_size)s->w[3 * s->n + (twin_size)c];
+    twin_size first = (twin_size)a[1], end = first + (twin_size)a[2];
+    if (a[0]) {
+        for (twin_size c = first; c < end; c++) crowd_node(s, c, g);
+        return;
+    }
+    for (twin_size c = first; c < end; c++) {
+        twin_size i = (twin_size)s->w[3 * s->n + c];
         spot z = spot_at(s, i);
-        for (k = 0; k < g->c; k++) if (!ruled_out(s, g, k, 0, z)) g->bits[k * g->words + i / 64] |= 1ul << (i % 64);
+        for (k = 0; k < g->c; k++) if (!rules_place(s, g, k, z)) g->bits[k * g->words + i / 64] |= 1ul << (i % 64);
     }
 }
 
@@ -351,7 +388,7 @@ static twin_run_answer run_on(const sheet *p, const sheet *q, twin_size v, twin_
                 twin_size i = 64 * w + (twin_size)__builtin_ctzll(b);
                 spot z = spot_at(p, i);
                 u64 opened = 0;
-                if (ring_node(q, g.q[k], z, q->m - 1, &opened) || ring_node(p, g.q[k], z, p->m - 1, &opened)) bits[k * words + w] &= ~(1ul << (i % 64));
+                if (blocked(p, q, g.q[k], z, &opened)) bits[k * words + w] &= ~(1ul << (i % 64));
                 else r.count++;
                 r.opened += opened;
             }
