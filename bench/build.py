@@ -6,6 +6,7 @@ import re
 import shutil
 import subprocess
 import sys
+import textwrap
 
 TOP = os.path.dirname(os.path.dirname(os.path.abspath(__file__)))
 sys.path.insert(0, os.path.join(TOP, "tools"))
@@ -121,7 +122,7 @@ def instructions(command, work, nothing):
         return None
 
     def counted(words):
-        out, parts = os.path.join(WORK, "callgrind.out"), {}
+        out, parts = os.path.join(WORK, "callgrind.%d" % os.getpid()), {}
         subprocess.run(["valgrind", "--tool=callgrind", "--callgrind-out-file=" + out] + command + words, capture_output=True, check=True)
         said = subprocess.run(["callgrind_annotate", "--threshold=100", out], capture_output=True, text=True, check=True).stdout
         for count, function in re.findall(r"^ *([\d,]+) \([ \d.]+%\)  \S*?:(\S+)", said, flags=re.M):
@@ -137,3 +138,40 @@ def instructions(command, work, nothing):
 def emulated():
     """Whether the kit's emulator runs the programs."""
     return os.path.exists(os.path.join(kit.toolchain(), "bin", "qemu-x86_64"))
+
+
+# ---------------------------------------------------------------- papers
+
+def wrapped(text, indent=""):
+    return "\n".join(textwrap.wrap(text, 160, subsequent_indent=indent, break_long_words=False, break_on_hyphens=False))
+
+
+def filled(text):
+    """Paragraphs and points in lines of at most 160; tables, headings and drawings as they are."""
+    out = []
+    for part in text.split("\n\n"):
+        if part.startswith("-"):
+            part = "\n".join(wrapped(line, "  ") if len(line) > 160 else line for line in part.split("\n"))
+        elif not part.startswith(("|", "#", "!")):
+            part = wrapped(" ".join(part.split()))
+        out.append(part)
+    return "\n\n".join(out).rstrip("\n") + "\n"
+
+
+def load():
+    """What else the machine does, in words."""
+    return "the load of its %d processors, this work and any other, was %.1f over the last 15 minutes when this was written" % (os.cpu_count(), os.getloadavg()[2])
+
+
+def keep(name, text):
+    """Keeps a part of docs/BENCHMARKS.md in this folder, and there in place of the part with the same heading; where there is none, `bench/run` puts it in."""
+    paper = os.path.join(TOP, "docs", "BENCHMARKS.md")
+    with open(paper, encoding="utf-8") as f:
+        before = f.read()
+    start = before.find(text.split("\n", 1)[0] + "\n")
+    if start >= 0:
+        end = before.find("\n## ", start)
+        before = before[:start] + text + (before[end:] if end >= 0 else "")
+    for path, content in ((os.path.join(TOP, "bench", name), text), (paper, before)):
+        with open(path, "w", encoding="utf-8") as f:
+            f.write(content)
