@@ -2,6 +2,7 @@
 --     busier-order      it is an order; busier-says, busier-so: what it says, in numbers
 --     ranks-next, ranks-end, ranks-only, ranks-same, ranks-apart     of the records one after the other
 --     idle-row          a chamber with few candidates has few pairs
+--     Counting          the loop over the candidates: met-start, met-turn, met-done
 --     Going             the loop over the chambers: rank-start, rank-turn, rank-done
 -- Assumes nothing.
 use mathlib.Core.Path.{_≡_, refl, sym, ap, ap₂, subst, _∙_}
@@ -12,15 +13,17 @@ use Prim.Native.Nat.{ℕ, zero, suc, _+_, _-_, _*_, _≤_, _<_}
 use native.Mathlib.Omega.{arith}
 use native.Mathlib.Nat.{eq-or-lt-of-le}
 use native.Mathlib.Numerals.{add-one}
-use lib.Dec.{eqb, leb, ltb}
+use lib.Dec.{eqb, ltb}
 use lib.IntN.{ℤ}
 use lib.ListN.{length, take, getD}
-use borrow.Author.Tests.{ltb-true, lt-ltb, le-ltb, eqb-true, eq-eqb, leb-true}
+use borrow.Author.Tests.{ltb-true, ltb-false, lt-ltb, le-ltb, eqb-true, eq-eqb}
 use Rattle.integers.proofs.Bools.{decide, and-both, or-both-false, clash, failed, passed}
 use Rattle.plane.specs.Point.{idAt}
 use Rattle.sheet.specs.Open.{Opens}
 use Rattle.sheet.specs.Places.{pointsOf}
-use Rattle.bits.specs.Set.{at, kept, cardIn, card}
+use Rattle.bits.specs.Set.{at, kept, cardIn, card, nextFrom}
+use Rattle.bits.proofs.SetLaws.{at-lt, not-kept-at}
+use Rattle.bits.proofs.NextLaws.{from-skip}
 use Rattle.list.specs.declared.Pair.{Pair}
 use Rattle.list.specs.declared.Terms.{Terms}
 use Rattle.list.specs.Rows.{row}
@@ -203,11 +206,49 @@ module _ (big : ℕ) (t : Terms) (P Q : List ℤ) (np mp : ℕ) (o : Opens P np 
   pub idle-row : (k : ℕ) (g : Ranks) (r : Bool) → Idle (card b) k g r → Idle (rowRank big t (pointsOf P) (pointsOf Q) j .pairs) k g r
   idle-row k g r i = record { full = i .full; fewer = λ x. omega (arith, i .fewer x, few-pairs) }
 
-pub idle-said : (most k : ℕ) (g : Ranks) → k ≤ g .count → (len wide : ℕ) → len ≡ most → wide ≡ getD (g .rows) (k - 1) noRank .pairs → Idle most k g (leb len wide)
-idle-said most k g full len wide e f = record { full = λ x. full; fewer = λ x. omega (arith, leb-true len wide x) }
+pub idle-said : (most k : ℕ) (g : Ranks) → k ≤ g .count → (t : Bool) (wide : ℕ) → (t ≡ true → most ≤ wide) → wide ≡ getD (g .rows) (k - 1) noRank .pairs → Idle most k g t
+idle-said most k g full t wide e f = record { full = λ x. full; fewer = λ x. omega (arith, e x) }
 
 pub idle-not : (pairs k : ℕ) (g : Ranks) → Idle pairs k g false
 idle-not pairs k g = record { full = λ e. clash e refl; fewer = λ e. clash e refl }
+
+-- ---- the kept positions, counted until one is too many
+
+-- how many are kept from i on
+unfoldable pub keptFrom : List ℕ → ℕ → ℕ
+keptFrom ws i = cardIn ws (64 * length ws - i) i
+
+kept-all : (ws : List ℕ) → keptFrom ws 0 ≡ card ws
+unfolding keptFrom card
+kept-all ws = let s : 64 * length ws - 0 ≡ 64 * length ws = omega arith in ap (λ (n : ℕ). cardIn ws n 0) s
+
+kept-step : (ws : List ℕ) (i : ℕ) → i < 64 * length ws → keptFrom ws i ≡ at ws i + keptFrom ws (i + 1)
+unfolding keptFrom cardIn
+kept-step ws i h = let s : 64 * length ws - i ≡ suc (64 * length ws - (i + 1)) = omega arith in ap (λ (n : ℕ). cardIn ws n i) s
+
+kept-end : (ws : List ℕ) (i : ℕ) → 64 * length ws ≤ i → keptFrom ws i ≡ 0
+unfolding keptFrom cardIn
+kept-end ws i h = let s : 64 * length ws - i ≡ 0 = omega arith in ap (λ (n : ℕ). cardIn ws n i) s
+
+kept-past : (ws : List ℕ) (i : ℕ) → kept ws i ≡ false → keptFrom ws i ≡ keptFrom ws (i + 1)
+kept-past ws i e =
+    ⊎-elim
+    (λ (h : ltb i (64 * length ws) ≡ true). omega (arith, kept-step ws i (ltb-true i (64 * length ws) h), not-kept-at ws i e))
+    (λ (h : ltb i (64 * length ws) ≡ false). let g = ltb-false i (64 * length ws) h in omega (arith, kept-end ws i g, kept-end ws (i + 1) (omega arith)))
+    (decide (ltb i (64 * length ws)))
+
+-- after so many were met before i
+pub record Counting (ws : List ℕ) (most left i : ℕ) : Type 0 where
+  pub counted : card ws + left ≤ most + keptFrom ws i
+
+pub met-start : (ws : List ℕ) (most i : ℕ) → i ≡ nextFrom ws 0 → Counting ws most most i
+met-start ws most i e = record { counted = omega (arith, kept-all ws, from-skip ws (keptFrom ws) (kept-past ws) 0 i e) }
+
+pub met-turn : (ws : List ℕ) (most left i u : ℕ) → Counting ws most left i → (left ≡ 0 → ⊥) → i < 64 * length ws → u ≡ nextFrom ws (i + 1) → Counting ws most (left - 1) u
+met-turn ws most left i u c some h e = record { counted = omega (arith, c .counted, some, kept-step ws i h, at-lt ws i, from-skip ws (keptFrom ws) (kept-past ws) (i + 1) u e) }
+
+pub met-done : (ws : List ℕ) (most left i : ℕ) → Counting ws most left i → 64 * length ws ≤ i → card ws ≤ most
+met-done ws most left i c h = omega (arith, c .counted, kept-end ws i h)
 
 -- ---- those held
 

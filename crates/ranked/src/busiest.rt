@@ -6,6 +6,7 @@ use crate::ranks::Ranks;
 use list::Terms;
 use sheet::Size;
 ghost use mathlib.Core.Path.{_≡_};
+ghost use mathlib.Core.Bool.{true};
 ghost use Prim.Native.Nat.{_≤_, _<_};
 ghost use lib.ListN.{length};
 ghost use Rattle.plane.specs.Point.{idAt};
@@ -32,6 +33,24 @@ fn narrow(k: usize) -> u32
     k as u32
 }
 
+// Whether no more than so many positions are kept: they are counted until one is too many.
+fn has_at_most(bits: &[u64], most: usize) -> bool
+    requires { ⌜ Numbered (now bits) ⌝ }
+    ensures { λ r. ⌜ (r ≡ true → card (now (bits .entry)) ≤ most) ⌝ }
+{
+    let n = 64 * bits.len();
+    let mut left = most;
+    let mut i = seeds::scan::next_from(bits, 0);
+    while i < n {
+        if left == 0 {
+            return false;
+        }
+        left -= 1;
+        i = seeds::scan::next_from(bits, i + 1);
+    }
+    true
+}
+
 // Whether a chamber cannot be among the k busiest whose candidates are kept on the words: k are held, and the candidates are no more than the last of them has pairs. The chambers come in the
 // order of their ids, so that with as many pairs it would stand behind that one.
 fn is_idle(k: usize, g: Ranks, bits: &[u64]) -> bool
@@ -42,7 +61,7 @@ fn is_idle(k: usize, g: Ranks, bits: &[u64]) -> bool
         return false;
     }
     let last = g.rows[k - 1];
-    bits::len(bits) <= wide(last.pairs)
+    has_at_most(bits, wide(last.pairs))
 }
 
 // The chamber at position j is ranked, where it is the contractor's and may be among the k busiest. Its candidates are found once: to be counted, and then to be judged.
