@@ -184,6 +184,14 @@ blank-step us ws w h b =
     go k l (yes q) = rw q (getD-set-same ws w 0 0 h)
     go k l (no d) = getD-set-other ws w k 0 0 d ∙ b .zeros k (omega arith)
 
+-- a word that is 0 stays
+pub blank-skip : (us ws : List ℕ) (w : ℕ) → w < length ws → getD ws w 0 ≡ 0 → Blank us ws w → Blank us ws (w + 1)
+blank-skip us ws w h e b = record { long = b .long; most = omega (arith, b .long); zeros = λ k l. go k l (ℕ-discrete k w) }
+  where
+    go : (k : ℕ) → k < w + 1 → Dec (k ≡ w) → getD ws k 0 ≡ 0
+    go k l (yes q) = rw q e
+    go k l (no n) = b .zeros k (omega (arith, n))
+
 pub blank-end : (us ws : List ℕ) (w : ℕ) → length ws ≤ w → Blank us ws w → ws ≡ none (length us)
 unfolding none
 blank-end us ws w h b =

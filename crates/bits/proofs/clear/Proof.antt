@@ -1,8 +1,11 @@
 -- `bits::clear` meets its contract. The loop's invariant is `Blank`: the words before w are 0. Assumes nothing.
-use Prim.Native.Nat.{_-_}
+use mathlib.Core.Path.{sym, subst}
+use mathlib.Core.Logic.{⊎-elim}
+use mathlib.Core.List.{List}
+use Prim.Native.Nat.{ℕ, _+_, _-_}
 use native.Mathlib.Omega.{arith}
 use lib.ListN.{length}
-use Rattle.bits.proofs.SetLaws.{Blank, blank-start, blank-step, blank-end}
+use Rattle.bits.proofs.SetLaws.{Blank, blank-start, blank-step, blank-skip, blank-end}
 use Rattle.bits.proofs.clear.Statement.{statement}
 use Rattle.bits.proofs.clear.Tie as tie
 
@@ -15,6 +18,12 @@ abbrev μ-loop : tie.MeasureT-loop
 loop-holds : tie.Need-loop-holds Inv-loop μ-loop
 loop-holds c = blank-start _
 
+mul-if1 : tie.Need-mul-if1 Inv-loop μ-loop
+mul-if1 c = omega arith
+
+slice-read-if1 : tie.Need-slice-read-if1 Inv-loop μ-loop
+slice-read-if1 c = omega arith
+
 mul-bits : tie.Need-mul-bits Inv-loop μ-loop
 mul-bits c = omega arith
 
@@ -25,10 +34,18 @@ add-w : tie.Need-add-w Inv-loop μ-loop
 add-w c = omega arith
 
 loop-less : tie.Need-loop-less Inv-loop μ-loop
-loop-less c = omega (arith, c .before .loop .inv .long)
+loop-less c = omega (arith, c .before .before .loop-test .taken, c .before .before .before .loop .inv .long)
 
 loop-again : tie.Need-loop-again Inv-loop μ-loop
-loop-again c = blank-step _ _ _ (c .loop-test .taken) (c .before .loop .inv)
+loop-again c =
+    let t = c .before .before .loop-test .taken in
+    let b = c .before .before .before .loop .inv in
+    let us = c .before .before .before .before .args .bits .now in
+    let w = c .before .before .before .loop .w in
+    ⊎-elim
+    (λ x. subst (λ (l : List ℕ). Blank us l (w + 1)) (sym (x .1)) (blank-step _ _ _ t b))
+    (λ x. subst (λ (l : List ℕ). Blank us l (w + 1)) (sym (x .1)) (blank-skip _ _ _ t (x .0 .left) b))
+    (c .if1 .came)
 
 same-length : tie.Need-same-length Inv-loop μ-loop
 same-length c = c .before .loop .inv .long
@@ -43,6 +60,8 @@ clear-spec =
     Inv-loop
     μ-loop
     loop-holds
+    mul-if1
+    slice-read-if1
     mul-bits
     slice-write-bits
     add-w
