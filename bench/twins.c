@@ -12,27 +12,22 @@ static int within(i64 v, i64 lo, i64 hi) { return lo <= v && v <= hi; }
 /* the most points and nodes, and the farthest coordinate, of each form */
 static const struct { i64 points, nodes, reach; } limits[3] = {{0, 0, 0}, {1000, 400, 1000000}, {60000, 24000, 1000000000}};
 
-/* These two go through all the words, and look at the end whether one was wrong: a sheet that opens has to be gone through anyway. */
 static int points_ok(const twin_word *w, twin_size n, i64 reach)
 {
-    unsigned edge = (unsigned)reach, wrong = 0;
-    twin_word before = 0;
     for (twin_size i = 0; i < n; i++) {
         const twin_word *p = w + 3 * i;
-        wrong |= (p[0] <= before) | (p[0] > 2000000000) | ((unsigned)p[1] + edge > 2 * edge) | ((unsigned)p[2] + edge > 2 * edge);
-        before = p[0];
+        if (!within(p[0], 1, 2000000000) || !within(p[1], -reach, reach) || !within(p[2], -reach, reach)) return 0;
+        if (i && p[-3] >= p[0]) return 0;
     }
-    return !wrong;
+    return 1;
 }
 
 static int order_ok(const twin_word *w, twin_size n)
 {
     const twin_word *order = w + 3 * n, *rank = w + 4 * n;
-    unsigned most = (unsigned)n, wrong = 0;
-    for (twin_size i = 0; i < n; i++) wrong |= ((unsigned)order[i] >= most) | ((unsigned)rank[i] >= most);
-    if (wrong) return 0;
-    for (twin_size i = 0; i < n; i++) wrong |= order[rank[i]] != (twin_word)i;
-    return !wrong;
+    for (twin_size i = 0; i < n; i++)
+        if (order[i] < 0 || (twin_size)order[i] >= n || rank[i] < 0 || (twin_size)rank[i] >= n || order[rank[i]] != (twin_word)i) return 0;
+    return 1;
 }
 
 static int nodes_ok(const twin_word *w, twin_size n, twin_size m)
