@@ -16,8 +16,8 @@
  *   - a pointer and its number describe memory that is there, aligned for its elements, and that nobody else writes during the call;
  *   - memory that a call may write (`out` of ring_pack and of ring_forms, `slots` of ring_book_take, of ring_depot_take, of ring_leaf_run, of ring_pairs and of
  *     ring_own_pairs, `waiting` of ring_nearest and of ring_near_filter, `bits` wherever it stands) overlaps no other array of the same call;
- *   - there is room on the stack: some 120 KB for ring_leaf_run where P has over 1,024 points, some 60 KB for ring_pack of form 2, some 12 KB for a page or a filter walk, a few
- *     KB for any other call;
+ *   - there is room on the stack: some 120 KB for ring_leaf_run where P has over 1,024 points, some 60 KB for ring_pack of form 2, some 12 KB for a page or a
+ *     filter walk, a few KB for any other call;
  *   - a bool is 0 or 1, as C's own bool always is.
  * A negative number handed in for an unsigned one arrives as a large one, and is answered as such.
  *
