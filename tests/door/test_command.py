@@ -675,7 +675,7 @@ class Books(Commands):
                 said = work.stderr.readline()
                 self.assertIn(b"is at work beside ", said)
                 self.assertIsNone(work.poll())
-            printed = work.communicate(timeout=60)[0]
+            printed = work.communicate(timeout=300)[0]
             self.assertEqual(work.returncode, 0)
             self.assertIn(b"104 ", printed)
 

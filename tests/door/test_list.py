@@ -86,7 +86,7 @@ class House(Folder):
 
     def list(self, *words, given=None, kit=True, command=None, cwd="/", stdout=subprocess.PIPE):
         done = subprocess.run([command or os.path.join(self.top, "list")] + list(words), input=given, stdin=subprocess.DEVNULL if given is None else None, stdout=stdout,
-                              stderr=subprocess.PIPE, env=self.environment(kit), cwd=cwd, timeout=60)
+                              stderr=subprocess.PIPE, env=self.environment(kit), cwd=cwd, timeout=300)
         return done.returncode, done.stdout, done.stderr.decode()
 
     def prove(self):
@@ -143,7 +143,7 @@ class Status(House):
     def test_no_silent_wait_on_a_terminal(self):
         ours, theirs = pty.openpty()
         try:
-            done = subprocess.run([os.path.join(self.top, "list")], stdin=theirs, stdout=subprocess.PIPE, stderr=subprocess.PIPE, env=self.environment(), timeout=20)
+            done = subprocess.run([os.path.join(self.top, "list")], stdin=theirs, stdout=subprocess.PIPE, stderr=subprocess.PIPE, env=self.environment(), timeout=120)
         finally:
             os.close(ours)
             os.close(theirs)
@@ -157,7 +157,7 @@ class Status(House):
             self.assertIn(told, said)
         folder = os.open(self.folder, os.O_RDONLY)
         try:
-            done = subprocess.run([os.path.join(self.top, "list")], stdin=folder, stdout=subprocess.PIPE, stderr=subprocess.PIPE, env=self.environment(), timeout=20)
+            done = subprocess.run([os.path.join(self.top, "list")], stdin=folder, stdout=subprocess.PIPE, stderr=subprocess.PIPE, env=self.environment(), timeout=120)
         finally:
             os.close(folder)
         self.assertEqual((done.returncode, done.stdout, done.stderr.decode()), (3, b"", "list: standard input: Is a directory\n"))
@@ -204,7 +204,7 @@ class Building(House):
         with open(path, "w") as f:
             f.write(text.replace("PATIENCE = 15\n", "PATIENCE = 0.5\n"))
         self.mark("wait")
-        self.assertRegex(self.list(*SHEETS)[2], r"list: still proving, 0 of 3 done, [01] seconds so far\n")
+        self.assertRegex(self.list(*SHEETS)[2], r"list: still proving, 0 of 3 done, \d+ seconds so far\n")
 
     def test_a_build_that_fails_is_3(self):
         self.mark("fails")
@@ -234,12 +234,12 @@ class Building(House):
         self.mark("slow")
         work = subprocess.Popen([os.path.join(self.top, "list")] + SHEETS, stdin=subprocess.DEVNULL, stdout=subprocess.PIPE, stderr=subprocess.PIPE, env=self.environment())
         pids = os.path.join(self.kit, "pids")
-        for _ in range(200):
-            if os.path.exists(pids) and len(read(pids).split()) == 2:
-                break
+        until = time.monotonic() + 120
+        while not (os.path.exists(pids) and len(read(pids).split()) == 2):
+            self.assertLess(time.monotonic(), until, "the build has not begun")
             time.sleep(0.05)
         work.send_signal(sent)
-        printed, said = work.communicate(timeout=20)
+        printed, said = work.communicate(timeout=120)
         running = [int(pid) for pid in read(pids).split()]
         self.assertEqual(len(running), 2)
         self.assertFalse([pid for pid in running if alive(pid)])
@@ -256,7 +256,7 @@ class Building(House):
         self.mark("wait")
         one, two = (subprocess.Popen([os.path.join(self.top, "list")] + SHEETS, stdin=subprocess.DEVNULL, stdout=subprocess.PIPE, stderr=subprocess.PIPE, env=self.environment())
                     for _ in range(2))
-        said = [work.communicate(timeout=30) for work in (one, two)]
+        said = [work.communicate(timeout=120) for work in (one, two)]
         self.assertEqual([printed for printed, _ in said], [LISTED, LISTED])
         self.assertIn(b"another build is under way here: waiting for it", said[0][1] + said[1][1])
         self.assertEqual(self.asked(), ["check listing"])
