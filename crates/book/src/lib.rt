@@ -8,7 +8,7 @@ use list::{Key, Page, Pair, Source};
 
 // How many pairs are held, whether all are, and of what list. [F4]
 #[repr(C)]
-#[derive(Drop)]
+#[derive(Clone, Copy)]
 pub struct Book {
     pub held: usize,
     pub closed: bool,
@@ -16,21 +16,21 @@ pub struct Book {
 }
 
 // The answer of `begin`: an open book, or the number of refusal.
-#[derive(Drop)]
+#[derive(Clone, Copy)]
 pub enum Begun {
     Open(Book),
     Refused(u32),
 }
 
 // The key to ask for next, or the number of refusal.
-#[derive(Drop)]
+#[derive(Clone, Copy)]
 pub enum Next {
     After(Key),
     Refused(u32),
 }
 
 // The answer of `next_key`: the book comes back as it went in.
-#[derive(Drop)]
+#[derive(Clone, Copy)]
 pub struct Asked {
     pub next: Next,
     pub book: Book,
@@ -38,14 +38,14 @@ pub struct Asked {
 
 // The answer of `take`: the number of refusal, 0 where the page was taken, and the book from now on.
 #[repr(C)]
-#[derive(Drop)]
+#[derive(Clone, Copy)]
 pub struct Taken {
     pub number: u32,
     pub book: Book,
 }
 
 // What is decided of a page: how many of its pairs are appended, and the answer.
-#[derive(Drop)]
+#[derive(Clone, Copy)]
 pub struct Decided {
     pub n: usize,
     pub taken: Taken,
@@ -263,7 +263,7 @@ impl Book {
 }
 
 // 64 slots, and what `take` answered of those lent to it.
-#[derive(Drop)]
+#[derive(Clone, Copy)]
 pub struct TakenArray {
     pub slots: [Pair; 64],
     pub taken: Taken,

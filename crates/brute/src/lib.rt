@@ -4,14 +4,14 @@ ghost use Rattle.std.specs.Prelude.{◌≡◌, false, ◌≤◌, ◌<◌, nat_ab
 ghost use Rattle.integers.specs.Bounds.{Within};
 ghost use Rattle.brute.specs.Brute.{clip, place_at, covers, fences, holds, together, clear, empty, pairs, size_of, FirstOf, Next};
 
-#[derive(Drop)]
+#[derive(Clone, Copy)]
 pub struct Place {
     pub x: i64,
     pub y: i64,
 }
 
 // A pair by its positions: q's in Q, p's in P. Where there is none, q is past all of Q.
-#[derive(Drop)]
+#[derive(Clone, Copy)]
 pub struct Found {
     pub q: usize,
     pub p: usize,

@@ -19,7 +19,7 @@ use plane::Spot;
 use sheet::Size;
 
 // What was found of a place: where it is, and whether its pair with the chamber is clear.
-#[derive(Drop)]
+#[derive(Clone, Copy)]
 pub(crate) struct Found {
     known: bool,
     at: Spot,
@@ -27,14 +27,14 @@ pub(crate) struct Found {
 }
 
 // What was found of the two places tried last. For a record at the place of either no walk is made again.
-#[derive(Drop)]
+#[derive(Clone, Copy)]
 pub(crate) struct Seen {
     last: Found,
     other: Found,
 }
 
 // Whether a pair is one of those asked for, and what was found last.
-#[derive(Drop)]
+#[derive(Clone, Copy)]
 struct Judged {
     holds: bool,
     seen: Seen,

@@ -24,7 +24,7 @@ const BLIND: u64 = 2000;
 const REQUESTS: u64 = 8;
 
 // What was compared: pairs of sets with no ring pair, ring pairs, pages, last pages with no place left, and pairs of sets that went otherwise than they should.
-#[derive(Drop)]
+#[derive(Clone, Copy)]
 struct Tally {
     none: u64,
     pairs: u64,
@@ -34,7 +34,7 @@ struct Tally {
 }
 
 // What list is asked for: its profile, and whether it is divided between two contractors.
-#[derive(Drop)]
+#[derive(Clone, Copy)]
 struct Kinds {
     grid: bool,
     divided: bool,
@@ -43,7 +43,7 @@ struct Kinds {
 // ---- points
 
 // What the points of a set look like: how x, y and the ids are drawn; and the form of its sheet.
-#[derive(Drop)]
+#[derive(Clone, Copy)]
 struct Kind {
     x: usize,
     y: usize,
@@ -275,7 +275,7 @@ fn make_owners(out: &mut [u8], n: usize, seed: u64) {
 // ---- a page held to the second join
 
 // The profile, the contractor, the next pair of the second join, how many a page showed, the key of the last of them, and whether all agreed.
-#[derive(Drop)]
+#[derive(Clone, Copy)]
 struct Turn {
     grid: bool,
     contractor: u32,
@@ -361,7 +361,7 @@ fn is_key(a: Key, b: Key) -> bool {
 // ---- a list
 
 // Where a list stands: its profile, its contractor, the second join's next pair, the key of the next request, and what was seen so far.
-#[derive(Drop)]
+#[derive(Clone, Copy)]
 struct Listing {
     grid: bool,
     contractor: u32,
@@ -666,7 +666,7 @@ fn all_wide(seed: u64, t: Tally) -> Tally {
 
 // What two runs gave: pages that are equal, the pairs in them, those of a key that names a chamber of the other's, refusals that are equal by their number, runs in which positions
 // moved, and requests or runs that went otherwise than they should.
-#[derive(Drop)]
+#[derive(Clone, Copy)]
 struct Blind {
     served: u64,
     pairs: u64,

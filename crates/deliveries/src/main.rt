@@ -14,7 +14,7 @@ const CALLS: u64 = 60;
 const BOOKS: usize = 6;
 
 // How often each outcome was answered, how many forms were made and how often making was refused, and how many calls went otherwise than they should.
-#[derive(Drop)]
+#[derive(Clone, Copy)]
 struct Tally {
     issued: u64,
     known: u64,
@@ -25,7 +25,7 @@ struct Tally {
 }
 
 // One history: how many pairs each book holds, the slots and how many are lent, the depot, the plain list beside it, and the generator's state.
-#[derive(Drop)]
+#[derive(Clone, Copy)]
 struct Game {
     n: usize,
     slots: [Form; 64],

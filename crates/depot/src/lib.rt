@@ -10,7 +10,7 @@ use list::{Pair, Source};
 
 // An order form. Its key is all but the size: both editions, kind, contractor, profile and the two ids.
 #[repr(C)]
-#[derive(Drop)]
+#[derive(Clone, Copy)]
 pub struct Form {
     pub p_edition: u32,
     pub q_edition: u32,
@@ -24,7 +24,7 @@ pub struct Form {
 
 // What making forms answers: 0 and how many were made, or the number of refusal and 0.
 #[repr(C)]
-#[derive(Drop)]
+#[derive(Clone, Copy)]
 pub struct Made {
     pub number: u32,
     pub count: usize,
@@ -88,13 +88,13 @@ pub fn forms(b: Book, slots: &[Pair], out: &mut [Form]) -> Made
 
 // The depot's state: how many forms it holds.
 #[repr(C)]
-#[derive(Drop)]
+#[derive(Clone, Copy)]
 pub struct Depot {
     pub held: usize,
 }
 
 // What the depot says of a form.
-#[derive(Drop)]
+#[derive(Clone, Copy)]
 pub enum Outcome {
     Issued,
     Known,
@@ -102,14 +102,14 @@ pub enum Outcome {
 }
 
 // The answer of `take`: what is said, and the depot from now on.
-#[derive(Drop)]
+#[derive(Clone, Copy)]
 pub struct Stored {
     pub outcome: Outcome,
     pub depot: Depot,
 }
 
 // What is decided of a form: whether it is stored, and the answer.
-#[derive(Drop)]
+#[derive(Clone, Copy)]
 pub struct Verdict {
     pub stores: bool,
     pub stored: Stored,
@@ -218,14 +218,14 @@ impl Depot {
 }
 
 // 64 places for forms, and what `forms` answered of those lent to it.
-#[derive(Drop)]
+#[derive(Clone, Copy)]
 pub struct MadeArray {
     pub out: [Form; 64],
     pub made: Made,
 }
 
 // 64 slots, and what `take` answered of those lent to it.
-#[derive(Drop)]
+#[derive(Clone, Copy)]
 pub struct StoredArray {
     pub slots: [Form; 64],
     pub stored: Stored,

@@ -30,7 +30,7 @@ use shortest::Shortlist;
 
 // What a check of words finds: the sheet's length, points, nodes, edition and form, or zeros.
 #[repr(C)]
-#[derive(Drop)]
+#[derive(Clone, Copy)]
 pub struct HeadAnswer {
     pub number: u32,
     pub len: usize,
@@ -42,7 +42,7 @@ pub struct HeadAnswer {
 
 // The point reader's answer: the record, or zeros.
 #[repr(C)]
-#[derive(Drop)]
+#[derive(Clone, Copy)]
 pub struct PointAnswer {
     pub number: u32,
     pub id: u32,
@@ -53,7 +53,7 @@ pub struct PointAnswer {
 // The ring walk's answer. The kind is 0 clear, 1 blocked by a point, 2 blocked by a box side; the set is 0 for P, 1 for Q; the side is 0 left, 1 bottom,
 // 2 right, 3 top, and 0 where no side blocks; `at` is the point's position or the node's number.
 #[repr(C)]
-#[derive(Drop)]
+#[derive(Clone, Copy)]
 pub struct WalkAnswer {
     pub number: u32,
     pub kind: u32,
@@ -65,7 +65,7 @@ pub struct WalkAnswer {
 
 // The answer of begin: an open book that holds nothing, or zeros.
 #[repr(C)]
-#[derive(Drop)]
+#[derive(Clone, Copy)]
 pub struct BookAnswer {
     pub number: u32,
     pub book: Book,
@@ -73,7 +73,7 @@ pub struct BookAnswer {
 
 // The answer of next key: the key to ask for, or (0, 0), and the book as it went in.
 #[repr(C)]
-#[derive(Drop)]
+#[derive(Clone, Copy)]
 pub struct KeyAnswer {
     pub number: u32,
     pub key: Key,
@@ -82,7 +82,7 @@ pub struct KeyAnswer {
 
 // The depot's answer to a form: whether it was new, and the depot from now on. 0 and `issued` where the key is new, 0 alone where it is known.
 #[repr(C)]
-#[derive(Drop)]
+#[derive(Clone, Copy)]
 pub struct StoreAnswer {
     pub number: u32,
     pub issued: bool,
@@ -91,7 +91,7 @@ pub struct StoreAnswer {
 
 // The marker's answer: its two numbers, or zeros.
 #[repr(C)]
-#[derive(Drop)]
+#[derive(Clone, Copy)]
 pub struct MarkAnswer {
     pub number: u32,
     pub x: f64,

@@ -21,7 +21,7 @@ use walk::Answer;
 use walk::filter::ROOM;
 
 // What is asked for: the pairs after a key, how many, and of which list.
-#[derive(Drop)]
+#[derive(Clone, Copy)]
 pub struct Ask {
     pub key: Key,
     pub size: usize,
@@ -29,7 +29,7 @@ pub struct Ask {
 }
 
 // A page in the making: the pairs found, how many they are, whether a pair beyond the size was found, and the nodes opened.
-#[derive(Drop)]
+#[derive(Clone, Copy)]
 pub struct Draft {
     pub pairs: [Pair; 16],
     pub count: usize,
@@ -38,14 +38,14 @@ pub struct Draft {
 }
 
 // What trying a kept partner gave: whether it makes a ring pair after the key, and the nodes opened.
-#[derive(Drop)]
+#[derive(Clone, Copy)]
 pub struct Tried {
     pub finds: bool,
     pub opened: u64,
 }
 
 // What walking all kept partners of a chamber gave: how many are ring partners, and the nodes opened.
-#[derive(Drop)]
+#[derive(Clone, Copy)]
 pub struct Sifted {
     pub count: usize,
     pub opened: u64,

@@ -16,7 +16,7 @@ use plane::{Boxed, Spot};
 use sheet::Size;
 
 // What stays the same all through a run: the points and the nodes of P and of Q, the leaf v of Q with the places that it covers, and the words of a kept set.
-#[derive(Drop)]
+#[derive(Clone, Copy)]
 struct Job {
     hp: Size,
     hq: Size,

@@ -9,14 +9,14 @@ use list::Pair;
 use sheet::Size;
 
 // How many ring pairs a leaf has, and the nodes opened to find them.
-#[derive(Drop)]
+#[derive(Clone, Copy)]
 pub struct Made {
     pub count: usize,
     pub opened: u64,
 }
 
 // A pair of a run, and the bit from which on the next one is to be sought.
-#[derive(Drop)]
+#[derive(Clone, Copy)]
 pub struct Step {
     pub pair: Pair,
     pub next: usize,

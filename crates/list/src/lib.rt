@@ -7,7 +7,7 @@ ghost use Rattle.list.specs.Lent.{lent_of};
 
 // A place in the list: a chamber's id, then a pump house's.
 #[repr(C)]
-#[derive(Drop)]
+#[derive(Clone, Copy)]
 pub struct Key {
     pub q: u32,
     pub p: u32,
@@ -15,7 +15,7 @@ pub struct Key {
 
 // A chamber and a pump house, by their ids, with the squared diameter of the circle on the two. [F3]
 #[repr(C)]
-#[derive(Drop)]
+#[derive(Clone, Copy)]
 pub struct Pair {
     pub q: u32,
     pub p: u32,
@@ -25,7 +25,7 @@ pub struct Pair {
 // What is asked of a list beside its points: the number of partners that a chamber must have to be listed, 0 for the full list; the contractor whose chambers are listed,
 // 0 or 1, 2 for an undivided list; the kind: whether it is the self join of one sheet; and the profile: whether it is the street grid's. [T5, A8, U9]
 #[repr(C)]
-#[derive(Drop)]
+#[derive(Clone, Copy)]
 pub struct Terms {
     pub threshold: u32,
     pub contractor: u32,
@@ -35,7 +35,7 @@ pub struct Terms {
 
 // What list a page or a book is of: two editions and the terms. The edition of a self join's sheet stands twice. [T5, J10]
 #[repr(C)]
-#[derive(Drop)]
+#[derive(Clone, Copy)]
 pub struct Source {
     pub p_edition: u32,
     pub q_edition: u32,
@@ -44,7 +44,7 @@ pub struct Source {
 
 // What a page request asks for: the pairs strictly after a key, how many of them, and of which list. [P1, A8, U9]
 #[repr(C)]
-#[derive(Drop)]
+#[derive(Clone, Copy)]
 pub struct Request {
     pub key: Key,
     pub size: usize,
@@ -55,7 +55,7 @@ pub struct Request {
 
 // One page of a list: the pairs that follow a key, how many they are, and whether none follows them. [P7, F3]
 #[repr(C)]
-#[derive(Drop)]
+#[derive(Clone, Copy)]
 pub struct Page {
     pub source: Source,
     pub key: Key,

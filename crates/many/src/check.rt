@@ -12,7 +12,7 @@ use list::Key;
 use sheet::Size;
 
 // The number, and with 0 the counts of both sheets and how many words are needed.
-#[derive(Drop)]
+#[derive(Clone, Copy)]
 pub(crate) struct Checked {
     pub number: u32,
     pub hp: Size,

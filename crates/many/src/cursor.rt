@@ -14,7 +14,7 @@ use list::{Key, Terms};
 use sheet::Size;
 
 // Where the search stands: the chamber whose pairs are kept on the words lent, the position to go on from there, and the chamber after which none was entered yet.
-#[derive(Drop)]
+#[derive(Clone, Copy)]
 pub(crate) struct Cursor {
     pub at: usize,
     pub i: usize,

@@ -10,7 +10,7 @@ use list::Key;
 
 // Which list it is of: pairs whose size is at most the largest, of the chambers that have at least so many of them, of a contractor's chambers (2: of all), of a profile.
 #[repr(C)]
-#[derive(Drop)]
+#[derive(Clone, Copy)]
 pub struct Which {
     pub largest: u64,
     pub threshold: u32,
@@ -20,7 +20,7 @@ pub struct Which {
 
 // What is asked for: the pairs strictly after the key, of such a list.
 #[repr(C)]
-#[derive(Drop)]
+#[derive(Clone, Copy)]
 pub struct Wanted {
     pub key: Key,
     pub largest: u64,
@@ -31,7 +31,7 @@ pub struct Wanted {
 
 // What a count answers: 0 and how many pairs the list has, or the number of refusal and 0.
 #[repr(C)]
-#[derive(Drop)]
+#[derive(Clone, Copy)]
 pub struct Counted {
     pub number: u32,
     pub count: u64,
@@ -39,7 +39,7 @@ pub struct Counted {
 
 // What `pairs` answers: 0, how many pairs it stored, and whether more follow; or the number of refusal, 0 and no.
 #[repr(C)]
-#[derive(Drop)]
+#[derive(Clone, Copy)]
 pub struct Many {
     pub number: u32,
     pub count: usize,

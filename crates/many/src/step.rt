@@ -9,7 +9,7 @@ use list::{Key, Pair, Terms};
 use sheet::Size;
 
 // What is to be done: the number of refusal, or 0 and the sheets' counts, the words needed, and which pairs of which list.
-#[derive(Drop)]
+#[derive(Clone, Copy)]
 pub(crate) struct Task {
     pub number: u32,
     pub hp: Size,
@@ -21,7 +21,7 @@ pub(crate) struct Task {
 }
 
 // So many pairs are stored, and where the next is to go on; the pair at hand is to be stored where there are more to come than that; and whether a pair is left with no slot for it.
-#[derive(Drop)]
+#[derive(Clone, Copy)]
 pub(crate) struct Step {
     pub task: Task,
     pub count: usize,

@@ -13,7 +13,7 @@ use ring::Filtered;
 
 // A pump house: its id and its squared distance to the chamber.
 #[repr(C)]
-#[derive(Drop)]
+#[derive(Clone, Copy)]
 pub struct Near {
     pub id: u32,
     pub distance: u64,
@@ -21,7 +21,7 @@ pub struct Near {
 
 // What `nearest` answers: 0, how many pump houses are given and these, the nearest first, the rest zeros; or the number of refusal and zeros.
 #[repr(C)]
-#[derive(Drop)]
+#[derive(Clone, Copy)]
 pub struct Found {
     pub number: u32,
     pub count: usize,
@@ -29,7 +29,7 @@ pub struct Found {
 }
 
 // What is found of two sheets and the id of a chamber: 0, the points and nodes of P and where the chamber stands; or the number of refusal and zeros.
-#[derive(Drop)]
+#[derive(Clone, Copy)]
 struct Chamber {
     number: u32,
     n: usize,

@@ -9,7 +9,7 @@ ghost use Rattle.bits.specs.Set.{wiped};
 use plane::Spot;
 
 // So many positions; the rest are 0.
-#[derive(Drop)]
+#[derive(Clone, Copy)]
 pub struct Firsts {
     pub count: usize,
     pub at: [usize; 16],

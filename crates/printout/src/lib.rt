@@ -14,7 +14,7 @@ use libc::STDOUT_FILENO;
 use sheet::Size;
 
 // What came of an input: refused, or listed, with the number of pairs.
-#[derive(Drop)]
+#[derive(Clone, Copy)]
 pub enum Outcome {
     BadInput,
     BadQ(u32),
@@ -23,7 +23,7 @@ pub enum Outcome {
 }
 
 // What came of reading and of what was read.
-#[derive(Drop)]
+#[derive(Clone, Copy)]
 pub struct Listing {
     pub got: Got,
     pub outcome: Outcome,

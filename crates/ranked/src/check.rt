@@ -11,7 +11,7 @@ use crate::Question;
 use sheet::Size;
 
 // The number, and with 0 the counts of both sheets.
-#[derive(Drop)]
+#[derive(Clone, Copy)]
 pub(crate) struct Passed {
     pub number: u32,
     pub hp: Size,

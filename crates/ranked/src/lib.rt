@@ -9,7 +9,7 @@ use list::Pair;
 
 // What is asked for: how many, of the list to the largest size, of a contractor's chambers (2: of all), of a profile.
 #[repr(C)]
-#[derive(Drop)]
+#[derive(Clone, Copy)]
 pub struct Question {
     pub k: usize,
     pub largest: u64,
@@ -19,7 +19,7 @@ pub struct Question {
 
 // A chamber or a pump house by its id, and how many pairs of the list it is in.
 #[repr(C)]
-#[derive(Drop)]
+#[derive(Clone, Copy)]
 pub struct Rank {
     pub id: u32,
     pub pairs: u32,
@@ -27,7 +27,7 @@ pub struct Rank {
 
 // What the calls for the busiest answer: 0, how many rows and the rows, the unused ones zeros; or the number of refusal and zeros.
 #[repr(C)]
-#[derive(Drop)]
+#[derive(Clone, Copy)]
 pub struct Busy {
     pub number: u32,
     pub count: usize,
@@ -36,7 +36,7 @@ pub struct Busy {
 
 // A pair of the list, and the sum of the scores of its two ends.
 #[repr(C)]
-#[derive(Drop)]
+#[derive(Clone, Copy)]
 pub struct Visit {
     pub pair: Pair,
     pub score: u64,
@@ -44,7 +44,7 @@ pub struct Visit {
 
 // What the call for the most urgent visits answers: 0, how many rows and the rows, the unused ones zeros; or the number of refusal and zeros.
 #[repr(C)]
-#[derive(Drop)]
+#[derive(Clone, Copy)]
 pub struct Urgent {
     pub number: u32,
     pub count: usize,

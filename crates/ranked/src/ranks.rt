@@ -7,7 +7,7 @@ ghost use Rattle.ranked.specs.Ranks.{ranks_of, held_ranks, HeldRanks, rank_put};
 use crate::Rank;
 
 // The ranks held, the unused rows zeros.
-#[derive(Drop)]
+#[derive(Clone, Copy)]
 pub(crate) struct Ranks {
     pub rows: [Rank; 16],
     pub count: usize,

@@ -7,7 +7,7 @@ ghost use Rattle.ranked.specs.Visits.{tops_of, held_visits, HeldVisits, visit_pu
 use crate::Visit;
 
 // The visits held, the unused rows zeros.
-#[derive(Drop)]
+#[derive(Clone, Copy)]
 pub(crate) struct Tops {
     pub rows: [Visit; 16],
     pub count: usize,

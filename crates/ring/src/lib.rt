@@ -14,7 +14,7 @@ use walk::Answer;
 
 // What a check of words finds: 0, how many words the sheet covers, its points and its nodes; or the number of refusal and zeros.
 #[repr(C)]
-#[derive(Drop)]
+#[derive(Clone, Copy)]
 pub struct Head {
     pub number: u32,
     pub len: usize,
@@ -23,7 +23,7 @@ pub struct Head {
 }
 
 // What a check of two sheets finds, P first: 0 and the counts of both, or the number of refusal and zeros.
-#[derive(Drop)]
+#[derive(Clone, Copy)]
 pub struct Heads {
     pub number: u32,
     pub np: usize,
@@ -34,7 +34,7 @@ pub struct Heads {
 
 // A record of a sheet, a pump house or a chamber: its id and where it stands.
 #[repr(C)]
-#[derive(Drop)]
+#[derive(Clone, Copy)]
 pub struct Asset {
     pub id: u32,
     pub x: i32,
@@ -42,7 +42,7 @@ pub struct Asset {
 }
 
 // What the point reader answers: the record, or the number of refusal.
-#[derive(Drop)]
+#[derive(Clone, Copy)]
 pub enum Pointed {
     At(Asset),
     Refused(u32),
@@ -50,7 +50,7 @@ pub enum Pointed {
 
 // What the question for the position of an id answers: 0 and the position, or the number of refusal and 0.
 #[repr(C)]
-#[derive(Drop)]
+#[derive(Clone, Copy)]
 pub struct Placed {
     pub number: u32,
     pub position: usize,
@@ -58,7 +58,7 @@ pub struct Placed {
 
 // What the filter walk answers beside the kept set in the words lent: 0, how many bits are set and the nodes opened; or the number of refusal and zeros. [Y12, F7]
 #[repr(C)]
-#[derive(Drop)]
+#[derive(Clone, Copy)]
 pub struct Filtered {
     pub number: u32,
     pub count: usize,
@@ -66,7 +66,7 @@ pub struct Filtered {
 }
 
 // What the ring walk answers: clear or what it hit first with the nodes opened, or the number of refusal.
-#[derive(Drop)]
+#[derive(Clone, Copy)]
 pub enum Walked {
     Done(Answer),
     Refused(u32),
@@ -74,7 +74,7 @@ pub enum Walked {
 
 // What a page request answers: 0, the count of nodes opened and the page; or the number of refusal and zeros. [Y12, U8, F6]
 #[repr(C)]
-#[derive(Drop)]
+#[derive(Clone, Copy)]
 pub struct Paged {
     pub number: u32,
     pub opened: u64,
@@ -83,7 +83,7 @@ pub struct Paged {
 
 // What the question for a chamber's partners answers: 0, the smaller of t and the number of its pairs in the list, and whether that is t; or the number of refusal and zeros.
 #[repr(C)]
-#[derive(Drop)]
+#[derive(Clone, Copy)]
 pub struct Partnered {
     pub number: u32,
     pub count: usize,

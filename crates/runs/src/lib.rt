@@ -13,7 +13,7 @@ use sheet::Size;
 
 // What a leaf run answers: 0, how many pairs it stored and the nodes opened; or the number of refusal and zeros.
 #[repr(C)]
-#[derive(Drop)]
+#[derive(Clone, Copy)]
 pub struct Run {
     pub number: u32,
     pub count: usize,
@@ -232,7 +232,7 @@ pub fn leaf_run(p: &[i32], q: &[i32], leaf: usize, slots: &mut [Pair], bits: &mu
 }
 
 // 256 slots, and what `leaf_run` answered of those lent to it.
-#[derive(Drop)]
+#[derive(Clone, Copy)]
 pub struct RunArray {
     pub slots: [Pair; 256],
     pub run: Run,

@@ -6,7 +6,7 @@ ghost use Rattle.seeds.specs.Line.{place_at, Lined, Among, Known, At, Drops};
 use plane::{Boxed, Spot};
 
 // How many there are, and the number of the one that dropped last.
-#[derive(Drop)]
+#[derive(Clone, Copy)]
 pub struct Line {
     pub count: usize,
     pub last: usize,

@@ -13,7 +13,7 @@ use crate::line::Line;
 use plane::Spot;
 
 // What the walk carries: the droppers in hand, and how many candidates are noted. Where that is more than there is room for, not all of them are.
-#[derive(Drop)]
+#[derive(Clone, Copy)]
 pub struct Course {
     pub line: Line,
     pub noted: usize,

@@ -15,7 +15,7 @@ use sheet::Size;
 
 // What the call answers: 0, how many pairs and the pairs, the unused three zeros; or the number of refusal and zeros.
 #[repr(C)]
-#[derive(Drop)]
+#[derive(Clone, Copy)]
 pub struct Shortlist {
     pub number: u32,
     pub count: usize,
@@ -23,7 +23,7 @@ pub struct Shortlist {
 }
 
 // The shortest pairs of those passed, in order.
-#[derive(Drop)]
+#[derive(Clone, Copy)]
 struct Search {
     pairs: [Pair; 16],
     count: usize,

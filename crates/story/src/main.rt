@@ -9,7 +9,7 @@ const HISTORIES: u64 = 1000;
 const CALLS: u64 = 40;
 
 // How often each number was answered, how many books closed, how many of them full before and by an empty page, and how many calls went otherwise than they should.
-#[derive(Drop)]
+#[derive(Clone, Copy)]
 struct Tally {
     counts: [u64; 32],
     closed: u64,
@@ -18,7 +18,7 @@ struct Tally {
 }
 
 // One history: the list and how long it is, the slots and how many are lent, the book, a page from before, and the generator's state.
-#[derive(Drop)]
+#[derive(Clone, Copy)]
 struct Game {
     list: [Pair; 64],
     n: usize,

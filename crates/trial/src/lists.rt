@@ -8,7 +8,7 @@ use list::{Key, Pair};
 use many::{Counted, Many, Wanted, Which};
 
 // The slots of a case, and what was answered of those lent.
-#[derive(Drop)]
+#[derive(Clone, Copy)]
 struct Lot {
     slots: [Pair; 256],
     many: Many,

@@ -9,7 +9,7 @@ fn word_of(b: &[u8; 4]) -> i32 {
 }
 
 // A word, or that it cannot be read whole.
-#[derive(Drop)]
+#[derive(Clone, Copy)]
 enum Next {
     Word(i32),
     Lost,

@@ -22,7 +22,7 @@ use runs::Run;
 use shortest::Shortlist;
 
 // The words that the view covers, and the numbers of points and nodes that it claims for them. [F9]
-#[derive(Drop)]
+#[derive(Clone, Copy)]
 pub struct Sheet<'a> {
     pub words: &'a [i32],
     pub n: usize,
@@ -30,7 +30,7 @@ pub struct Sheet<'a> {
 }
 
 // 0 and a view of the sheet's words, or the number of refusal and a view that covers no words.
-#[derive(Drop)]
+#[derive(Clone, Copy)]
 pub struct Opened<'a> {
     pub number: u32,
     pub sheet: Sheet<'a>,
