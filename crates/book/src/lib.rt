@@ -1,4 +1,6 @@
 // The order book: its state by value, and what a page does to it. Its pairs are records in a slice that the caller lends.
+#![tactic(auto)]
+
 ghost use Rattle.std.specs.Prelude.{◌≡◌, ◌&&◌, ◌≤◌, ◌<◌, get_or, take as taking};
 ghost use Rattle.list.specs.Pairs.{none, key_of, ascends};
 ghost use Rattle.list.specs.Lent.{lent_of};

@@ -1,5 +1,7 @@
 // A second, unrelated join, to compare the first one with: plain loops over the points, the ring rule by distances to the doubled centre, and the street grid's on a map
 // that is turned by an eighth. It takes the points' words of two sets, asks nothing of them, and stops at the first blocker of a pair.
+#![tactic(auto)]
+
 ghost use Rattle.std.specs.Prelude.{◌≡◌, false, ◌≤◌, ◌<◌, nat_abs, ◌-ℤ◌};
 ghost use Rattle.integers.specs.Bounds.{Within};
 ghost use Rattle.brute.specs.Brute.{clip, place_at, covers, fences, holds, together, clear, empty, pairs, size_of, FirstOf, Next};

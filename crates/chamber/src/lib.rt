@@ -1,4 +1,6 @@
 // The pairs of one chamber, kept on lent words: exactly those that the rule makes.
+#![tactic(auto)]
+
 mod clear;
 
 ghost use Rattle.std.specs.Prelude.{◌≡◌, not, ◌&&◌, ◌||◌, ◌<◌, leb, ltb};

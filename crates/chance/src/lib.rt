@@ -1,4 +1,6 @@
 // What the programs share that try a call on inputs drawn at random: numbers drawn, counting, and a line of what was counted.
+#![tactic(auto)]
+
 ghost use Rattle.std.specs.Prelude.{◌≡◌, ◌+◌, ◌-◌, ◌%◌, ◌^◌, ◌≤◌};
 ghost use Rattle.chance.specs.Chance.{mix};
 

@@ -2,6 +2,8 @@
 // join (`brute`) finds on the points alone, pair by pair, with its order, its number and its end mark. The same sets, divided between two contractors by random owner bytes: each
 // contractor's list is held to the pairs of its own chambers, so the two together are the undivided list. And the blind test: two runs that differ in the ids of the other's chambers
 // alone, packed anew, give equal requests equal pages or refusals, and leave equal words.
+#![tactic(auto)]
+
 ghost use Rattle.std.specs.Prelude.{◌<◌, ◌≤◌, length};
 
 use brute::Found;

@@ -1,6 +1,8 @@
 // Histories of a depot, played through `forms` and `take` on slices of many lengths: forms of six books lost, repeated and reordered, in depots that are full or lent too few slots,
 // forms that differ in one part of the key or in the size alone, and two faults together. After each call the outcome, the state and every slot are held to a plain list and to a
 // second reading of the rules.
+#![tactic(auto)]
+
 use book::Book;
 use chance::{drawn, line, mixed, one_more};
 use depot::{Depot, Form, Outcome};

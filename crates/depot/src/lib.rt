@@ -1,4 +1,6 @@
 // The depot's forms: order forms made from a book, and a depot that takes each key once. Both stand in slices that the caller lends.
+#![tactic(auto)]
+
 ghost use Rattle.std.specs.Prelude.{◌≡◌, ◌||◌};
 ghost use Rattle.list.specs.Lent.{lent_of};
 ghost use Rattle.depot.specs.Forms.{form_of, made_for, forms_answer, forms_out, with_forms, made_array};

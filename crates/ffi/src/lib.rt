@@ -1,5 +1,7 @@
 // Every call over C: slices as pointer and length, answers as structs of numbers by value, each with its number of refusal first.
 // Every input is answered. A refused answer is its number and zeros, and what was lent is as it was. include/ring.h is the same for a C compiler.
+#![tactic(auto)]
+
 ghost use Rattle.std.specs.Prelude.{◌≡◌, length};
 ghost use Rattle.pack.specs.Pack.{pack_no, pack_out, length_for};
 ghost use Rattle.ring.specs.Answers.{pointed, filtered, filtered_bits, walked};

@@ -1,5 +1,7 @@
 // A descriptor read to its end. The kit's `io::read_full` answers a short count both where the input ends and where a read fails; here the two are told apart.
 // Which bytes are read no contract can say.
+#![tactic(auto)]
+
 ghost use Rattle.std.specs.Prelude.{◌≡◌, length};
 ghost use Rattle.input.specs.Got.{told_by, Within};
 

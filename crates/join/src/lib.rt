@@ -1,4 +1,6 @@
 // The page maker, on the words of two sheets that open, each with its size. For a self join both are the one sheet.
+#![tactic(auto)]
+
 ghost use Rattle.std.specs.Prelude.{◌≡◌, ℕ, ◌+◌, ◌*◌, ◌≤◌, ◌<◌, length, false, ◌&&◌};
 ghost use Rattle.bits.specs.Set.{kept, Holds};
 ghost use Rattle.sheet.specs.Open.{Opens};

@@ -1,4 +1,6 @@
 // The list of ring pairs and its pages, with no tree in sight: keys, pairs, what list a page is of, and the page.
+#![tactic(auto)]
+
 ghost use Rattle.std.specs.Prelude.{◌≡◌, get_or};
 ghost use Rattle.list.specs.Pairs.{key_of, follows};
 ghost use Rattle.list.specs.Pages.{threshold_no, size_no, contractor_no, owners_no, source_no};

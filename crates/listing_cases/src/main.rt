@@ -1,4 +1,6 @@
 // Lists each of the files c00 to c65 of its folder, under its name.
+#![tactic(auto)]
+
 fn list_file(i: u8) {
     let name = [b'c', b'0' + i / 10, b'0' + i % 10];
     io::write_all(libc::STDOUT_FILENO, &name);

@@ -1,4 +1,6 @@
 // Many pairs of a list at once, and how many a list has. No count of nodes is promised, so each chamber's pump houses are found in whatever way is fast: `seeds` has it.
+#![tactic(auto)]
+
 mod all;
 pub mod batch;
 mod check;

@@ -1,5 +1,7 @@
 // Nearest first: the calls for a single chamber, on plain slices. Every input is answered, and a refusal gives only its number.
 // What waits in the walk stands in numbers that the caller lends: as many as P has points and nodes, or more.
+#![tactic(auto)]
+
 ghost use Rattle.std.specs.Prelude.{◌≡◌, ◌+◌, ◌≤◌, ◌<◌, length};
 ghost use Rattle.bits.specs.Set.{wiped, Holds};
 ghost use Rattle.plane.specs.Rule.{SpotIn};

@@ -2,6 +2,8 @@
 // number of refusal, or `refused input` where a read fails or the bytes are no whole words or more than the longest sheet has.
 // The arrays have room for form 2, whichever form comes: 1.87 MB for the bytes read, and as much for their words.
 // That is 3.8 MB of stack, of the 8 that Linux gives a program.
+#![tactic(auto)]
+
 ghost use Rattle.std.specs.Prelude.{◌≡◌, ◌≤◌, length};
 
 use input::Got;

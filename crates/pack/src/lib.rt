@@ -1,4 +1,6 @@
 // Packing a sheet from a point list.
+#![tactic(auto)]
+
 mod order;
 mod tree;
 mod write;

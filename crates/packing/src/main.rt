@@ -3,6 +3,8 @@
 // or more than a packer may be given.
 // The arrays have room for form 2, whichever form is asked for: 0.96 MB for the bytes read, as much for their words and 1.31 MB for the sheet.
 // With the packer's marks that is 3.3 MB of stack, of the 8 that Linux gives a program.
+#![tactic(auto)]
+
 ghost use Rattle.std.specs.Prelude.{◌≡◌, ◌+◌, ◌*◌, ◌≤◌, ◌<◌, length};
 
 use input::Got;

@@ -1,5 +1,7 @@
 // The listing program's work: what it does with what it reads. What is put into a buffer is promised; that each buffer is written, once and to standard
 // output, is not.
+#![tactic(auto)]
+
 mod chambers;
 mod lines;
 mod split;

@@ -1,4 +1,6 @@
 // The first of a list in an order: the busiest chambers and pump houses, the most urgent visits. No count of nodes is promised, so that what cannot be among the first is passed over.
+#![tactic(auto)]
+
 pub mod busiest;
 mod check;
 mod ranks;

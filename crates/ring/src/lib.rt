@@ -1,5 +1,7 @@
 // The calls open to callers, on plain slices: every input is answered, and a refusal gives only its number.
 // Each checks its sheets first, P then Q, by 1 to 8; then its positions by 9. A well-formed sheet is checked once a call.
+#![tactic(auto)]
+
 pub mod filter;
 pub mod finder;
 pub mod least;

@@ -1,4 +1,6 @@
 // One run per leaf: the ring pairs of a leaf's chambers, stored in a slice that the caller lends, over words that the caller lends.
+#![tactic(auto)]
+
 ghost use Rattle.std.specs.Prelude.{◌≡◌, [], ◌∷◌, ◌++◌, ◌≤◌, length, take, drop};
 ghost use Rattle.sheet.specs.Layout.{points, nodes};
 ghost use Rattle.sheet.specs.Open.{Opens};

@@ -1,6 +1,8 @@
 // For one chamber, the candidates among the pump houses: a set of positions that has every ring partner of the chamber, and few others.
 // Droppers are places of records of both sheets. They are taken from the leaves about the chamber; then the pump houses are walked from the root, a box or a place that a
 // dropper drops is passed over, and any other place is a candidate, and a dropper from then on. Which droppers there are is free, since each that drops is a record that blocks.
+#![tactic(auto)]
+
 mod guess;
 mod line;
 pub mod scan;

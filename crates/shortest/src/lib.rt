@@ -1,4 +1,6 @@
 // The shortest circles first: of all ring pairs of two sheets the k with the smallest squared size, in order.
+#![tactic(auto)]
+
 ghost use Rattle.std.specs.Prelude.{◌≡◌, ◌≤◌, ◌<◌, length, take};
 ghost use Rattle.bits.specs.Set.{none, Holds};
 ghost use Rattle.sheet.specs.Open.{Opens};

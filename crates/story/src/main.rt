@@ -1,5 +1,7 @@
 // Histories of a book of either profile, of a contractor or undivided, played through `take` and `next_key` on slices of many lengths: pages early, late, repeated, of another kind,
 // contractor, profile, edition, threshold and key, and broken by hand. After each call the number, the state, every slot and the next key are held to a plain list and to a second reading of the rules.
+#![tactic(auto)]
+
 use book::{Begun, Book, Next};
 use chance::{drawn, line, mixed, one_more};
 use list::{Key, Page, Pair, Source, Terms};

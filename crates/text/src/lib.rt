@@ -1,5 +1,7 @@
 // The text of the listing, put into a slice that the caller lends. Each function answers the place after what it has put, and what stood before
 // the place that it was given still stands there.
+#![tactic(auto)]
+
 ghost use Rattle.std.specs.Prelude.{◌≡◌, [], ◌∷◌, ◌++◌, ◌+◌, ◌≤◌, ◌<◌, nat_abs, length, take};
 ghost use Rattle.text.specs.Text.{Grown, decimal, signed_text, number, signed, line_text, end_text, refused_text, input_text};
 

@@ -1,4 +1,6 @@
 // Runs the cases that stand on its tape, each of a kind, and prints what each call answers. The checked examples of document 01 are the first.
+#![tactic(auto)]
+
 mod asked;
 mod circles;
 mod leaves;

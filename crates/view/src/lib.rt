@@ -1,5 +1,7 @@
 // An opened sheet: a view of the words where the caller keeps them, with the sheet's counts. No copy is made.
 // Whoever is handed a view checks it like any slice: its counts are read anew from its words, and its own are never trusted.
+#![tactic(auto)]
+
 ghost use Rattle.std.specs.Prelude.{◌≡◌, ◌≤◌, length, take};
 ghost use Rattle.ring.specs.Answers.{head_of, pointed, filtered, filtered_bits, walked};
 ghost use Rattle.ring.specs.Page.{page_answer, page_bits};
