@@ -1,0 +1,12 @@
+-- `words::is` meets its contract.
+-- Assumes nothing.
+use mir.Syntax.{w32}
+use mir.ValLaws.{to_z-of_z}
+use Rattle.words.proofs.Signs.{is_neg, is_abs, cast_ok}
+use Rattle.words.proofs.is.Goals as goal
+
+pub returns-then-a-lt0 : goal.returns-then-a-lt0
+returns-then-a-lt0 c = is_neg _ _ _ (to_z-of_z w32 _ c.ranges.a) c.if-a-lt0.true
+
+pub returns : goal.returns
+returns c = is_abs _ _ _ (to_z-of_z w32 _ c.ranges.a) c.if-a-lt0.false
