@@ -10,7 +10,6 @@
 --     BlindLaws     a contractor's list does not depend on the ids of the other's chambers
 --     Examples      the document's listing and its pages, by computation
 --     PairRows      pairs and pages as rows and as machine values, for walks by hand
---     LocalRow      a local array lent as a slice
 --     LentLaws      how many of its slots are lent
 pub mod Order
 pub mod PageLaws
@@ -23,5 +22,4 @@ pub mod ContractorLaws
 pub mod BlindLaws
 pub mod Examples
 pub mod PairRows
-pub mod LocalRow
 pub mod LentLaws
