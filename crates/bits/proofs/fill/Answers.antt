@@ -1,8 +1,7 @@
 use mathlib.Core.Path.{sym, ap, ◌∙◌}
-use Prim.Native.Nat.{◌-◌}
 use native.Mathlib.Omega.{arith}
 use Rattle.bits.specs.Set.{none}
-use Rattle.bits.proofs.FillLaws.{Filled, fill_start, fill_room, fill_step, fill_end}
+use Rattle.bits.proofs.FillLaws.{fill_start, fill_step}
 use Rattle.bits.proofs.fill.Goals as goal
 
 pub loop-i-init : goal.loop-i-init

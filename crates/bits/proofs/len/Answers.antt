@@ -1,10 +1,8 @@
-use mathlib.Core.Path.{◌≡◌}
-use Prim.Native.Nat.{◌+◌, ◌-◌, ◌*◌, ◌≤◌}
+use Prim.Native.Nat.{◌≤◌}
 use native.Mathlib.Omega.{arith}
-use lib.ListN.{length, get_or}
+use lib.ListN.{get_or}
 use lib.Count.{ones, ones-le}
-use Rattle.bits.specs.Set.{card}
-use Rattle.bits.proofs.CardLaws.{rest, rest_start, rest_step, rest_end}
+use Rattle.bits.proofs.CardLaws.{rest_start, rest_step, rest_end}
 use Rattle.bits.proofs.len.Goals as goal
 
 -- the ones of the word that a turn reads

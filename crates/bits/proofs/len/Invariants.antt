@@ -1,11 +1,9 @@
 -- `bits::len` meets its contract. The loop's invariant: what is counted and what the words from w on have make the whole. Assumes nothing.
 use mathlib.Core.Path.{◌≡◌}
 use Prim.Native.Nat.{◌+◌, ◌-◌, ◌*◌, ◌≤◌}
-use native.Mathlib.Omega.{arith}
-use lib.ListN.{length, get_or}
-use lib.Count.{ones, ones-le}
+use lib.ListN.{length}
 use Rattle.bits.specs.Set.{card}
-use Rattle.bits.proofs.CardLaws.{rest, rest_start, rest_step, rest_end}
+use Rattle.bits.proofs.CardLaws.{rest}
 use Rattle.bits.proofs.len.Given as goal
 
 abbrev pub invariant-loop-w : goal.invariant-loop-w

@@ -1,10 +1,9 @@
-use mathlib.Core.Path.{◌≡◌, refl, ◌∙◌}
-use Prim.Native.Nat.{◌/◌, ◌%◌, ◌+◌, ◌-◌, ◌^◌}
-use native.Mathlib.Omega.{arith}
+use mathlib.Core.Path.{◌≡◌, ◌∙◌}
+use Prim.Native.Nat.{◌/◌, ◌%◌, ◌+◌, ◌^◌}
 use lib.ListN.{get_or}
-use lib.Count.{count_trailing_zeros, trailing_le}
+use lib.Count.{count_trailing_zeros}
 use Rattle.bits.specs.Set.{next_from}
-use Rattle.bits.proofs.NextLaws.{from_hit, from_miss, from_none, from_most}
+use Rattle.bits.proofs.NextLaws.{from_hit, from_miss, from_none}
 use Rattle.bits.proofs.next_from.Goals as goal
 
 -- the next one, where what is left of the word is not 0

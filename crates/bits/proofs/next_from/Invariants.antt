@@ -1,11 +1,7 @@
 -- `bits::next_from` meets its contract. The loop's invariant: the next one from `at` is the next one from i. Assumes nothing.
-use mathlib.Core.Path.{◌≡◌, refl, ◌∙◌}
-use Prim.Native.Nat.{◌/◌, ◌%◌, ◌+◌, ◌-◌, ◌^◌}
-use native.Mathlib.Omega.{arith}
-use lib.ListN.{get_or}
-use lib.Count.{count_trailing_zeros, trailing_le}
+use mathlib.Core.Path.{◌≡◌}
+use Prim.Native.Nat.{◌-◌}
 use Rattle.bits.specs.Set.{next_from}
-use Rattle.bits.proofs.NextLaws.{from_hit, from_miss, from_none, from_most}
 use Rattle.bits.proofs.next_from.Given as goal
 
 abbrev pub invariant-loop-at : goal.invariant-loop-at

@@ -2,7 +2,6 @@
 use Prim.Native.Nat.{◌/◌, ◌%◌}
 use native.Mathlib.Omega.{arith}
 use lib.ListN.{get_or}
-use lib.Bits.{and_le_l}
 use Rattle.bits.specs.Set.{without, at}
 use Rattle.bits.proofs.SetLaws.{and_one_at}
 use Rattle.bits.proofs.remove.Goals as goal

@@ -1,10 +1,6 @@
-use mathlib.Core.Path.{◌≡◌}
-use mathlib.Core.Bool.{true}
-use Prim.Native.Nat.{◌-◌, ◌≤◌}
 use native.Mathlib.Omega.{arith}
-use Rattle.words.specs.All.{all_b}
 use Rattle.words.proofs.AllLaws.{all_none, all_more, all_stop, all_done}
-use Rattle.list.proofs.ContractorLaws.{owned, owned_yes, owned_no, each_other, each_by}
+use Rattle.list.proofs.ContractorLaws.{owned_yes, owned_no, each_other, each_by}
 use Rattle.list.proofs.is_one_each.Goals as goal
 
 pub returns-then-owners-n : goal.returns-then-owners-n

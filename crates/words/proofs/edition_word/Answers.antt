@@ -1,7 +1,7 @@
 use mathlib.Core.Path.{◌∙◌}
 use mir.Syntax.{w32}
 use mir.ValLaws.{to_z-of_z}
-use Rattle.words.proofs.RangeLaws.{edition_neg, edition_abs, cast_short}
+use Rattle.words.proofs.RangeLaws.{edition_neg, edition_abs}
 use Rattle.words.proofs.edition_word.Goals as goal
 
 -- src/lib.rt:188:9

@@ -2,7 +2,7 @@
 -- Assumes nothing.
 use mir.Syntax.{w32}
 use mir.ValLaws.{to_z-of_z}
-use Rattle.words.proofs.Signs.{is_neg, is_abs, cast_ok}
+use Rattle.words.proofs.Signs.{is_neg, is_abs}
 use Rattle.words.proofs.is.Goals as goal
 
 pub returns-then-a-lt0 : goal.returns-then-a-lt0

@@ -2,8 +2,7 @@
 -- Assumes nothing.
 use mir.Syntax.{w32}
 use mir.ValLaws.{to_z-of_z}
-use Rattle.words.proofs.Signs.{num_neg, num_abs, cast_ok, num_short}
-use native.Mathlib.Omega.{arith}
+use Rattle.words.proofs.Signs.{num_neg, num_abs}
 use Rattle.words.proofs.num.Goals as goal
 
 pub returns-then-x-lt0-clause-value : goal.returns-then-x-lt0-clause-value

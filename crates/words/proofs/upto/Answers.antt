@@ -2,7 +2,6 @@
 -- Assumes nothing.
 use mir.Syntax.{w32}
 use mir.ValLaws.{to_z-of_z}
-use Rattle.words.proofs.Signs.{cast_ok}
 use Rattle.words.proofs.RangeLaws.{upto_neg, upto_abs}
 use Rattle.words.proofs.upto.Goals as goal
 

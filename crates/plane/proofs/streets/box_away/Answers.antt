@@ -1,12 +1,11 @@
 -- `plane::streets::box_away` meets its contract. Assumes nothing.
-use mathlib.Core.Path.{sym, subst, ap, ◌∙◌}
+use mathlib.Core.Path.{ap, ◌∙◌}
 use mathlib.Core.List.{List, [], ◌∷◌}
 use Prim.Native.Nat.{ℕ, ◌+◌}
 use lib.IntN.{ℤ, pos, nat_abs}
 use mir.Syntax.{w64}
-use Rattle.integers.specs.Bounds.{Within}
 use Rattle.integers.proofs.Solver.{Expr, con, ◌:+◌, ◌:*◌, v0, v1, v2, v3, v4, v5, v6, v7}
-use Rattle.integers.proofs.Mach.{Each, fits, runs, eval_in}
+use Rattle.integers.proofs.Mach.{Each, runs}
 use Rattle.plane.specs.Rule.{out}
 use Rattle.plane.proofs.streets.box_away.Goals as goal
 

@@ -1,12 +1,11 @@
 -- `plane::streets::from_centre` meets its contract. Assumes nothing.
-use mathlib.Core.Path.{subst, sym, ◌∙◌}
+use mathlib.Core.Path.{◌∙◌}
 use mathlib.Core.List.{List, [], ◌∷◌}
 use Prim.Native.Nat.{ℕ, ◌+◌}
 use lib.IntN.{ℤ, pos, nat_abs, ◌-ℤ◌}
 use mir.Syntax.{w64}
 use Rattle.integers.proofs.Solver.{Expr, con, ◌:+◌, ◌:*◌, v0, v1, v2, v3, v4, v5}
-use Rattle.integers.specs.Bounds.{Within}
-use Rattle.integers.proofs.Mach.{Each, fits, runs, eval_in}
+use Rattle.integers.proofs.Mach.{Each, runs}
 use Rattle.plane.proofs.streets.from_centre.Goals as goal
 
 abbrev β : List ℕ

@@ -1,15 +1,8 @@
 -- `words::bytes::decode` meets its contract: the first i places hold the first i words, and the others what they held. Assumes nothing.
-use native.Mathlib.Omega.{arith}
-use mathlib.Core.Path.{◌≡◌, refl, sym, ap, ◌∙◌}
-use mathlib.Core.List.{List, ◌++◌}
-use Prim.Native.Nat.{ℕ, suc, ◌+◌, ◌-◌, ◌<◌, ◌≤◌}
-use native.Mathlib.Numerals.{add-one}
-use lib.ListN.{length, take, drop, set, length-set, take-append-drop}
-use lib.Seq.{take-suc-set, drop-set-lt, drop-cons}
-use lib.IntN.{ℤ, pos}
-use mir.Syntax.{w32}
-use mir.Facts.{to_z-of_z}
-use Rattle.words.specs.Bytes.{word_at, words_of}
+use mathlib.Core.Path.{◌≡◌}
+use Prim.Native.Nat.{◌-◌, ◌≤◌}
+use lib.ListN.{length, take, drop}
+use Rattle.words.specs.Bytes.{words_of}
 use Rattle.words.proofs.bytes.decode.Given as goal
 
 abbrev pub invariant-loop-i : goal.invariant-loop-i
