@@ -30,7 +30,7 @@ use Rattle.words.specs.All.{all_b}
 use Rattle.words.proofs.AllLaws.{all_at, all_make, all_stop}
 use Rattle.plane.specs.declared.Spot.{Spot}
 use Rattle.plane.specs.declared.Boxed.{Boxed}
-use Rattle.plane.specs.Rule.{sq, in_box, blocks, drops, drops_box}
+use Rattle.plane.specs.Rule.{sq, in_box, drops, drops_box}
 use Rattle.plane.specs.Profile.{Profile, circle, profile_of}
 use Rattle.plane.specs.Point.{Point, point_at, id_at, spot_at}
 use Rattle.plane.proofs.Plane.{In}
