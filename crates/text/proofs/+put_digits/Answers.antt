@@ -1,7 +1,7 @@
 use Rattle.std.proofs.Common.{sym, subst, arith}
 use Rattle.text.specs.Text.{Grown}
 use Rattle.text.proofs.Grow.{then, byte}
-use Rattle.text.proofs.Digits.{more_digits}
+use Rattle.text.proofs.Decimal.{more_digits}
 use Rattle.text.proofs.+put_digits.Goals as goal
 
 pub returns-clause-grown : goal.returns-clause-grown
