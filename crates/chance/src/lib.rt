@@ -26,16 +26,15 @@ pub fn drawn(state: u64, n: usize) -> usize
 pub fn one_more(n: u64) -> u64
     ensures { result ≡ (n + 1) % 2 ^ 64 }
 {
-    std::num::wrapping_add_u64(n, 1)
+    n.wrapping_add(1)
 }
 
-// Writes a line, a name and a number, and answers the number. Which bytes are written no contract can say.
-pub fn line(name: &[u8], n: u64) -> u64
+// Writes a line, a name and a number, and answers the number. Which bytes are written no contract can say; a write that fails is let go.
+pub fn line(rt: &impl Print, name: &[u8], n: u64) -> u64
     ensures { result ≡ n }
 {
-    io::write_all(libc::STDOUT_FILENO, name);
-    io::write_all(libc::STDOUT_FILENO, b" ");
-    io::print_decimal(libc::STDOUT_FILENO, n);
-    io::write_all(libc::STDOUT_FILENO, b"\n");
+    let _ = rt.write_all(name);
+    let _ = rt.write_all(b" ");
+    let _ = println!(rt; "{n}");
     n
 }

@@ -1,8 +1,6 @@
 -- What is known of the bytes that were read. Assumes nothing.
-use mathlib.Core.Path.{◌≡◌, subst}
-use mathlib.Core.List.{List}
-use Prim.Native.Nat.{ℕ}
-use Rattle.io.specs.Counts.{IsPrefixLen}
+use Rattle.std.proofs.Common.{◌≡◌, subst, List, ℕ}
+use Rattle.std.specs.Counts.{IsPrefixLen}
 use Rattle.input.specs.Got.{Within}
 use Rattle.input.specs.declared.Got.{Got}
 use Rattle.input.specs.declared.Got.TheVariants.{Bytes}

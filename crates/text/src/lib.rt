@@ -3,7 +3,7 @@
 #![tactic(auto)]
 
 ghost use Rattle.std.specs.Prelude.{◌≡◌, [], ◌∷◌, ◌++◌, ◌+◌, ◌≤◌, ◌<◌, nat_abs, length, take};
-ghost use Rattle.text.specs.Text.{Grown, decimal, signed_text, number, signed, line_text, end_text, refused_text, input_text};
+ghost use Rattle.text.specs.Text.{Grown, decimal_in, decimal, signed_text, number, signed, line_text, end_text, refused_text, input_text};
 
 pub fn put_byte(b: u8, out: &mut [u8], at: usize) -> usize
     requires { at < length out.old }
@@ -32,15 +32,29 @@ pub fn size(z: i64) -> u64
     if z < 0 { (-1 - z) as u64 + 1 } else { z as u64 }
 }
 
+// The decimal text of n, of which so many places are enough.
+fn put_digits(n: u64, places: usize, out: &mut [u8], at: usize) -> usize
+    requires { at + places ≤ length out.old }
+    ensures grown { Grown out.old at out.new result (decimal_in places n) }
+    ensures upper_bound { result ≤ at + places }
+{
+    if places == 0 {
+        return at;
+    }
+    if n < 10 {
+        return put_byte(b'0' + n as u8, out, at);
+    }
+    let next = put_digits(n / 10, places - 1, out, at);
+    put_byte(b'0' + (n % 10) as u8, out, next)
+}
+
 // The decimal text of n.
 pub fn put_decimal(n: u64, out: &mut [u8], at: usize) -> usize
     requires { at + 20 ≤ length out.old }
     ensures grown { Grown out.old at out.new result (decimal n) }
     ensures upper_bound { result ≤ at + 20 }
 {
-    let mut text = [0u8; 20];
-    let k = io::decimal(n, &mut text);
-    put(&text[..k], out, at)
+    put_digits(n, 20, out, at)
 }
 
 // The decimal text of z, with a minus before a number below zero.
