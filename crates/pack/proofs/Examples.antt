@@ -13,7 +13,7 @@ use Rattle.sheet.specs.Limits.{form1, form2, limits_of}
 use Rattle.sheet.specs.Layout.{root_word}
 use Rattle.sheet.specs.Points.{fields_ok, rises_ok, point_ok, points_ok}
 use Rattle.sheet.specs.Boxes.{better, best}
-use Rattle.pack.specs.Tree.{up16, width, ground, above, one_left, nodes_from, nodes_for, node_on, node_from, plan_of, plan_count}
+use Rattle.pack.specs.Tree.{up16, width, ground_level, above, one_left, nodes_from, nodes_for, node_on, node_from, plan_of, plan_count}
 use Rattle.pack.specs.Order.{place_in, list_ok, order_list_ok}
 use Rattle.pack.specs.Packed.{flat_word, coord_in, box_side, node_word, body_word, trailer_word, pack_word, sheet_size, packed}
 use Rattle.pack.specs.Pack.{shape_ok, form_ok, range_ok, within_no, pack_no}
@@ -23,7 +23,7 @@ use Rattle.pack.proofs.ReturnTrip.{pack_return_trip}
 
 -- "n = 16 gives 1 node, 17 gives 3, 1,000 gives 68"; and of 60,000, which form 2 allows
 nodes_made : (nodes_for 0 ≡ 0) × (nodes_for 16 ≡ 1) × (nodes_for 17 ≡ 3) × (nodes_for 1000 ≡ 68) × (nodes_for 60000 ≡ 4001)
-unfolding up16 width ground above one_left nodes_from nodes_for
+unfolding up16 width ground_level above one_left nodes_from nodes_for
 nodes_made = (refl, refl, refl, refl, refl)
 
 -- of 63 leaves the last covers 8 places; the nodes over them are 63 to 66, the last of which covers 15 leaves; node 67 covers these four
@@ -31,7 +31,7 @@ thousand : (plan_of 1000 62 ≡ record { level = 0; head = 0; next = 992; top = 
     × (plan_of 1000 66 ≡ record { level = 1; head = 63; next = 48; top = 63 })
     × (plan_of 1000 67 ≡ record { level = 2; head = 67; next = 63; top = 67 })
     × (plan_count (plan_of 1000 62) ≡ 8) × (plan_count (plan_of 1000 66) ≡ 15) × (plan_count (plan_of 1000 67) ≡ 4)
-unfolding up16 width ground above one_left nodes_from nodes_for node_on node_from plan_of plan_count
+unfolding up16 width ground_level above one_left nodes_from nodes_for node_on node_from plan_of plan_count
 thousand = (refl, refl, refl, refl, refl, refl)
 
 p : List ℤ
@@ -42,11 +42,11 @@ o = pos 0 ∷ pos 1 ∷ []
 
 -- "P, edition 7", and the same points in form 2
 listed : packed 1 p o 2 7 ≡ pos 1 ∷ pos 0 ∷ pos 0 ∷ pos 2 ∷ pos 10 ∷ pos 0 ∷ pos 0 ∷ pos 1 ∷ pos 0 ∷ pos 1 ∷ pos 0 ∷ pos 0 ∷ pos 2 ∷ pos 0 ∷ pos 0 ∷ pos 10 ∷ pos 0 ∷ pos 17 ∷ pos 7 ∷ pos 2 ∷ pos 1 ∷ pos 7 ∷ pos 1 ∷ []
-unfolding p o eq_z num min_z max_z first_b tab root_word better best up16 width ground above one_left nodes_from nodes_for node_on node_from plan_of plan_count place_in flat_word coord_in box_side node_word body_word trailer_word pack_word sheet_size packed
+unfolding p o eq_z num min_z max_z first_b tab root_word better best up16 width ground_level above one_left nodes_from nodes_for node_on node_from plan_of plan_count place_in flat_word coord_in box_side node_word body_word trailer_word pack_word sheet_size packed
 listed = refl
 
 listed_second : packed 2 p o 2 7 ≡ pos 1 ∷ pos 0 ∷ pos 0 ∷ pos 2 ∷ pos 10 ∷ pos 0 ∷ pos 0 ∷ pos 1 ∷ pos 0 ∷ pos 1 ∷ pos 0 ∷ pos 0 ∷ pos 2 ∷ pos 0 ∷ pos 0 ∷ pos 10 ∷ pos 0 ∷ pos 17 ∷ pos 7 ∷ pos 2 ∷ pos 1 ∷ pos 7 ∷ pos 2 ∷ []
-unfolding p o eq_z num min_z max_z first_b tab root_word better best up16 width ground above one_left nodes_from nodes_for node_on node_from plan_of plan_count place_in flat_word coord_in box_side node_word body_word trailer_word pack_word sheet_size packed
+unfolding p o eq_z num min_z max_z first_b tab root_word better best up16 width ground_level above one_left nodes_from nodes_for node_on node_from plan_of plan_count place_in flat_word coord_in box_side node_word body_word trailer_word pack_word sheet_size packed
 listed_second = refl
 
 -- taken; then 18, 2, 3, 5, 6 and 17, each with a fault of the numbers after it where it can have one
@@ -59,7 +59,7 @@ numbers : (pack_no 1 2 p o 7 23 ≡ 0)
     × (pack_no 1 2 p (pos 1 ∷ pos 1 ∷ []) 7 0 ≡ 6)
     × (pack_no 1 2 p (pos 0 ∷ negsuc 0 ∷ []) 7 0 ≡ 6)
     × (pack_no 1 2 p o 7 24 ≡ 17)
-unfolding p o eq_z within before num is_below all_b first_b id_word coord_word edition_ok form1 form2 limits_of fields_ok rises_ok point_ok points_ok up16 width ground above one_left nodes_from nodes_for place_in list_ok order_list_ok sheet_size shape_ok form_ok range_ok within_no pack_no first given
+unfolding p o eq_z within before num is_below all_b first_b id_word coord_word edition_ok form1 form2 limits_of fields_ok rises_ok point_ok points_ok up16 width ground_level above one_left nodes_from nodes_for place_in list_ok order_list_ok sheet_size shape_ok form_ok range_ok within_no pack_no first given
 numbers = (refl, refl, refl, refl, refl, refl, refl, refl, refl)
 
 -- the same numbers under the limits of form 2
@@ -69,7 +69,7 @@ second : (pack_no 2 2 p o 7 23 ≡ 0)
     × (pack_no 2 2 (pos 1 ∷ pos 0 ∷ pos 0 ∷ pos 1 ∷ pos 10 ∷ pos 0 ∷ []) (pos 0 ∷ pos 0 ∷ []) 7 0 ≡ 5)
     × (pack_no 2 2 p (pos 1 ∷ pos 1 ∷ []) 7 0 ≡ 6)
     × (pack_no 2 2 p o 7 24 ≡ 17)
-unfolding p o eq_z within before num is_below all_b first_b id_word coord_word edition_ok form1 form2 limits_of fields_ok rises_ok point_ok points_ok up16 width ground above one_left nodes_from nodes_for place_in list_ok order_list_ok sheet_size shape_ok form_ok range_ok within_no pack_no first given
+unfolding p o eq_z within before num is_below all_b first_b id_word coord_word edition_ok form1 form2 limits_of fields_ok rises_ok point_ok points_ok up16 width ground_level above one_left nodes_from nodes_for place_in list_ok order_list_ok sheet_size shape_ok form_ok range_ok within_no pack_no first given
 second = (refl, refl, refl, refl, refl, refl)
 
 -- each form's own limits: 1,000 points and 60,000, and coordinates one past those of form 1 and one past those of form 2
@@ -81,7 +81,7 @@ limits : (range_ok form1 1000 1 ≡ true) × (range_ok form1 1001 1 ≡ false) �
     × (pack_no 1 1 (far (pos 1000001)) (pos 0 ∷ []) 7 18 ≡ 5)
     × (pack_no 2 1 (far (negsuc 999999999)) (pos 0 ∷ []) 7 18 ≡ 0)
     × (pack_no 2 1 (far (negsuc 1000000000)) (pos 0 ∷ []) 7 18 ≡ 5)
-unfolding far eq_z within before num is_below all_b first_b id_word coord_word edition_ok form1 form2 limits_of fields_ok rises_ok point_ok points_ok up16 width ground above one_left nodes_from nodes_for place_in list_ok order_list_ok sheet_size shape_ok form_ok range_ok within_no pack_no first given
+unfolding far eq_z within before num is_below all_b first_b id_word coord_word edition_ok form1 form2 limits_of fields_ok rises_ok point_ok points_ok up16 width ground_level above one_left nodes_from nodes_for place_in list_ok order_list_ok sheet_size shape_ok form_ok range_ok within_no pack_no first given
 limits = (refl, refl, refl, refl, refl, refl, refl, refl)
 
 -- the return trip of a sheet that only form 2 allows

@@ -9,7 +9,7 @@ use lib.Dec.{ltb, leb}
 use borrow.Author.Tests.{lt-ltb, le-ltb, ltb-true, ltb-false, leb-true, leb-false, le-leb, lt-leb}
 use Rattle.integers.proofs.Bools.{decide}
 use Rattle.sheet.specs.declared.Due.{Due}
-use Rattle.pack.specs.Tree.{up16, width, ground, above, one_left, nodes_from, nodes_for, node_on, node_from}
+use Rattle.pack.specs.Tree.{up16, width, ground_level, above, one_left, nodes_from, nodes_for, node_on, node_from}
 use Rattle.pack.specs.Work.{follow}
 
 -- two nodes with the same numbers are one
@@ -246,10 +246,10 @@ pub record Counted (n k m : ℕ) : Type 0 where
   pub total : nodes_for n ≡ lev.head + nodes_from (suc fuel) lev
 
 pub counted_start : (n : ℕ) → Counted n (up16 n) (up16 n)
-unfolding nodes_for one_left nodes_from ground width up16
-counted_start zero = record { fuel = 0; lev = ground 0; width_is = refl; sum = refl; enough = omega arith; total = refl }
+unfolding nodes_for one_left nodes_from ground_level width up16
+counted_start zero = record { fuel = 0; lev = ground_level 0; width_is = refl; sum = refl; enough = omega arith; total = refl }
 counted_start (suc n) =
-    record { fuel = n; lev = ground (suc n); width_is = ap up16 z; sum = omega arith; enough = omega arith; total = omega arith }
+    record { fuel = n; lev = ground_level (suc n); width_is = ap up16 z; sum = omega arith; enough = omega arith; total = omega arith }
   where
     z : suc n - 0 ≡ suc n
     z = omega arith

@@ -18,7 +18,7 @@ use Rattle.words.proofs.AllLaws.{all_make}
 use Rattle.sheet.specs.declared.Due.{Due}
 use Rattle.sheet.specs.Nodes.{level_word, first_word, count_word, level_of, first_of, count_of, same_level, due_of, run_ok, is_last, end_ok, node_rule, node_ok, table_ok}
 use Rattle.sheet.proofs.TreeLaws.{due_same, due_up, child, leaf}
-use Rattle.pack.specs.Tree.{width, ground, nodes_from, nodes_for, node_on, node_from, plan_of, plan_count}
+use Rattle.pack.specs.Tree.{width, ground_level, nodes_from, nodes_for, node_on, node_from, plan_of, plan_count}
 use Rattle.pack.proofs.PlanLaws.{due_ext, wide, Stood, stood, follow_same, follow_up, reach, level_low, node_top, nodes_few, nodes_some}
 
 pub num_of : (z : ℤ) (a : ℕ) → z ≡ pos a → num z ≡ a
@@ -28,18 +28,18 @@ num_of z a e = rw e
 -- ---- the plan over n points
 
 pub node_stood : (n j : ℕ) → j < nodes_for n → Stood (plan_of n (j + 1)) j (nodes_for n) (plan_of n j)
-unfolding plan_of nodes_for ground nodes_from
+unfolding plan_of nodes_for ground_level nodes_from
 node_stood zero j h = absurd (none h)
   where
     none : j < nodes_for zero → ⊥
     none x = omega arith
-node_stood (suc n) j h = stood (suc n) (ground (suc n)) j (nodes_for (suc n)) (omega arith) (omega arith) (omega arith) (omega arith) h
+node_stood (suc n) j h = stood (suc n) (ground_level (suc n)) j (nodes_for (suc n)) (omega arith) (omega arith) (omega arith) (omega arith) h
 
 -- the first node of all
-pub plan_zero : (n : ℕ) → 0 < nodes_for n → plan_of n 0 ≡ ground n
-unfolding plan_of nodes_for nodes_from node_from ground node_on
+pub plan_zero : (n : ℕ) → 0 < nodes_for n → plan_of n 0 ≡ ground_level n
+unfolding plan_of nodes_for nodes_from node_from ground_level node_on
 plan_zero zero h = absurd (omega arith)
-plan_zero (suc n) h = rw (lt-ltb 0 (0 + width (ground (suc n))) (omega (arith, (wide (ground (suc n))).over)))
+plan_zero (suc n) h = rw (lt-ltb 0 (0 + width (ground_level (suc n))) (omega (arith, (wide (ground_level (suc n))).over)))
 
 -- a node covers 16 where more is left, and the rest else
 pub count_whole : (d : Due) → d.next + 16 < d.top → plan_count d ≡ 16
@@ -61,20 +61,20 @@ count_range d h =
 
 -- at most 7 levels above the first, up to 16 to the eighth points
 pub plan_level : (n j : ℕ) → n ≤ 4294967296 → j < nodes_for n → (plan_of n j).level < 8
-unfolding plan_of nodes_for ground reach nodes_from
+unfolding plan_of nodes_for ground_level reach nodes_from
 plan_level zero j g h = absurd (none h)
   where
     none : j < nodes_for zero → ⊥
     none x = omega arith
-plan_level (suc n) j g h = let l = level_low 7 (suc n) (ground (suc n)) j (omega arith) (omega arith) (omega arith) (omega arith) in omega arith
+plan_level (suc n) j g h = let l = level_low 7 (suc n) (ground_level (suc n)) j (omega arith) (omega arith) (omega arith) (omega arith) in omega arith
 
 pub plan_few : (n : ℕ) → 5 * nodes_for n ≤ n + 15
-unfolding nodes_for ground
-plan_few n = omega (arith, nodes_few n (ground n))
+unfolding nodes_for ground_level
+plan_few n = omega (arith, nodes_few n (ground_level n))
 
 pub plan_top : (n j b : ℕ) → n ≤ b → j ≤ b → (plan_of n j).top ≤ b
-unfolding plan_of ground
-plan_top n j b g h = node_top n (ground n) j b g h
+unfolding plan_of ground_level
+plan_top n j b g h = node_top n (ground_level n) j b g h
 
 -- a planned node's numbers are small
 pub plan_fits : (n j : ℕ) (d : Due) → n ≤ 60000 → j < nodes_for n → d ≡ plan_of n j → (d.level < 8) × (d.next < d.top) × (d.top ≤ 60000)
@@ -83,8 +83,8 @@ plan_fits n j d g h e =
     (plan_level n j (omega arith) h, (node_stood n j h).some, plan_top n j 60000 g (omega (arith, plan_few n)))
 
 pub plan_some : (n : ℕ) → 0 < n → 0 < nodes_for n
-unfolding nodes_for ground
-plan_some n h = omega (arith, nodes_some n (ground n) (omega arith) (omega arith))
+unfolding nodes_for ground_level
+plan_some n h = omega (arith, nodes_some n (ground_level n) (omega arith) (omega arith))
 
 -- ---- a list whose nodes have the planned words
 
@@ -148,7 +148,7 @@ module _ (w : List ℤ) (n : ℕ) (p : Planned w n) where
 
   -- what is due of a node is what is planned
   due_plan : (j : ℕ) → j < nodes_for n → due_of w n j ≡ plan_of n j
-  unfolding due_of ground
+  unfolding due_of ground_level
   due_plan zero h = sym (plan_zero n h)
   due_plan (suc j) h =
       let x = plan_of n j in

@@ -13,8 +13,8 @@ unfoldable pub width : Due → ℕ
 width d = up16 (d.top - d.next)
 
 -- level 0, over n places
-unfoldable pub ground : ℕ → Due
-ground n = record { level = 0; head = 0; next = 0; top = n }
+unfoldable pub ground_level : ℕ → Due
+ground_level n = record { level = 0; head = 0; next = 0; top = n }
 
 -- the level above, which covers all nodes of this one
 unfoldable pub above : Due → Due
@@ -32,7 +32,7 @@ nodes_from (suc f) d = width d + cond (one_left d) 0 (nodes_from f (above d))
 
 -- the number of nodes of a tree over n points [S23, S24]
 unfoldable pub nodes_for : ℕ → ℕ
-nodes_for n = nodes_from n (ground n)
+nodes_for n = nodes_from n (ground_level n)
 
 -- node i of a level: 16 for each node before it
 unfoldable pub node_on : Due → ℕ → Due
@@ -45,7 +45,7 @@ node_from (suc f) d j = cond (ltb j (d.head + width d)) (node_on d (j - d.head))
 
 -- node j of a tree over n points [S23]
 unfoldable pub plan_of : ℕ → ℕ → Due
-plan_of n j = node_from n (ground n) j
+plan_of n j = node_from n (ground_level n) j
 
 -- how many a node covers: 16, or the rest
 unfoldable pub plan_count : Due → ℕ

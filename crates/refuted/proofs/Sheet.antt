@@ -23,7 +23,7 @@ use Rattle.sheet.specs.Nodes.{level_of, first_of, count_of, same_level, due_next
 use Rattle.sheet.specs.Boxes.{side_of, coord_of, better, best, tight_side, tight_ok}
 use Rattle.sheet.specs.Open.{body_no, open_no, sheet_no}
 use Rattle.pack.specs.Order.{place_in, list_ok, order_list_ok}
-use Rattle.pack.specs.Tree.{up16, width, ground, above, one_left, nodes_from, nodes_for}
+use Rattle.pack.specs.Tree.{up16, width, ground_level, above, one_left, nodes_from, nodes_for}
 use Rattle.pack.specs.Packed.{flat_word, body_word, pack_word, sheet_size, packed, trailer_word}
 use Rattle.pack.specs.Pack.{shape_ok, form_ok, range_ok, within_no, pack_no, pack_out, length_for}
 use Rattle.refuted.proofs.Cases.{words, pump_sheet}
@@ -129,15 +129,15 @@ form_wide_wrong = (refl, refl)
 
 -- "It makes nodes of 16, [..] until one node is left": with two nodes left it is not at its end. "17 gives 3". [S23, S24]
 abbrev two_left : ℕ → ℕ
-two_left n = width (ground n) + cond (leb (width (ground n)) 2) 0 1
+two_left n = width (ground_level n) + cond (leb (width (ground_level n)) 2) 0 1
 
 pub stops_early_wrong : (two_left 17 ≡ 2) × (nodes_for 17 ≡ 3)
-unfolding nodes_for nodes_from one_left width ground above up16
+unfolding nodes_for nodes_from one_left width ground_level above up16
 stops_early_wrong = (refl, refl)
 
 -- "a packer that writes nothing": of one point at (4, 0), the lent words do not stay as they were. [S25, V4]
 pub writes_nothing_wrong : pack_out 1 1 (words (1 ∷ 4 ∷ 0 ∷ [])) (words (0 ∷ [])) 3 (replicate 18 (pos 0)) ≡ replicate 18 (pos 0) → ⊥
-unfolding pack_out pack_no within_no answer first given shape_ok form_ok range_ok edition_ok points_ok point_ok fields_ok rises_ok id_word coord_word within order_list_ok list_ok is_below place_in first_b sheet_size nodes_for nodes_from one_left width ground above up16 eq_z all_b limits_of form1 packed tab pack_word body_word flat_word
+unfolding pack_out pack_no within_no answer first given shape_ok form_ok range_ok edition_ok points_ok point_ok fields_ok rises_ok id_word coord_word within order_list_ok list_ok is_below place_in first_b sheet_size nodes_for nodes_from one_left width ground_level above up16 eq_z all_b limits_of form1 packed tab pack_word body_word flat_word
 writes_nothing_wrong e = true≢false (ap (λ (l : List ℤ). eq_z (get_or l 0 (pos 0)) (pos 1)) e)
 
 -- As much of the sheet as there is room for. Refused by 17, the call "leaves lent memory [..] as they stood". [N3, N17]
@@ -147,7 +147,7 @@ written p o n ed out = take (length out) (packed 1 p o n ed)
 pub touches_refused_wrong :
     (get_or (written (words (1 ∷ 4 ∷ 0 ∷ [])) (words (0 ∷ [])) 1 3 (replicate 17 (pos 0))) 0 (pos 0) ≡ pos 1)
     × (pack_out 1 1 (words (1 ∷ 4 ∷ 0 ∷ [])) (words (0 ∷ [])) 3 (replicate 17 (pos 0)) ≡ replicate 17 (pos 0))
-unfolding pack_out pack_no within_no answer first given shape_ok form_ok range_ok edition_ok points_ok point_ok fields_ok rises_ok id_word coord_word within order_list_ok list_ok is_below place_in first_b sheet_size nodes_for nodes_from one_left width ground above up16 eq_z all_b limits_of form1 packed tab pack_word body_word flat_word
+unfolding pack_out pack_no within_no answer first given shape_ok form_ok range_ok edition_ok points_ok point_ok fields_ok rises_ok id_word coord_word within order_list_ok list_ok is_below place_in first_b sheet_size nodes_for nodes_from one_left width ground_level above up16 eq_z all_b limits_of form1 packed tab pack_word body_word flat_word
 touches_refused_wrong = (refl, refl)
 
 -- All sheets say form 1, whatever form is asked for: the last word of a sheet of form 2 is 2. [Y4]
@@ -157,7 +157,7 @@ always_one form p o n ed = packed 1 p o n ed
 pub always_one_wrong :
     (get_or (always_one 2 (words (1 ∷ 4 ∷ 0 ∷ [])) (words (0 ∷ [])) 1 3) 17 (pos 0) ≡ pos 1)
     × (get_or (pack_out 2 1 (words (1 ∷ 4 ∷ 0 ∷ [])) (words (0 ∷ [])) 3 (replicate 18 (pos 0))) 17 (pos 0) ≡ pos 2)
-unfolding pack_out pack_no within_no answer first given shape_ok form_ok range_ok edition_ok points_ok point_ok fields_ok rises_ok id_word coord_word within order_list_ok list_ok is_below place_in first_b sheet_size nodes_for nodes_from one_left width ground above up16 eq_z all_b limits_of form1 form2 packed tab pack_word trailer_word
+unfolding pack_out pack_no within_no answer first given shape_ok form_ok range_ok edition_ok points_ok point_ok fields_ok rises_ok id_word coord_word within order_list_ok list_ok is_below place_in first_b sheet_size nodes_for nodes_from one_left width ground_level above up16 eq_z all_b limits_of form1 form2 packed tab pack_word trailer_word
 always_one_wrong = (refl, refl)
 
 -- The length of a sheet without its ranks: a caller would lend n words too few. "exactly span+6 words". [S29]
@@ -165,7 +165,7 @@ abbrev ranks_forgotten : ℕ → ℕ
 ranks_forgotten n = 4 * n + 7 * nodes_for n + 6
 
 pub ranks_forgotten_wrong : (ranks_forgotten 2 ≡ 21) × (length_for 2 ≡ 23)
-unfolding length_for sheet_size nodes_for nodes_from one_left width ground above up16
+unfolding length_for sheet_size nodes_for nodes_from one_left width ground_level above up16
 ranks_forgotten_wrong = (refl, refl)
 
 -- 2 before 18. "2 for a form other than 1 or 2, in pack after 18": of form 3 and with no point words for one point it is 18. [Y4]

@@ -1,0 +1,19 @@
+use mathlib.Core.Path.{◌≡◌, refl, sym}
+use mathlib.Core.List.{List}
+use Prim.Native.Nat.{◌≤◌, ◌-◌, ◌*◌}
+use native.Mathlib.Omega.{arith}
+use lib.IntN.{ℤ}
+use lib.ListN.{length, length-set}
+use Rattle.words.proofs.Signs.{handed}
+use Rattle.pack.specs.Packed.{body_word}
+use Rattle.pack.specs.Work.{Holds}
+use Rattle.pack.proofs.PackedLaws.{point_word, holds_none, holds_more, holds_fewer}
+use Rattle.pack.proofs.write.put_points.Goals as goal
+
+pub loop-i-preserved : goal.loop-i-preserved
+loop-i-preserved c =
+    let a = c in (
+      omega arith,
+      simp length-set a.loop-i.invariant.1,
+      λ o. holds_more a.loop-i.out _ a.loop-i.i _ (omega arith) (handed c.out-1.given (sym (point_word _ o _ _ c.loop-i-test.true))) (a.loop-i.invariant.2 o),
+    )

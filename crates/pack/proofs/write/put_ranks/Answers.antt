@@ -1,0 +1,23 @@
+use mathlib.Core.Path.{◌≡◌, refl}
+use mathlib.Core.List.{List}
+use Prim.Native.Nat.{◌≤◌, ◌-◌, ◌*◌}
+use native.Mathlib.Omega.{arith}
+use lib.IntN.{ℤ}
+use lib.ListN.{length, length-set}
+use Rattle.words.proofs.Signs.{handed}
+use Rattle.pack.specs.Packed.{body_word}
+use Rattle.pack.specs.Work.{Holds}
+use Rattle.pack.proofs.PackedLaws.{Ranked, ranked_start, ranked_more, ranked_done}
+use Rattle.pack.proofs.write.put_ranks.Goals as goal
+
+pub loop-k-preserved : goal.loop-k-preserved
+loop-k-preserved c =
+    let t = c in
+    let a = t in (
+      omega arith,
+      simp length-set a.loop-k.invariant.1,
+      λ p h. rw c.position.ensures.value (ranked_more _ _ _ _ _ _ a.requires.3 (a.loop-k.invariant.2 p h) _ t.loop-k-test.true (handed c.word.type_inv c.word.ensures)),
+    )
+
+pub returns : goal.returns
+returns c = λ p h. ranked_done _ _ _ _ _ _ c.requires.3 (c.loop-k.invariant.2 p h) c.loop-k-test.false

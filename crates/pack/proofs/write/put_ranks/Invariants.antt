@@ -1,0 +1,17 @@
+use mathlib.Core.Path.{◌≡◌, refl}
+use mathlib.Core.List.{List}
+use Prim.Native.Nat.{◌≤◌, ◌-◌, ◌*◌}
+use native.Mathlib.Omega.{arith}
+use lib.IntN.{ℤ}
+use lib.ListN.{length, length-set}
+use Rattle.words.proofs.Signs.{handed}
+use Rattle.pack.specs.Packed.{body_word}
+use Rattle.pack.specs.Work.{Holds}
+use Rattle.pack.proofs.PackedLaws.{Ranked, ranked_start, ranked_more, ranked_done}
+use Rattle.pack.proofs.write.put_ranks.Given as goal
+
+abbrev pub invariant-loop-k : goal.invariant-loop-k
+invariant-loop-k l = (l.k ≤ l.n) × (length l.out ≡ length l.initial.out) × ((p : List ℤ) → Holds l.initial.out (body_word p l.o l.n) (4 * l.n) → Ranked p l.o l.n (length l.initial.out) l.out l.k)
+
+abbrev pub decreases-loop-k : goal.decreases-loop-k
+decreases-loop-k l = l.n - l.k
