@@ -5,11 +5,9 @@
 --     Once         one input, one answer, one final state of the slots
 --     Story        demand 3 over histories
 --     Examples     the book on small values, by computation
---     Rows         what the walks by hand share
 pub mod TakeLaws
 pub mod CoreLaws
 pub mod SliceLaws
 pub mod Once
 pub mod Story
 pub mod Examples
-pub mod Rows
