@@ -37,7 +37,7 @@ use Rattle.list.specs.RingList.{unblocked, ring_pair_by}
 use Rattle.sheet.specs.Layout.{points, nodes}
 use Rattle.sheet.specs.Places.{spot_of, points_of}
 use Rattle.sheet.specs.Open.{Opens}
-use Rattle.bits.specs.Set.{at, kept, card_in, card}
+use Rattle.bits.specs.Set.{at, card_in, card}
 use Rattle.bits.proofs.SetLaws.{not_kept_at}
 use Rattle.bits.proofs.CardLaws.{card_first}
 use Rattle.walk.specs.declared.Blocker.{Blocker}
