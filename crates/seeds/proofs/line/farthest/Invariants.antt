@@ -1,0 +1,12 @@
+-- `seeds::line::farthest` answers one of the 24. Assumes nothing.
+use mathlib.Core.Logic.{⊎_elim}
+use Prim.Native.Nat.{◌-◌, ◌≤◌, ◌<◌}
+use native.Mathlib.Omega.{arith}
+use Rattle.seeds.proofs.LineLaws.{lined_at}
+use Rattle.seeds.proofs.line.farthest.Given as goal
+
+abbrev pub invariant-loop-k : goal.invariant-loop-k
+invariant-loop-k l = (l.far < 24) × (l.k ≤ 24)
+
+abbrev pub decreases-loop-k : goal.decreases-loop-k
+decreases-loop-k l = 24 - l.k

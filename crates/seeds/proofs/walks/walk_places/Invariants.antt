@@ -1,0 +1,22 @@
+-- `seeds::walks::walk_places` meets its contract: after i turns the first i places are dealt with. Assumes nothing.
+use mathlib.Core.Path.{◌≡◌, refl, ◌∙◌}
+use mathlib.Core.Logic.{inr}
+use Prim.Native.Nat.{◌+◌, ◌-◌, ◌≤◌, ◌<◌}
+use native.Mathlib.Omega.{arith}
+use lib.ListN.{length}
+use Rattle.walk.proofs.FilterCode.{still_holds}
+use Rattle.seeds.specs.Line.{Lined, Known}
+use Rattle.seeds.specs.Covers.{On, Deals}
+use Rattle.seeds.proofs.LineLaws.{line_same, line_holds, line_after, known_in}
+use Rattle.seeds.proofs.CoverLaws.{on_in, deals_none, deals_next, deals_as}
+use Rattle.seeds.proofs.walks.walk_places.Given as goal
+
+abbrev pub invariant-loop-i : goal.invariant-loop-i
+invariant-loop-i l =
+    Lined (Known (On l.w l.n) l.initial.xs l.initial.ys l.initial.on.line.count) l.xs l.ys l.on.line.count
+    × Deals (Known (On l.w l.n) l.initial.xs l.initial.ys l.initial.on.line.count) l.w l.n l.q (λ k. (l.first ≤ k) × (k < l.first + l.i)) l.initial.bits l.bits
+    × (length l.bits ≡ length l.initial.bits)
+    × (l.i ≤ l.count)
+
+abbrev pub decreases-loop-i : goal.decreases-loop-i
+decreases-loop-i l = l.count - l.i
