@@ -89,6 +89,7 @@ form_self f = same_of_key f f (record { p_edition_is = refl; q_edition_is = refl
 -- a form that stands in it has its key in it
 pub in_keys : (l : List Form) (f : Form) → Memᴰ f l → key_in l f ≡ true
 unfolding key_in
+in_keys [] f m = elim m [ ]
 in_keys (g ∷ l) f (Memᴰ.head e) = rw (e, form_self g)
 in_keys (g ∷ l) f (Memᴰ.tail m) = ⊎_elim (λ (e : same_form g f ≡ true). rw e) (λ (e : same_form g f ≡ false). rw (e, in_keys l f m)) (decide (same_form g f))
 

@@ -3,7 +3,7 @@
 --     DepotLaws    what taking a form decides; the loop that looks for its key
 --     TakeLaws     what each answer means and leaves; one input, one answer
 --     KeyLaws      forms with one key
---     FormRows     what the walks by hand share
+--     FormRows     the first so many of 64 forms, lent
 pub mod FormLaws
 pub mod DepotLaws
 pub mod TakeLaws

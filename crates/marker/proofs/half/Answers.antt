@@ -1,12 +1,11 @@
 -- `marker::half` meets its contract. Assumes nothing.
 use mathlib.Core.Path.{sym, subst}
-use lib.Dec.{T}
 use lib.IntN.{ℤ}
-use lib.Ieee.{binary64, in_float, mul, of_int, of_bits}
+use lib.Ieee.{binary64, mul, of_int, of_bits}
 use mir.Syntax.{w64}
 use mir.ValLaws.{to_z-of_z}
 use Rattle.marker.specs.Half.{HalfOf}
-use Rattle.marker.proofs.Exactly.{whole, is_half}
+use Rattle.marker.proofs.Exactly.{is_half}
 use Rattle.marker.proofs.half.Goals as goal
 
 pub returns : goal.returns

@@ -5,7 +5,6 @@ use mathlib.Core.Bool.{not, true, false}
 use Prim.Native.Nat.{ℕ}
 use lib.IntN.{ℤ, ◌+ℤ◌}
 use mir.Facts.{to_z-of_z}
-use Rattle.integers.specs.Bounds.{Within}
 use Rattle.words.specs.First.{given}
 use Rattle.marker.specs.Half.{HalfOf}
 use Rattle.marker.specs.Mark.{coordinate, on_map, mark_no, MiddleAt}

@@ -2,7 +2,7 @@
 use mir.Syntax.{w64}
 use mir.Facts.{to_z-of_z}
 use Rattle.integers.proofs.Order.{sfits_in}
-use Rattle.integers.proofs.Cast.{cast_wide, wide_is}
+use Rattle.integers.proofs.Cast.{wide_is}
 use Rattle.marker.proofs.Coordinates.{sum_in}
 use Rattle.marker.proofs.sum.Goals as goal
 

@@ -1,13 +1,10 @@
 use mathlib.Core.Bool.{not}
 use mathlib.Core.Path.{refl, ap, ◌∙◌}
-use Prim.Native.Nat.{◌-◌}
-use native.Mathlib.Omega.{arith}
-use lib.ListN.{length}
 use Rattle.integers.proofs.Bools.{passed, failed}
 use Rattle.words.specs.Word.{num, is_below}
 use Rattle.words.proofs.Signs.{handed}
 use Rattle.pack.proofs.OrderLaws.{list_range}
-use Rattle.pack.proofs.SeenLaws.{Seen, in_room, seen_start, seen_more, seen_twice, seen_done}
+use Rattle.pack.proofs.SeenLaws.{in_room, seen_more, seen_twice, seen_done}
 use Rattle.pack.proofs.order.each_once.Goals as goal
 
 pub returns-then-not-below : goal.returns-then-not-below

@@ -1,12 +1,6 @@
-use mathlib.Core.Path.{refl, ap, ◌∙◌}
 use Prim.Native.Nat.{◌-◌}
-use native.Mathlib.Omega.{arith}
 use lib.ListN.{length}
-use Rattle.integers.proofs.Bools.{passed, failed}
-use Rattle.words.specs.Word.{num, is_below}
-use Rattle.words.proofs.Signs.{handed}
-use Rattle.pack.proofs.OrderLaws.{list_range}
-use Rattle.pack.proofs.SeenLaws.{Seen, in_room, seen_start, seen_more, seen_twice, seen_done}
+use Rattle.pack.proofs.SeenLaws.{Seen}
 use Rattle.pack.proofs.order.each_once.Given as goal
 
 abbrev pub invariant-loop-k : goal.invariant-loop-k

@@ -1,5 +1,5 @@
 use mathlib.Core.Path.{sym, subst}
-use Prim.Native.Nat.{ℕ, ◌≤◌}
+use Prim.Native.Nat.{ℕ}
 use native.Mathlib.Omega.{arith}
 use Rattle.pack.specs.Tree.{up16}
 use Rattle.pack.proofs.PlanLaws.{Counted, counted_start, counted_more, counted_done, counted_le}

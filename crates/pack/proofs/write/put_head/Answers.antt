@@ -1,16 +1,9 @@
-use mathlib.Core.Path.{◌≡◌, refl, ◌∙◌}
-use mathlib.Core.Bool.{true}
-use mathlib.Core.List.{List}
-use Prim.Native.Nat.{◌≤◌, ◌-◌, ◌*◌, ◌+◌}
+use mathlib.Core.Path.{◌∙◌}
 use native.Mathlib.Omega.{arith}
-use lib.IntN.{ℤ}
-use lib.ListN.{length, length-set}
+use lib.ListN.{length-set}
 use Rattle.words.proofs.Signs.{handed}
-use Rattle.pack.specs.Order.{order_list_ok}
-use Rattle.pack.specs.Packed.{body_word}
-use Rattle.pack.specs.Work.{Holds}
-use Rattle.pack.proofs.TableLaws.{plan_fits, plan_few}
-use Rattle.pack.proofs.PackedLaws.{node_more, head_is, holds_fewer}
+use Rattle.pack.proofs.TableLaws.{plan_fits}
+use Rattle.pack.proofs.PackedLaws.{node_more, head_is}
 use Rattle.pack.proofs.write.put_head.Goals as goal
 
 pub head_word-requires : goal.head_word-requires

@@ -1,16 +1,13 @@
-use mathlib.Core.Path.{◌≡◌, refl, sym, ap, ◌∙◌}
+use mathlib.Core.Path.{◌≡◌}
 use mathlib.Core.Bool.{true}
 use mathlib.Core.List.{List}
 use Prim.Native.Nat.{◌≤◌, ◌<◌, ◌-◌, ◌*◌, ◌+◌}
-use native.Mathlib.Omega.{arith}
 use lib.IntN.{ℤ}
 use lib.ListN.{length}
-use Rattle.pack.specs.Tree.{ground_level, plan_of}
+use Rattle.pack.specs.Tree.{plan_of}
 use Rattle.pack.specs.Order.{order_list_ok}
 use Rattle.pack.specs.Packed.{body_word}
-use Rattle.pack.specs.Work.{follow, Holds}
-use Rattle.pack.proofs.TableLaws.{plan_zero, plan_fits, plan_few, node_stood}
-use Rattle.pack.proofs.PackedLaws.{holds_fewer}
+use Rattle.pack.specs.Work.{Holds}
 use Rattle.pack.proofs.write.put_nodes.Given as goal
 
 abbrev pub invariant-loop-j : goal.invariant-loop-j

@@ -1,12 +1,8 @@
-use mathlib.Core.Path.{◌≡◌, refl, sym}
-use mathlib.Core.List.{List}
-use Prim.Native.Nat.{◌≤◌, ◌-◌, ◌*◌, ◌+◌}
+use mathlib.Core.Path.{sym}
+use Prim.Native.Nat.{◌*◌, ◌+◌}
 use native.Mathlib.Omega.{arith}
-use lib.IntN.{ℤ}
-use lib.ListN.{length, length-set}
+use lib.ListN.{length-set}
 use Rattle.words.proofs.Signs.{handed}
-use Rattle.pack.specs.Packed.{body_word}
-use Rattle.pack.specs.Work.{Holds}
 use Rattle.pack.proofs.PackedLaws.{order_word_lem, holds_more, holds_fewer}
 use Rattle.pack.proofs.write.put_order.Goals as goal
 

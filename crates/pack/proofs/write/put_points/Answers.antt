@@ -1,13 +1,8 @@
-use mathlib.Core.Path.{◌≡◌, refl, sym}
-use mathlib.Core.List.{List}
-use Prim.Native.Nat.{◌≤◌, ◌-◌, ◌*◌}
+use mathlib.Core.Path.{sym}
 use native.Mathlib.Omega.{arith}
-use lib.IntN.{ℤ}
-use lib.ListN.{length, length-set}
+use lib.ListN.{length-set}
 use Rattle.words.proofs.Signs.{handed}
-use Rattle.pack.specs.Packed.{body_word}
-use Rattle.pack.specs.Work.{Holds}
-use Rattle.pack.proofs.PackedLaws.{point_word, holds_none, holds_more, holds_fewer}
+use Rattle.pack.proofs.PackedLaws.{point_word, holds_more}
 use Rattle.pack.proofs.write.put_points.Goals as goal
 
 pub loop-i-preserved : goal.loop-i-preserved

@@ -1,13 +1,7 @@
-use mathlib.Core.Path.{◌≡◌, refl}
-use mathlib.Core.List.{List}
-use Prim.Native.Nat.{◌≤◌, ◌-◌, ◌*◌}
 use native.Mathlib.Omega.{arith}
-use lib.IntN.{ℤ}
-use lib.ListN.{length, length-set}
+use lib.ListN.{length-set}
 use Rattle.words.proofs.Signs.{handed}
-use Rattle.pack.specs.Packed.{body_word}
-use Rattle.pack.specs.Work.{Holds}
-use Rattle.pack.proofs.PackedLaws.{Ranked, ranked_start, ranked_more, ranked_done}
+use Rattle.pack.proofs.PackedLaws.{ranked_more, ranked_done}
 use Rattle.pack.proofs.write.put_ranks.Goals as goal
 
 pub loop-k-preserved : goal.loop-k-preserved

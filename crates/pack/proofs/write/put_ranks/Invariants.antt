@@ -1,13 +1,11 @@
-use mathlib.Core.Path.{◌≡◌, refl}
+use mathlib.Core.Path.{◌≡◌}
 use mathlib.Core.List.{List}
 use Prim.Native.Nat.{◌≤◌, ◌-◌, ◌*◌}
-use native.Mathlib.Omega.{arith}
 use lib.IntN.{ℤ}
-use lib.ListN.{length, length-set}
-use Rattle.words.proofs.Signs.{handed}
+use lib.ListN.{length}
 use Rattle.pack.specs.Packed.{body_word}
 use Rattle.pack.specs.Work.{Holds}
-use Rattle.pack.proofs.PackedLaws.{Ranked, ranked_start, ranked_more, ranked_done}
+use Rattle.pack.proofs.PackedLaws.{Ranked}
 use Rattle.pack.proofs.write.put_ranks.Given as goal
 
 abbrev pub invariant-loop-k : goal.invariant-loop-k

@@ -1,6 +1,4 @@
 -- `pack::write::put_sides` meets its contract. Assumes nothing.
-use native.Mathlib.Omega.{arith}
-use lib.ListN.{length-set}
 use Rattle.sheet.proofs.BoxLaws.{back}
 use Rattle.pack.specs.Work.{sides_put}
 use Rattle.pack.proofs.write.put_sides.Goals as goal

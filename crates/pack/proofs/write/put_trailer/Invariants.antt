@@ -1,15 +1,11 @@
-use mathlib.Core.Path.{◌≡◌, refl, ◌∙◌}
+use mathlib.Core.Path.{◌≡◌}
 use mathlib.Core.List.{List}
 use Prim.Native.Nat.{◌≤◌, ◌-◌, ◌*◌, ◌+◌}
-use native.Mathlib.Omega.{arith}
 use lib.IntN.{ℤ}
-use lib.ListN.{length, length-set}
-use Rattle.words.proofs.Signs.{handed}
+use lib.ListN.{length}
 use Rattle.pack.specs.Tree.{nodes_for}
 use Rattle.pack.specs.Packed.{body_word, pack_word}
 use Rattle.pack.specs.Work.{Holds}
-use Rattle.pack.proofs.TableLaws.{plan_few}
-use Rattle.pack.proofs.PackedLaws.{sheet_size_lem, trail_start, trail_more, trail_done}
 use Rattle.pack.proofs.write.put_trailer.Given as goal
 
 abbrev pub invariant-loop-t : goal.invariant-loop-t
