@@ -22,7 +22,6 @@ use Rattle.sheet.proofs.SheetLaws.{by_counts}
 use Rattle.sheet.proofs.RangeLaws.{spot_in}
 use Rattle.bits.specs.Set.{kept}
 use Rattle.walk.specs.FilterWalk.{keeps_by, keeps_opened}
-use Rattle.walk.specs.RingWalk.{clear}
 use Rattle.walk.proofs.Meaning.{keeps_opened_at_most_m, pair_opened}
 use Rattle.list.specs.declared.Key.{Key}
 use Rattle.list.specs.declared.Pair.{Pair}
