@@ -1155,33 +1155,33 @@ fn all_blind(seed: u64) -> Blind {
 
 // ---- what is written
 
-fn print_tally(t: Tally) {
-    line(b"without a ring pair", t.none);
-    line(b"ring pairs", t.pairs);
-    line(b"pages", t.pages);
-    line(b"last pages that are full", t.full);
+fn print_tally(rt: &impl Print, t: Tally) {
+    line(rt, b"without a ring pair", t.none);
+    line(rt, b"ring pairs", t.pairs);
+    line(rt, b"pages", t.pages);
+    line(rt, b"last pages that are full", t.full);
     if t.wrong == 0 {
-        io::write_all(libc::STDOUT_FILENO, b"agree\n");
+        let _ = rt.write_all(b"agree\n");
         return;
     }
-    line(b"otherwise", t.wrong);
+    line(rt, b"otherwise", t.wrong);
 }
 
-fn print_blind(b: Blind) {
-    line(b"pages that are equal", b.served);
-    line(b"pairs in them", b.pairs);
-    line(b"of keys that name a chamber of the other's", b.named);
-    line(b"equal refusals 26", b.refused[26]);
-    line(b"equal refusals 29", b.refused[29]);
-    line(b"equal refusals 9", b.refused[9]);
-    line(b"equal refusals 10", b.refused[10]);
-    line(b"equal refusals 21", b.refused[21]);
-    line(b"equal refusals 24", b.refused[24]);
-    line(b"runs in which positions moved", b.moved);
-    line(b"otherwise", b.wrong);
+fn print_blind(rt: &impl Print, b: Blind) {
+    line(rt, b"pages that are equal", b.served);
+    line(rt, b"pairs in them", b.pairs);
+    line(rt, b"of keys that name a chamber of the other's", b.named);
+    line(rt, b"equal refusals 26", b.refused[26]);
+    line(rt, b"equal refusals 29", b.refused[29]);
+    line(rt, b"equal refusals 9", b.refused[9]);
+    line(rt, b"equal refusals 10", b.refused[10]);
+    line(rt, b"equal refusals 21", b.refused[21]);
+    line(rt, b"equal refusals 24", b.refused[24]);
+    line(rt, b"runs in which positions moved", b.moved);
+    line(rt, b"otherwise", b.wrong);
 }
 
-fn main() {
+fn main(rt: HostRuntime) {
     let none = Tally {
         none: 0,
         pairs: 0,
@@ -1205,32 +1205,36 @@ fn main() {
         grid: true,
         divided: true,
     };
-    line(b"pairs of sets of 0 to 60 points", SMALL);
-    print_tally(all_small(circle, 88172645463325252, none));
-    line(b"pairs of sets of 1,000 points", LARGE);
-    print_tally(all_large(circle, 2463534242, none));
+    line(&rt, b"pairs of sets of 0 to 60 points", SMALL);
+    print_tally(&rt, all_small(circle, 88172645463325252, none));
+    line(&rt, b"pairs of sets of 1,000 points", LARGE);
+    print_tally(&rt, all_large(circle, 2463534242, none));
     line(
+        &rt,
         b"pairs of sets of 0 to 60 points, of form 2 and mixed",
         WIDE,
     );
-    print_tally(all_wide(362436069, none));
-    line(b"street grid: pairs of sets of 0 to 60 points", SMALL);
-    print_tally(all_small(streets, 521288629, none));
-    line(b"street grid: pairs of sets of 1,000 points", LARGE);
-    print_tally(all_large(streets, 88675123, none));
+    print_tally(&rt, all_wide(362436069, none));
+    line(&rt, b"street grid: pairs of sets of 0 to 60 points", SMALL);
+    print_tally(&rt, all_small(streets, 521288629, none));
+    line(&rt, b"street grid: pairs of sets of 1,000 points", LARGE);
+    print_tally(&rt, all_large(streets, 88675123, none));
     line(
+        &rt,
         b"two contractors: the first pairs of sets of 0 to 60 points",
         SMALL,
     );
-    print_tally(all_small(two_circles, 88172645463325252, none));
+    print_tally(&rt, all_small(two_circles, 88172645463325252, none));
     line(
+        &rt,
         b"two contractors, street grid: the pairs of sets of 0 to 60 points there",
         SMALL,
     );
-    print_tally(all_small(two_streets, 521288629, none));
+    print_tally(&rt, all_small(two_streets, 521288629, none));
     line(
+        &rt,
         b"two runs that differ in the ids of the other's chambers",
         BLIND,
     );
-    print_blind(all_blind(5783321));
+    print_blind(&rt, all_blind(5783321));
 }

@@ -518,20 +518,20 @@ fn played(seed: u64, tally: Tally) -> Game {
 // ---- what is written
 
 // All that was counted.
-fn report(t: Tally) {
-    line(b"histories", HISTORIES);
-    line(b"forms made", t.made);
-    line(b"not made 11", t.unmade[11]);
-    line(b"not made 16", t.unmade[16]);
-    line(b"issued", t.issued);
-    line(b"known", t.known);
-    line(b"refused 11", t.refused[11]);
-    line(b"refused 15", t.refused[15]);
-    line(b"refused 16", t.refused[16]);
-    line(b"otherwise", t.wrong);
+fn report(rt: &impl Print, t: Tally) {
+    line(rt, b"histories", HISTORIES);
+    line(rt, b"forms made", t.made);
+    line(rt, b"not made 11", t.unmade[11]);
+    line(rt, b"not made 16", t.unmade[16]);
+    line(rt, b"issued", t.issued);
+    line(rt, b"known", t.known);
+    line(rt, b"refused 11", t.refused[11]);
+    line(rt, b"refused 15", t.refused[15]);
+    line(rt, b"refused 16", t.refused[16]);
+    line(rt, b"otherwise", t.wrong);
 }
 
-fn main() {
+fn main(rt: HostRuntime) {
     let mut t = Tally {
         issued: 0,
         known: 0,
@@ -548,5 +548,5 @@ fn main() {
         seed = mixed(g.seed);
         i += 1;
     }
-    report(t);
+    report(&rt, t);
 }

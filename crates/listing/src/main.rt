@@ -1,7 +1,7 @@
 // Lists the ring pairs of two sheets: standard input has P's file bytes, then Q's.
 #![tactic(auto)]
 
-fn main() {
+fn main(rt: HostRuntime) {
     let mut room = printout::room();
-    printout::list(libc::STDIN_FILENO, &mut room);
+    let _ = printout::list(&rt, &mut rt.reader(), &mut room);
 }

@@ -1,22 +1,27 @@
 // Lists each of the files c00 to c65 of its folder, under its name.
 #![tactic(auto)]
 
-fn list_file(i: u8) {
-    let name = [b'c', b'0' + i / 10, b'0' + i % 10];
-    io::write_all(libc::STDOUT_FILENO, &name);
-    io::write_all(libc::STDOUT_FILENO, b"\n");
-    let fd = os::open_read(&name);
-    if fd < 0 {
-        os::fail(&name);
-        return;
+use std::alloc::AllocError;
+use std::fs;
+
+fn list_file(rt: &HostRuntime, i: u8) -> Result<(), AllocError> {
+    let name = format!(in rt.alloc(); "c{i:02}")?;
+    let _ = println!(rt; "{name}");
+    match fs::open(rt, &name) {
+        Ok(mut file) => {
+            let mut room = printout::room();
+            let _ = printout::list(rt, &mut file, &mut room);
+        }
+        Err(e) => {
+            let _ = eprintln!(rt; "{name}: {e}");
+        }
     }
-    let mut room = printout::room();
-    printout::list(fd, &mut room);
-    libc::close(fd);
+    Ok(())
 }
 
-fn main() {
+fn main(rt: HostRuntime) -> Result<(), AllocError> {
     for i in 0..66u8 {
-        list_file(i);
+        list_file(&rt, i)?;
     }
+    Ok(())
 }

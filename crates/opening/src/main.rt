@@ -7,34 +7,32 @@
 ghost use Rattle.std.specs.Prelude.{◌≡◌, ◌≤◌, length};
 
 use input::Got;
-use libc::{STDIN_FILENO, STDOUT_FILENO};
 
 // The words of a sheet of 60,000 points and 24,000 nodes.
 const MOST: usize = 468006;
 
-fn print(n: u64) {
-    io::write_all(STDOUT_FILENO, b" ");
-    io::print_decimal(STDOUT_FILENO, n);
+fn print(rt: &impl Print, n: u64) {
+    let _ = print!(rt; " {n}");
 }
 
 // What opening the words answers.
-fn open_words(s: &[i32]) {
+fn open_words(rt: &impl Print, s: &[i32]) {
     let h = ring::open::head_of(s);
     if h.number != 0 {
-        io::write_all(STDOUT_FILENO, b"refused");
-        print(h.number as u64);
+        let _ = rt.write_all(b"refused");
+        print(rt, h.number as u64);
     } else {
-        io::write_all(STDOUT_FILENO, b"opens");
-        print(h.n as u64);
-        print(h.m as u64);
-        print(words::num_at(s, std::num::wrapping_sub_usize(s.len(), 2)) as u64);
-        print(words::num_at(s, std::num::wrapping_sub_usize(s.len(), 1)) as u64);
+        let _ = rt.write_all(b"opens");
+        print(rt, h.n as u64);
+        print(rt, h.m as u64);
+        print(rt, words::num_at(s, std::num::wrapping_sub_usize(s.len(), 2)) as u64);
+        print(rt, words::num_at(s, std::num::wrapping_sub_usize(s.len(), 1)) as u64);
     }
-    io::write_all(STDOUT_FILENO, b"\n");
+    let _ = rt.write_all(b"\n");
 }
 
-fn say_input() {
-    io::write_all(STDOUT_FILENO, b"refused input\n");
+fn say_input(rt: &impl Print) {
+    let _ = println!(rt; "refused input");
 }
 
 // Room for the bytes that are read, and one more.
@@ -52,25 +50,25 @@ fn space() -> [i32; MOST]
 }
 
 // The first n bytes as words.
-fn run(bytes: &[u8], n: usize)
+fn run(rt: &impl Print, bytes: &[u8], n: usize)
     requires { n ≤ length bytes.now }
 {
     if n % 4 != 0 {
-        return say_input();
+        return say_input(rt);
     }
     if n > 4 * MOST {
-        return say_input();
+        return say_input(rt);
     }
     let count = n / 4;
     let mut given = space();
     words::bytes::decode(bytes, count, &mut given);
-    open_words(&given[..count]);
+    open_words(rt, &given[..count]);
 }
 
-fn main() {
+fn main(rt: HostRuntime) {
     let mut bytes = room();
-    match input::read_all(STDIN_FILENO, &mut bytes) {
-        Got::Bytes(n) => run(&bytes, n),
-        Got::Failed => say_input(),
+    match input::read_all(&mut rt.reader(), &mut bytes) {
+        Got::Bytes(n) => run(&rt, &bytes, n),
+        Got::Failed => say_input(&rt),
     }
 }

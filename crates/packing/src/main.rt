@@ -8,7 +8,6 @@
 ghost use Rattle.std.specs.Prelude.{◌≡◌, ◌+◌, ◌*◌, ◌≤◌, ◌<◌, length};
 
 use input::Got;
-use libc::{STDIN_FILENO, STDOUT_FILENO};
 
 // The form, n, the edition, and four words for each of 60,000 points.
 const MOST: usize = 240003;
@@ -117,13 +116,13 @@ fn encode_into(s: &[i32], size: usize, out: &mut [u8])
 }
 
 // Writes at most so many words.
-fn write_piece(s: &[i32])
+fn write_piece(rt: &impl Print, s: &[i32])
     requires { length s.now ≤ 1024 }
 {
     let size = 4 * s.len();
     let mut bytes = [0u8; 4096];
     encode_into(s, size, &mut bytes);
-    io::write_all(STDOUT_FILENO, &bytes[..size]);
+    let _ = rt.write_all(&bytes[..size]);
 }
 
 // Where the piece that starts at word `at` ends.
@@ -138,29 +137,27 @@ fn piece_end(at: usize, len: usize) -> usize
 }
 
 // Writes the first `len` words, piece by piece.
-fn write_words(s: &[i32], len: usize)
+fn write_words(rt: &impl Print, s: &[i32], len: usize)
     requires { (len ≤ length s.now) × (len ≤ 328013) }
 {
     let mut at = 0;
     while at < len {
         let end = piece_end(at, len);
-        write_piece(&s[at..end]);
+        write_piece(rt, &s[at..end]);
         at = end;
     }
 }
 
-fn say_refused(number: u32) {
-    io::write_all(STDOUT_FILENO, b"refused ");
-    io::print_decimal(STDOUT_FILENO, number as u64);
-    io::write_all(STDOUT_FILENO, b"\n");
+fn say_refused(rt: &impl Print, number: u32) {
+    let _ = println!(rt; "refused {number}");
 }
 
-fn say_input() {
-    io::write_all(STDOUT_FILENO, b"refused input\n");
+fn say_input(rt: &impl Print) {
+    let _ = println!(rt; "refused input");
 }
 
 // Packs what the words ask for, and writes the sheet or the number.
-fn pack_words(s: &[i32])
+fn pack_words(rt: &impl Print, s: &[i32])
     requires { 3 ≤ length s.now }
 {
     let n = count_of(words::at(s, 1));
@@ -168,35 +165,35 @@ fn pack_words(s: &[i32])
     let mut out = blank();
     let number = pack_into(s, n, len, &mut out);
     if number != 0 {
-        say_refused(number);
+        say_refused(rt, number);
         return;
     }
-    write_words(&out, len);
+    write_words(rt, &out, len);
 }
 
 // The first n bytes as words.
-fn run(bytes: &[u8], n: usize)
+fn run(rt: &impl Print, bytes: &[u8], n: usize)
     requires { n ≤ length bytes.now }
 {
     if n < 12 {
-        return say_input();
+        return say_input(rt);
     }
     if n % 4 != 0 {
-        return say_input();
+        return say_input(rt);
     }
     if n > 4 * MOST {
-        return say_input();
+        return say_input(rt);
     }
     let count = n / 4;
     let mut given = space();
     words::bytes::decode(bytes, count, &mut given);
-    pack_words(&given[..count]);
+    pack_words(rt, &given[..count]);
 }
 
-fn main() {
+fn main(rt: HostRuntime) {
     let mut bytes = room();
-    match input::read_all(STDIN_FILENO, &mut bytes) {
-        Got::Bytes(n) => run(&bytes, n),
-        Got::Failed => say_input(),
+    match input::read_all(&mut rt.reader(), &mut bytes) {
+        Got::Bytes(n) => run(&rt, &bytes, n),
+        Got::Failed => say_input(&rt),
     }
 }

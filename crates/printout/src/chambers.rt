@@ -6,7 +6,6 @@ ghost use Rattle.list.specs.RingList.{ring_pair, pair_at};
 ghost use Rattle.chamber.specs.Chamber.{PairsOn};
 ghost use Rattle.printout.specs.Outcome.{Both, pairs_of};
 
-use libc::STDOUT_FILENO;
 use list::Terms;
 use sheet::Size;
 
@@ -33,19 +32,19 @@ fn keep_pairs(p: &[i32], hp: Size, q: &[i32], hq: Size, j: usize, bits: &mut [u6
 }
 
 // A place in the buffer with room for so many lines after it: `at`, or the start, after what stands before `at` is written.
-fn make_room(out: &[u8], at: usize, lines: usize) -> usize
+fn make_room(rt: &impl Print, out: &[u8], at: usize, lines: usize) -> usize
     requires { (at ≤ length out.now) × (107 * lines ≤ length out.now) }
     ensures { result + 107 * lines ≤ length out.now }
 {
     if out.len() - at >= 107 * lines {
         return at;
     }
-    io::write_all(STDOUT_FILENO, &out[..at]);
+    let _ = rt.write_all(&out[..at]);
     0
 }
 
 // Writes a line for each ring pair and the last line, and answers their number. Sixteen words hold the kept bits of a sheet of form 1.
-pub fn list_pairs(p: &[i32], hp: Size, q: &[i32], hq: Size) -> u64
+pub fn list_pairs(rt: &impl Print, p: &[i32], hp: Size, q: &[i32], hq: Size) -> u64
     requires { Both p.now hp q.now hq }
     ensures { result ≡ length (pairs_of p.now q.now) }
 {
@@ -57,13 +56,13 @@ pub fn list_pairs(p: &[i32], hp: Size, q: &[i32], hq: Size) -> u64
     let mut j: usize = 0;
     while j < n {
         let found = keep_pairs(p, hp, q, hq, j, &mut bits);
-        let from = make_room(&out, at, found);
+        let from = make_room(rt, &out, at, found);
         at = crate::lines::put_chamber(p, hp, q, hq, j, &bits, found, &mut out, from);
         total += found as u64;
         j += 1;
     }
-    let from = make_room(&out, at, 1);
+    let from = make_room(rt, &out, at, 1);
     let to = text::put_end(total, &mut out, from);
-    io::write_all(STDOUT_FILENO, &out[..to]);
+    let _ = rt.write_all(&out[..to]);
     total
 }

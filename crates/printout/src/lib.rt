@@ -12,8 +12,8 @@ ghost use Rattle.text.specs.Text.{Grown};
 ghost use Rattle.printout.specs.Outcome.{sheets_outcome, words_outcome, got_outcome, refusal};
 
 use input::Got;
-use libc::STDOUT_FILENO;
 use sheet::Size;
+use std::io::Read;
 
 // What came of an input: refused, or listed, with the number of pairs.
 #[derive(Clone, Copy)]
@@ -45,14 +45,14 @@ fn put_refusal(o: Outcome, out: &mut [u8], at: usize) -> usize
     }
 }
 
-fn say(o: Outcome) -> bool {
+fn say(rt: &impl Print, o: Outcome) -> bool {
     let mut out = [0u8; 32];
     let n = put_refusal(o, &mut out, 0);
-    io::write_all(STDOUT_FILENO, &out[..n])
+    rt.write_all(&out[..n]).is_ok()
 }
 
 // Opens Q, then P, both of form 1, and lists their ring pairs. A sheet of form 2 is refused by 2.
-pub fn list_sheets(p: &[i32], q: &[i32]) -> Outcome
+pub fn list_sheets(rt: &impl Print, p: &[i32], q: &[i32]) -> Outcome
     ensures { result ≡ sheets_outcome p.now q.now }
 {
     let q_no = sheet::open_first(q);
@@ -67,16 +67,16 @@ pub fn list_sheets(p: &[i32], q: &[i32]) -> Outcome
     let a = ring::open::head_of(p);
     let hp = Size { n: a.n, m: a.m };
     let hq = Size { n: b.n, m: b.m };
-    Outcome::Listed(chambers::list_pairs(p, hp, q, hq))
+    Outcome::Listed(chambers::list_pairs(rt, p, hp, q, hq))
 }
 
 // Splits the words into P and Q.
-pub fn list_words(s: &[i32]) -> Outcome
+pub fn list_words(rt: &impl Print, s: &[i32]) -> Outcome
     requires { 6 ≤ length s.now }
     ensures { result ≡ words_outcome s.now }
 {
     let at = split::split_at(s);
-    list_sheets(&s[..at], &s[at..])
+    list_sheets(rt, &s[..at], &s[at..])
 }
 
 // Room for the words of two sheets.
@@ -87,7 +87,7 @@ fn space() -> [i32; 15612]
 }
 
 // Lists what the bytes of P's file and then Q's hold.
-pub fn list_bytes(bytes: &[u8]) -> Outcome
+pub fn list_bytes(rt: &impl Print, bytes: &[u8]) -> Outcome
     ensures { result ≡ Rattle.printout.specs.Outcome.outcome bytes.now }
 {
     let n = bytes.len();
@@ -97,16 +97,16 @@ pub fn list_bytes(bytes: &[u8]) -> Outcome
     let mut room = space();
     let count = n / 4;
     words::bytes::decode(bytes, count, &mut room);
-    list_words(&room[..count])
+    list_words(rt, &room[..count])
 }
 
 // Lists what was read into the start of `room`.
-fn list_got(got: Got, room: &[u8]) -> Outcome
+fn list_got(rt: &impl Print, got: Got, room: &[u8]) -> Outcome
     requires { Within got room.now }
     ensures { result ≡ got_outcome got room.now }
 {
     match got {
-        Got::Bytes(n) => list_bytes(&room[..n]),
+        Got::Bytes(n) => list_bytes(rt, &room[..n]),
         Got::Failed => Outcome::BadInput,
     }
 }
@@ -118,15 +118,15 @@ pub fn room() -> [u8; 62449]
     [0; 62449]
 }
 
-// Lists what `fd` has, up to one byte more than two sheets can have, or says why not.
-pub fn list(fd: i32, room: &mut [u8]) -> Listing
+// Lists what the reader has, up to one byte more than two sheets can have, or says why not.
+pub fn list<R: Read>(rt: &impl Print, from: &mut R, room: &mut [u8]) -> Listing
     requires { 62449 ≡ length room.old }
     ensures within { Within result.got room.new }
     ensures outcome_value { result.outcome ≡ got_outcome result.got room.new }
 {
-    let got = input::read_all(fd, room);
-    let outcome = list_got(got, room);
-    say(outcome);
+    let got = input::read_all(from, room);
+    let outcome = list_got(rt, got, room);
+    let _ = say(rt, outcome);
     Listing {
         got: got,
         outcome: outcome,

@@ -628,25 +628,25 @@ fn played(seed: u64, tally: Tally) -> Game {
 // ---- what is written
 
 // All that was counted.
-fn report(t: Tally) {
-    line(b"histories", HISTORIES);
-    line(b"taken", t.counts[0]);
-    line(b"refused 11", t.counts[11]);
-    line(b"refused 12", t.counts[12]);
-    line(b"refused 22", t.counts[22]);
-    line(b"refused 28", t.counts[28]);
-    line(b"refused 30", t.counts[30]);
-    line(b"refused 13", t.counts[13]);
-    line(b"refused 31", t.counts[31]);
-    line(b"refused 14", t.counts[14]);
-    line(b"refused 15", t.counts[15]);
-    line(b"refused 16", t.counts[16]);
-    line(b"closed", t.closed);
-    line(b"closed when full", t.full);
-    line(b"otherwise", t.wrong);
+fn report(rt: &impl Print, t: Tally) {
+    line(rt, b"histories", HISTORIES);
+    line(rt, b"taken", t.counts[0]);
+    line(rt, b"refused 11", t.counts[11]);
+    line(rt, b"refused 12", t.counts[12]);
+    line(rt, b"refused 22", t.counts[22]);
+    line(rt, b"refused 28", t.counts[28]);
+    line(rt, b"refused 30", t.counts[30]);
+    line(rt, b"refused 13", t.counts[13]);
+    line(rt, b"refused 31", t.counts[31]);
+    line(rt, b"refused 14", t.counts[14]);
+    line(rt, b"refused 15", t.counts[15]);
+    line(rt, b"refused 16", t.counts[16]);
+    line(rt, b"closed", t.closed);
+    line(rt, b"closed when full", t.full);
+    line(rt, b"otherwise", t.wrong);
 }
 
-fn main() {
+fn main(rt: HostRuntime) {
     let mut t = Tally {
         counts: [0; 32],
         closed: 0,
@@ -661,5 +661,5 @@ fn main() {
         seed = mixed(g.seed);
         i += 1;
     }
-    report(t);
+    report(&rt, t);
 }

@@ -1,15 +1,16 @@
 // The shortest circles of two sheets.
+use crate::tape::Tape;
 use crate::say;
 
 // How many pairs are asked for, and the pairs.
-pub fn shortest_case(p: &[i32], q: &[i32], bits: &mut [u64]) {
-    let k = crate::tape::next_or_largest();
-    say::say(b"shortest");
-    say::number(k as u64);
-    say::say(b":");
+pub fn shortest_case(rt: &HostRuntime, tape: &mut Tape, p: &[i32], q: &[i32], bits: &mut [u64]) {
+    let k = crate::tape::next_or_largest(tape);
+    say::say(rt, b"shortest");
+    say::number(rt, k as u64);
+    say::say(rt, b":");
     let r = shortest::shortest(p, q, k, bits);
-    say::number(r.number as u64);
-    say::number(r.count as u64);
+    say::number(rt, r.number as u64);
+    say::number(rt, r.count as u64);
     let pairs = r.pairs;
-    say::pairs(pairs, 16);
+    say::pairs(rt, pairs, 16);
 }

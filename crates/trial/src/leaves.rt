@@ -1,6 +1,7 @@
 // Runs of leaves: what each answers, and what the slots hold after it.
 ghost use Rattle.std.specs.Prelude.{◌<◌};
 
+use crate::tape::Tape;
 use crate::{say, tape};
 use list::Pair;
 
@@ -50,30 +51,30 @@ pub fn marks(slots: [Pair; 256]) -> u64 {
 }
 
 // The first `count` of the slots.
-pub fn print_pairs(slots: [Pair; 256], count: usize) {
+pub fn print_pairs(rt: &HostRuntime, slots: [Pair; 256], count: usize) {
     let mut k: usize = 0;
     while k < 256 {
         if k < count {
-            say::pair(slots[k]);
+            say::pair(rt, slots[k]);
         }
         k += 1;
     }
 }
 
 // A node and how many slots are lent, and the run that they ask for.
-pub fn run_case(p: &[i32], q: &[i32], bits: &mut [u64]) {
-    let leaf = tape::next_or_largest();
-    let lent = tape::next_or_largest();
-    say::say(b"run");
-    say::number(leaf as u64);
-    say::number(lent as u64);
-    say::say(b":");
+pub fn run_case(rt: &HostRuntime, tape: &mut Tape, p: &[i32], q: &[i32], bits: &mut [u64]) {
+    let leaf = tape::next_or_largest(tape);
+    let lent = tape::next_or_largest(tape);
+    say::say(rt, b"run");
+    say::number(rt, leaf as u64);
+    say::number(rt, lent as u64);
+    say::say(rt, b":");
     let r = runs::run_array(p, q, leaf, marked(), lent, bits);
     let run = r.run;
     let slots = r.slots;
-    say::number(run.number as u64);
-    say::number(run.count as u64);
-    say::number(run.opened);
-    say::number(marks(slots));
-    print_pairs(slots, run.count);
+    say::number(rt, run.number as u64);
+    say::number(rt, run.count as u64);
+    say::number(rt, run.opened);
+    say::number(rt, marks(slots));
+    print_pairs(rt, slots, run.count);
 }

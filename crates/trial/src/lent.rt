@@ -45,21 +45,21 @@ fn marks_from(numbers: &[u64], from: usize) -> usize
     k
 }
 
-fn print_part(numbers: &[u64], from: usize, to: usize)
+fn print_part(rt: &HostRuntime, numbers: &[u64], from: usize, to: usize)
     requires { to ≤ length numbers.now }
 {
     let mut k = from;
     while k < to {
-        say::hex(numbers[k]);
+        say::hex(rt, numbers[k]);
         k += 1;
     }
 }
 
 // How many numbers are 0 from the first on, how many hold their mark up to the last, and those between.
-pub fn print(numbers: &[u64]) {
+pub fn print(rt: &HostRuntime, numbers: &[u64]) {
     let from = zeros(numbers);
     let to = marks_from(numbers, from);
-    say::number(from as u64);
-    say::number((numbers.len() - to) as u64);
-    print_part(numbers, from, to);
+    say::number(rt, from as u64);
+    say::number(rt, (numbers.len() - to) as u64);
+    print_part(rt, numbers, from, to);
 }

@@ -3,6 +3,7 @@ ghost use Rattle.std.specs.Prelude.{◌≡◌, length, take};
 ghost use Rattle.list.specs.Lent.{lent_of};
 ghost use Rattle.many.specs.Many.{pairs_answer, own_pairs_answer};
 
+use crate::tape::Tape;
 use crate::{leaves, pages, say, tape};
 use list::{Key, Pair};
 use many::{Counted, Many, Wanted, Which};
@@ -66,56 +67,56 @@ fn own_found(
 }
 
 // What was answered, how many of the slots hold their mark, and the pairs that were stored.
-fn print_lot(lot: Lot) {
+fn print_lot(rt: &HostRuntime, lot: Lot) {
     let r = lot.many;
     let slots = lot.slots;
-    say::number(r.number as u64);
-    say::number(r.count as u64);
-    pages::print_mark(r.more);
-    say::number(leaves::marks(slots));
-    leaves::print_pairs(slots, r.count);
+    say::number(rt, r.number as u64);
+    say::number(rt, r.count as u64);
+    pages::print_mark(rt, r.more);
+    say::number(rt, leaves::marks(slots));
+    leaves::print_pairs(rt, slots, r.count);
 }
 
-fn print_wanted(wanted: Wanted, bytes: usize, n: usize) {
+fn print_wanted(rt: &HostRuntime, wanted: Wanted, bytes: usize, n: usize) {
     let key = wanted.key;
-    say::say(b"pairs");
-    pages::print_key(key);
-    print_which(
+    say::say(rt, b"pairs");
+    pages::print_key(rt, key);
+    print_which(rt, 
         wanted.largest,
         wanted.threshold,
         wanted.grid,
         wanted.contractor,
         bytes,
     );
-    say::number(n as u64);
-    say::say(b":");
+    say::number(rt, n as u64);
+    say::say(rt, b":");
 }
 
-fn print_which(largest: u64, threshold: u32, grid: bool, contractor: u32, bytes: usize) {
-    say::number(largest);
-    say::number(threshold as u64);
-    pages::print_mark(grid);
-    say::number(contractor as u64);
-    say::number(bytes as u64);
+fn print_which(rt: &HostRuntime, largest: u64, threshold: u32, grid: bool, contractor: u32, bytes: usize) {
+    say::number(rt, largest);
+    say::number(rt, threshold as u64);
+    pages::print_mark(rt, grid);
+    say::number(rt, contractor as u64);
+    say::number(rt, bytes as u64);
 }
 
-fn pairs_asked(p: &[i32], q: &[i32], owners: &[u8], wanted: Wanted, n: usize, bits: &mut [u64]) {
-    print_wanted(wanted, owners.len(), n);
-    print_lot(found(p, q, owners, wanted, leaves::marked(), n, bits));
+fn pairs_asked(rt: &HostRuntime, p: &[i32], q: &[i32], owners: &[u8], wanted: Wanted, n: usize, bits: &mut [u64]) {
+    print_wanted(rt, wanted, owners.len(), n);
+    print_lot(rt, found(p, q, owners, wanted, leaves::marked(), n, bits));
 }
 
 // A key, how many slots are lent, the largest size, a threshold, a profile and a contractor, how many owner bytes there are, and these.
-pub fn pairs_case(p: &[i32], q: &[i32], bits: &mut [u64]) {
-    let key_q = tape::next_id();
-    let key_p = tape::next_id();
-    let n = tape::next_up_to(256);
-    let largest = tape::next_long();
-    let threshold = tape::next_id();
-    let grid = tape::next_mark();
-    let contractor = tape::next_id();
-    let len = tape::next_up_to(pages::OWNERS);
+pub fn pairs_case(rt: &HostRuntime, tape: &mut Tape, p: &[i32], q: &[i32], bits: &mut [u64]) {
+    let key_q = tape::next_id(tape);
+    let key_p = tape::next_id(tape);
+    let n = tape::next_up_to(tape, 256);
+    let largest = tape::next_long(tape);
+    let threshold = tape::next_id(tape);
+    let grid = tape::next_mark(tape);
+    let contractor = tape::next_id(tape);
+    let len = tape::next_up_to(tape, pages::OWNERS);
     let mut owners = [0u8; pages::OWNERS];
-    tape::fill_bytes(&mut owners, len);
+    tape::fill_bytes(tape, &mut owners, len);
     let key = Key { q: key_q, p: key_p };
     let wanted = Wanted {
         key: key,
@@ -124,58 +125,58 @@ pub fn pairs_case(p: &[i32], q: &[i32], bits: &mut [u64]) {
         contractor: contractor,
         grid: grid,
     };
-    pairs_asked(p, q, &owners[..len], wanted, n, bits);
+    pairs_asked(rt, p, q, &owners[..len], wanted, n, bits);
 }
 
 // A key, how many slots are lent, the largest size and a profile, of a self join.
-pub fn own_pairs_case(s: &[i32], bits: &mut [u64]) {
-    let key_q = tape::next_id();
-    let key_p = tape::next_id();
-    let n = tape::next_up_to(256);
-    let largest = tape::next_long();
-    let grid = tape::next_mark();
+pub fn own_pairs_case(rt: &HostRuntime, tape: &mut Tape, s: &[i32], bits: &mut [u64]) {
+    let key_q = tape::next_id(tape);
+    let key_p = tape::next_id(tape);
+    let n = tape::next_up_to(tape, 256);
+    let largest = tape::next_long(tape);
+    let grid = tape::next_mark(tape);
     let key = Key { q: key_q, p: key_p };
-    say::say(b"own pairs");
-    pages::print_key(key);
-    say::number(largest);
-    pages::print_mark(grid);
-    say::number(n as u64);
-    say::say(b":");
-    print_lot(own_found(s, key, largest, grid, leaves::marked(), n, bits));
+    say::say(rt, b"own pairs");
+    pages::print_key(rt, key);
+    say::number(rt, largest);
+    pages::print_mark(rt, grid);
+    say::number(rt, n as u64);
+    say::say(rt, b":");
+    print_lot(rt, own_found(s, key, largest, grid, leaves::marked(), n, bits));
 }
 
-fn print_counted(r: Counted) {
-    say::say(b":");
-    say::number(r.number as u64);
-    say::number(r.count);
+fn print_counted(rt: &HostRuntime, r: Counted) {
+    say::say(rt, b":");
+    say::number(rt, r.number as u64);
+    say::number(rt, r.count);
 }
 
 // The largest size, a threshold, a profile and a contractor, how many owner bytes there are, and these.
-pub fn count_case(p: &[i32], q: &[i32], bits: &mut [u64]) {
-    let largest = tape::next_long();
-    let threshold = tape::next_id();
-    let grid = tape::next_mark();
-    let contractor = tape::next_id();
-    let len = tape::next_up_to(pages::OWNERS);
+pub fn count_case(rt: &HostRuntime, tape: &mut Tape, p: &[i32], q: &[i32], bits: &mut [u64]) {
+    let largest = tape::next_long(tape);
+    let threshold = tape::next_id(tape);
+    let grid = tape::next_mark(tape);
+    let contractor = tape::next_id(tape);
+    let len = tape::next_up_to(tape, pages::OWNERS);
     let mut owners = [0u8; pages::OWNERS];
-    tape::fill_bytes(&mut owners, len);
+    tape::fill_bytes(tape, &mut owners, len);
     let which = Which {
         largest: largest,
         threshold: threshold,
         contractor: contractor,
         grid: grid,
     };
-    say::say(b"count");
-    print_which(largest, threshold, grid, contractor, len);
-    print_counted(many::tally::count(p, q, &owners[..len], which, bits));
+    say::say(rt, b"count");
+    print_which(rt, largest, threshold, grid, contractor, len);
+    print_counted(rt, many::tally::count(p, q, &owners[..len], which, bits));
 }
 
 // The largest size and a profile, of a self join.
-pub fn own_count_case(s: &[i32], bits: &mut [u64]) {
-    let largest = tape::next_long();
-    let grid = tape::next_mark();
-    say::say(b"own count");
-    say::number(largest);
-    pages::print_mark(grid);
-    print_counted(many::tally::own_count(s, largest, grid, bits));
+pub fn own_count_case(rt: &HostRuntime, tape: &mut Tape, s: &[i32], bits: &mut [u64]) {
+    let largest = tape::next_long(tape);
+    let grid = tape::next_mark(tape);
+    say::say(rt, b"own count");
+    say::number(rt, largest);
+    pages::print_mark(rt, grid);
+    print_counted(rt, many::tally::own_count(s, largest, grid, bits));
 }

@@ -17,31 +17,34 @@ mod tape;
 mod views;
 mod walks;
 
+use tape::Tape;
+
 // A case of no sheet, or of one; those of two sheets are `asked`.
-fn case(kind: usize) {
+fn case(rt: &HostRuntime, tape: &mut Tape, kind: usize) {
     if kind == 1 {
-        places::rules();
+        places::rules(rt);
     } else if kind == 2 {
-        sheets::open_case();
+        sheets::open_case(rt, tape);
     } else if kind == 3 {
-        sheets::point_case();
+        sheets::point_case(rt, tape);
     } else if kind == 4 {
-        sheets::pack_case();
+        sheets::pack_case(rt, tape);
     } else if kind == 14 {
-        marks::mark_case();
+        marks::mark_case(rt, tape);
     } else {
-        asked::asked(kind);
+        asked::asked(rt, tape, kind);
     }
 }
 
-fn main() {
+fn main(rt: HostRuntime) {
+    let mut tape = tape::new(&rt);
     let mut left: u32 = 100000;
     while left > 0 {
-        let kind = tape::next_kind();
+        let kind = tape::next_kind(&rt, &mut tape);
         if kind == 0 {
             return;
         }
-        case(kind);
+        case(&rt, &mut tape, kind);
         left -= 1;
     }
 }

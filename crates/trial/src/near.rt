@@ -1,6 +1,7 @@
 // Pump houses nearest first, and the filter that goes nearest first: what each answers, and what the lent numbers hold after it.
 ghost use Rattle.std.specs.Prelude.{◌≤◌, length};
 
+use crate::tape::Tape;
 use crate::{lent, say, tape};
 use nearest::{Found, Near};
 use ring::Filtered;
@@ -8,26 +9,26 @@ use ring::Filtered;
 // Numbers, of which some are lent.
 const NUMBERS: usize = 2048;
 
-pub fn print_near(v: Near) {
-    say::number(v.id as u64);
-    say::number(v.distance);
+pub fn print_near(rt: &HostRuntime, v: Near) {
+    say::number(rt, v.id as u64);
+    say::number(rt, v.distance);
 }
 
 // The first `count` pump houses.
-fn print_points(points: [Near; 16], count: usize) {
+fn print_points(rt: &HostRuntime, points: [Near; 16], count: usize) {
     let mut k: usize = 0;
     while k < 16 {
         if k < count {
-            print_near(points[k]);
+            print_near(rt, points[k]);
         }
         k += 1;
     }
 }
 
 // What the numbers hold, those that are not lent too.
-fn print_numbers(numbers: &[u64]) {
-    say::say(b" numbers");
-    lent::print(numbers);
+fn print_numbers(rt: &HostRuntime, numbers: &[u64]) {
+    say::say(rt, b" numbers");
+    lent::print(rt, numbers);
 }
 
 fn found(p: &[i32], q: &[i32], id: u32, size: usize, n: usize, numbers: &mut [u64]) -> Found
@@ -36,20 +37,20 @@ fn found(p: &[i32], q: &[i32], id: u32, size: usize, n: usize, numbers: &mut [u6
     nearest::nearest(p, q, id, size, &mut numbers[..n])
 }
 
-fn nearest_case(p: &[i32], q: &[i32], id: u32, size: usize, n: usize, numbers: &mut [u64])
+fn nearest_case(rt: &HostRuntime, p: &[i32], q: &[i32], id: u32, size: usize, n: usize, numbers: &mut [u64])
     requires { n ≤ length numbers.old }
 {
-    say::say(b"nearest");
-    say::number(id as u64);
-    say::number(size as u64);
-    say::number(n as u64);
-    say::say(b":");
+    say::say(rt, b"nearest");
+    say::number(rt, id as u64);
+    say::number(rt, size as u64);
+    say::number(rt, n as u64);
+    say::say(rt, b":");
     let r = found(p, q, id, size, n, numbers);
-    say::number(r.number as u64);
-    say::number(r.count as u64);
+    say::number(rt, r.number as u64);
+    say::number(rt, r.count as u64);
     let points = r.points;
-    print_points(points, r.count);
-    print_numbers(numbers);
+    print_points(rt, points, r.count);
+    print_numbers(rt, numbers);
 }
 
 fn kept(p: &[i32], q: &[i32], id: u32, n: usize, numbers: &mut [u64], bits: &mut [u64]) -> Filtered
@@ -58,18 +59,18 @@ fn kept(p: &[i32], q: &[i32], id: u32, n: usize, numbers: &mut [u64], bits: &mut
     nearest::near_filter(p, q, id, &mut numbers[..n], bits)
 }
 
-fn filter_case(p: &[i32], q: &[i32], id: u32, n: usize, numbers: &mut [u64], bits: &mut [u64])
+fn filter_case(rt: &HostRuntime, p: &[i32], q: &[i32], id: u32, n: usize, numbers: &mut [u64], bits: &mut [u64])
     requires { n ≤ length numbers.old }
 {
-    say::say(b"filter");
-    say::number(id as u64);
-    say::number(n as u64);
-    say::say(b":");
+    say::say(rt, b"filter");
+    say::number(rt, id as u64);
+    say::number(rt, n as u64);
+    say::say(rt, b":");
     let r = kept(p, q, id, n, numbers, bits);
-    say::number(r.number as u64);
-    say::number(r.count as u64);
-    say::number(r.opened);
-    print_numbers(numbers);
+    say::number(rt, r.number as u64);
+    say::number(rt, r.count as u64);
+    say::number(rt, r.opened);
+    print_numbers(rt, numbers);
 }
 
 fn lent_of(asked: usize) -> usize
@@ -82,16 +83,16 @@ fn lent_of(asked: usize) -> usize
 }
 
 // What is asked, of which chamber, the size, and how many numbers are lent.
-pub fn near_case(p: &[i32], q: &[i32], bits: &mut [u64]) {
-    let kind = tape::next_count();
-    let id = tape::next_id();
-    let size = tape::next_or_largest();
-    let n = lent_of(tape::next_or_largest());
+pub fn near_case(rt: &HostRuntime, tape: &mut Tape, p: &[i32], q: &[i32], bits: &mut [u64]) {
+    let kind = tape::next_count(tape);
+    let id = tape::next_id(tape);
+    let size = tape::next_or_largest(tape);
+    let n = lent_of(tape::next_or_largest(tape));
     let mut numbers = [0u64; NUMBERS];
     lent::mark(&mut numbers);
     if kind == 1 {
-        nearest_case(p, q, id, size, n, &mut numbers);
+        nearest_case(rt, p, q, id, size, n, &mut numbers);
         return;
     }
-    filter_case(p, q, id, n, &mut numbers, bits);
+    filter_case(rt, p, q, id, n, &mut numbers, bits);
 }

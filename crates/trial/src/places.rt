@@ -7,14 +7,14 @@ use crate::say;
 use plane::{Boxed, Spot};
 
 // A space and a place.
-fn say_spot(a: Spot) {
+fn say_spot(rt: &HostRuntime, a: Spot) {
     let mut t = [0u8; 64];
     let open = text::put(b" (", &mut t, 0);
     let x = text::put_signed(a.x, &mut t, open);
     let comma = text::put_byte(b',', &mut t, x);
     let y = text::put_signed(a.y, &mut t, comma);
     let close = text::put_byte(b')', &mut t, y);
-    say::say(&t[..close]);
+    say::say(rt, &t[..close]);
 }
 
 // The place (x, y).
@@ -49,197 +49,197 @@ fn boxed(low: Spot, high: Spot) -> Boxed
 }
 
 // Whether z blocks a, b, and the product.
-fn block(a: Spot, b: Spot, z: Spot)
+fn block(rt: &HostRuntime, a: Spot, b: Spot, z: Spot)
     requires { SpotIn a × SpotIn b × SpotIn z }
 {
-    say::say(b"ring rule");
-    say_spot(a);
-    say_spot(b);
-    say_spot(z);
+    say::say(rt, b"ring rule");
+    say_spot(rt, a);
+    say_spot(rt, b);
+    say_spot(rt, z);
     let d = plane::dot_of(a, b, z);
-    say::signed(d);
+    say::signed(rt, d);
     if plane::does_block(a, b, z) {
-        say::say(b" blocks\n");
+        say::say(rt, b" blocks\n");
     } else {
-        say::say(b" does not block\n");
+        say::say(rt, b" does not block\n");
     }
 }
 
 // Whether q skips z, p being kept, and the product.
-fn skip(q: Spot, p: Spot, z: Spot)
+fn skip(rt: &HostRuntime, q: Spot, p: Spot, z: Spot)
     requires { SpotIn q × SpotIn p × SpotIn z }
 {
-    say::say(b"filter rule");
-    say_spot(q);
-    say_spot(p);
-    say_spot(z);
+    say::say(rt, b"filter rule");
+    say_spot(rt, q);
+    say_spot(rt, p);
+    say_spot(rt, z);
     let d = plane::dot_of(q, z, p);
-    say::signed(d);
+    say::signed(rt, d);
     if plane::does_block(q, z, p) {
-        say::say(b" skipped\n");
+        say::say(rt, b" skipped\n");
     } else {
-        say::say(b" kept\n");
+        say::say(rt, b" kept\n");
     }
 }
 
 // Whether q skips a box, p being kept.
-fn skip_box(q: Spot, p: Spot, low: Spot, high: Spot)
+fn skip_box(rt: &HostRuntime, q: Spot, p: Spot, low: Spot, high: Spot)
     requires { SpotIn q × SpotIn p × SpotIn low × SpotIn high }
 {
-    say::say(b"filter rule");
-    say_spot(q);
-    say_spot(p);
-    say::say(b" box");
-    say_spot(low);
-    say_spot(high);
+    say::say(rt, b"filter rule");
+    say_spot(rt, q);
+    say_spot(rt, p);
+    say::say(rt, b" box");
+    say_spot(rt, low);
+    say_spot(rt, high);
     if plane::drops_box(q, p, boxed(low, high)) {
-        say::say(b" skipped\n");
+        say::say(rt, b" skipped\n");
     } else {
-        say::say(b" opened\n");
+        say::say(rt, b" opened\n");
     }
 }
 
 // The squared distance of a doubled side from the doubled centre, on one axis.
-fn say_axis(lo: i64, hi: i64, a: i64, b: i64)
+fn say_axis(rt: &HostRuntime, lo: i64, hi: i64, a: i64, b: i64)
     requires { Within 1000000000 lo × Within 1000000000 hi × Within 1000000000 a × Within 1000000000 b }
 {
     let d = plane::square_out(2 * lo, 2 * hi, a + b);
-    say::number(d);
+    say::number(rt, d);
 }
 
 // Those of a box on both axes, against the squared diameter.
-fn say_distance(a: Spot, b: Spot, low: Spot, high: Spot)
+fn say_distance(rt: &HostRuntime, a: Spot, b: Spot, low: Spot, high: Spot)
     requires { SpotIn a × SpotIn b × SpotIn low × SpotIn high }
 {
-    say_axis(low.x, high.x, a.x, b.x);
-    say_axis(low.y, high.y, a.y, b.y);
-    say::say(b" against");
-    say::number(plane::diameter(a, b));
+    say_axis(rt, low.x, high.x, a.x, b.x);
+    say_axis(rt, low.y, high.y, a.y, b.y);
+    say::say(rt, b" against");
+    say::number(rt, plane::diameter(a, b));
 }
 
 // What a box is to the circle on a, b.
-fn box_rule(a: Spot, b: Spot, low: Spot, high: Spot)
+fn box_rule(rt: &HostRuntime, a: Spot, b: Spot, low: Spot, high: Spot)
     requires { SpotIn a × SpotIn b × SpotIn low × SpotIn high }
 {
-    say::say(b"box rules");
-    say_spot(a);
-    say_spot(b);
-    say::say(b" box");
-    say_spot(low);
-    say_spot(high);
-    say_distance(a, b, low, high);
+    say::say(rt, b"box rules");
+    say_spot(rt, a);
+    say_spot(rt, b);
+    say::say(rt, b" box");
+    say_spot(rt, low);
+    say_spot(rt, high);
+    say_distance(rt, a, b, low, high);
     let o = boxed(low, high);
     if plane::is_far(a, b, o) {
-        say::say(b" skipped\n");
+        say::say(rt, b" skipped\n");
         return;
     }
     let side = plane::profile::side_inside(false, a, b, o);
     if side == 4 {
-        say::say(b" opened\n");
+        say::say(rt, b" opened\n");
         return;
     }
-    say::say(b" blocks by side");
-    say::number(side as u64);
-    say::end_line();
+    say::say(rt, b" blocks by side");
+    say::number(rt, side as u64);
+    say::end_line(rt);
 }
 
 // Whether z blocks a, b along the streets.
-fn street_block(a: Spot, b: Spot, z: Spot)
+fn street_block(rt: &HostRuntime, a: Spot, b: Spot, z: Spot)
     requires { SpotIn a × SpotIn b × SpotIn z }
 {
-    say::say(b"street rule");
-    say_spot(a);
-    say_spot(b);
-    say_spot(z);
+    say::say(rt, b"street rule");
+    say_spot(rt, a);
+    say_spot(rt, b);
+    say_spot(rt, z);
     if plane::profile::does_block(true, a, b, z) {
-        say::say(b" blocks\n");
+        say::say(rt, b" blocks\n");
     } else {
-        say::say(b" does not block\n");
+        say::say(rt, b" does not block\n");
     }
 }
 
 // What a box is to the pair a, b along the streets.
-fn street_box(a: Spot, b: Spot, low: Spot, high: Spot)
+fn street_box(rt: &HostRuntime, a: Spot, b: Spot, low: Spot, high: Spot)
     requires { SpotIn a × SpotIn b × SpotIn low × SpotIn high }
 {
-    say::say(b"street boxes");
-    say_spot(a);
-    say_spot(b);
-    say::say(b" box");
-    say_spot(low);
-    say_spot(high);
+    say::say(rt, b"street boxes");
+    say_spot(rt, a);
+    say_spot(rt, b);
+    say::say(rt, b" box");
+    say_spot(rt, low);
+    say_spot(rt, high);
     let o = boxed(low, high);
     if plane::profile::is_far(true, a, b, o) {
-        say::say(b" skipped\n");
+        say::say(rt, b" skipped\n");
         return;
     }
     let side = plane::profile::side_inside(true, a, b, o);
     if side == 4 {
-        say::say(b" opened\n");
+        say::say(rt, b" opened\n");
         return;
     }
-    say::say(b" blocks by side");
-    say::number(side as u64);
-    say::end_line();
+    say::say(rt, b" blocks by side");
+    say::number(rt, side as u64);
+    say::end_line(rt);
 }
 
 // The size of the pair a, b along the streets.
-fn street_size(a: Spot, b: Spot)
+fn street_size(rt: &HostRuntime, a: Spot, b: Spot)
     requires { SpotIn a × SpotIn b }
 {
-    say::say(b"street size");
-    say_spot(a);
-    say_spot(b);
-    say::number(plane::profile::size_of(true, a, b));
-    say::end_line();
+    say::say(rt, b"street size");
+    say_spot(rt, a);
+    say_spot(rt, b);
+    say::number(rt, plane::profile::size_of(true, a, b));
+    say::end_line(rt);
 }
 
-fn street_rule() {
-    street_block(spot(0, 0), spot(4, 0), spot(2, 2));
-    street_block(spot(0, 0), spot(4, 0), spot(3, 1));
-    street_block(spot(0, 0), spot(4, 0), spot(2, 3));
-    street_block(spot(0, 0), spot(4, 0), spot(0, 0));
-    street_block(spot(0, 0), spot(4, 0), spot(4, 0));
-    street_block(spot(0, 0), spot(1, 0), spot(1, 1));
-    street_block(spot(0, 0), spot(4, 4), spot(5, 3));
-    street_block(spot(0, 0), spot(5, 3), spot(4, 4));
+fn street_rule(rt: &HostRuntime) {
+    street_block(rt, spot(0, 0), spot(4, 0), spot(2, 2));
+    street_block(rt, spot(0, 0), spot(4, 0), spot(3, 1));
+    street_block(rt, spot(0, 0), spot(4, 0), spot(2, 3));
+    street_block(rt, spot(0, 0), spot(4, 0), spot(0, 0));
+    street_block(rt, spot(0, 0), spot(4, 0), spot(4, 0));
+    street_block(rt, spot(0, 0), spot(1, 0), spot(1, 1));
+    street_block(rt, spot(0, 0), spot(4, 4), spot(5, 3));
+    street_block(rt, spot(0, 0), spot(5, 3), spot(4, 4));
 }
 
-fn street_boxes() {
-    street_box(spot(0, 0), spot(4, 0), spot(2, 2), spot(5, 5));
-    street_box(spot(0, 0), spot(4, 0), spot(4, 1), spot(6, 6));
-    street_box(spot(0, 0), spot(4, 0), spot(0, 0), spot(0, 0));
-    street_box(spot(0, 0), spot(4, 0), spot(1, 0), spot(9, 1));
-    street_box(spot(0, 0), spot(4, 0), spot(2, 0), spot(9, 1));
-    street_size(spot(0, 0), spot(3, 4));
+fn street_boxes(rt: &HostRuntime) {
+    street_box(rt, spot(0, 0), spot(4, 0), spot(2, 2), spot(5, 5));
+    street_box(rt, spot(0, 0), spot(4, 0), spot(4, 1), spot(6, 6));
+    street_box(rt, spot(0, 0), spot(4, 0), spot(0, 0), spot(0, 0));
+    street_box(rt, spot(0, 0), spot(4, 0), spot(1, 0), spot(9, 1));
+    street_box(rt, spot(0, 0), spot(4, 0), spot(2, 0), spot(9, 1));
+    street_size(rt, spot(0, 0), spot(3, 4));
 }
 
-fn ring_rule() {
-    block(spot(0, 0), spot(4, 0), spot(2, 2));
-    block(spot(0, 0), spot(4, 0), spot(2, 3));
-    block(spot(0, 0), spot(4, 0), spot(2, 1));
-    block(spot(0, 0), spot(4, 0), spot(0, 0));
-    block(spot(7, 7), spot(7, 7), spot(7, 8));
-    block(spot(7, 7), spot(7, 7), spot(7, 7));
+fn ring_rule(rt: &HostRuntime) {
+    block(rt, spot(0, 0), spot(4, 0), spot(2, 2));
+    block(rt, spot(0, 0), spot(4, 0), spot(2, 3));
+    block(rt, spot(0, 0), spot(4, 0), spot(2, 1));
+    block(rt, spot(0, 0), spot(4, 0), spot(0, 0));
+    block(rt, spot(7, 7), spot(7, 7), spot(7, 8));
+    block(rt, spot(7, 7), spot(7, 7), spot(7, 7));
 }
 
-fn filter_rule() {
-    skip(spot(0, 0), spot(3, 0), spot(3, 5));
-    skip(spot(0, 0), spot(3, 0), spot(2, 5));
-    skip_box(spot(0, 0), spot(3, 0), spot(3, -1), spot(9, 4));
+fn filter_rule(rt: &HostRuntime) {
+    skip(rt, spot(0, 0), spot(3, 0), spot(3, 5));
+    skip(rt, spot(0, 0), spot(3, 0), spot(2, 5));
+    skip_box(rt, spot(0, 0), spot(3, 0), spot(3, -1), spot(9, 4));
 }
 
-fn box_rules() {
-    box_rule(spot(0, 0), spot(4, 0), spot(1, 0), spot(9, 1));
-    box_rule(spot(0, 0), spot(4, 0), spot(0, 0), spot(0, 0));
-    box_rule(spot(0, 0), spot(4, 0), spot(2, 2), spot(5, 5));
-    box_rule(spot(0, 0), spot(4, 0), spot(4, 1), spot(6, 6));
+fn box_rules(rt: &HostRuntime) {
+    box_rule(rt, spot(0, 0), spot(4, 0), spot(1, 0), spot(9, 1));
+    box_rule(rt, spot(0, 0), spot(4, 0), spot(0, 0), spot(0, 0));
+    box_rule(rt, spot(0, 0), spot(4, 0), spot(2, 2), spot(5, 5));
+    box_rule(rt, spot(0, 0), spot(4, 0), spot(4, 1), spot(6, 6));
 }
 
-pub fn rules() {
-    ring_rule();
-    filter_rule();
-    box_rules();
-    street_rule();
-    street_boxes();
+pub fn rules(rt: &HostRuntime) {
+    ring_rule(rt);
+    filter_rule(rt);
+    box_rules(rt);
+    street_rule(rt);
+    street_boxes(rt);
 }

@@ -1,54 +1,52 @@
 // What a case prints.
-use libc::STDOUT_FILENO;
 use list::Pair;
 
-pub fn say(text: &[u8]) {
-    io::write_all(STDOUT_FILENO, text);
+pub fn say(rt: &HostRuntime, text: &[u8]) {
+    let _ = rt.write_all(text);
 }
 
 // A space and a number.
-pub fn number(n: u64) {
-    say(b" ");
-    io::print_decimal(STDOUT_FILENO, n);
+pub fn number(rt: &HostRuntime, n: u64) {
+    let _ = print!(rt; " {n}");
 }
 
 // The same in base sixteen.
-pub fn hex(n: u64) {
-    say(b" ");
-    io::print_hex(STDOUT_FILENO, n, 1);
+pub fn hex(rt: &HostRuntime, n: u64) {
+    let _ = print!(rt; " {n:x}");
 }
 
-pub fn signed(z: i64) {
+pub fn signed(rt: &HostRuntime, z: i64) {
     if z < 0 {
-        say(b" -");
-        io::print_decimal(STDOUT_FILENO, text::size(z));
+        say(rt, b" -");
+        let size = text::size(z);
+        let _ = print!(rt; "{size}");
         return;
     }
-    number(text::size(z));
+    number(rt, text::size(z));
 }
 
-pub fn end_line() {
-    say(b"\n");
+pub fn end_line(rt: &HostRuntime) {
+    say(rt, b"\n");
 }
 
-pub fn refused(no: u32) {
-    say(b" refused");
-    number(no as u64);
+pub fn refused(rt: &HostRuntime, no: u32) {
+    say(rt, b" refused");
+    number(rt, no as u64);
 }
 
-pub fn pair(v: Pair) {
-    number(v.q as u64);
-    number(v.p as u64);
-    number(v.size);
+pub fn pair(rt: &HostRuntime, v: Pair) {
+    number(rt, v.q as u64);
+    number(rt, v.p as u64);
+    number(rt, v.size);
 }
 
 // The first `count` of sixteen pairs.
-pub fn pairs(row: [Pair; 16], count: usize) {
+pub fn pairs(rt: &HostRuntime, row: [Pair; 16], count: usize) {
     let mut k = 0;
     while k < 16 {
         if k < count {
             let v = row[k];
-            pair(v);
+            pair(rt, v);
         }
         k += 1;
     }

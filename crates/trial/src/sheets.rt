@@ -1,4 +1,5 @@
 // Sheets opened, points of them read, and point lists packed.
+use crate::tape::Tape;
 use crate::{say, tape};
 
 // What every lent word holds before a sheet is packed into it.
@@ -7,53 +8,53 @@ const MARK: i32 = -77;
 // The most words that a stored sheet has.
 const MOST: usize = 8192;
 
-fn opened(s: &[i32]) {
-    say::say(b"open");
-    say::number(ring::open::open_no(s) as u64);
-    say::end_line();
+fn opened(rt: &HostRuntime, s: &[i32]) {
+    say::say(rt, b"open");
+    say::number(rt, ring::open::open_no(s) as u64);
+    say::end_line(rt);
 }
 
 // A length and a sheet of so many words.
-pub fn open_case() {
-    let n = tape::next_up_to(MOST);
+pub fn open_case(rt: &HostRuntime, tape: &mut Tape) {
+    let n = tape::next_up_to(tape, MOST);
     let mut space = [0i32; MOST];
-    tape::fill(&mut space, n);
-    opened(&space[..n]);
+    tape::fill(tape, &mut space, n);
+    opened(rt, &space[..n]);
 }
 
-pub fn print_point(r: ring::Pointed) {
+pub fn print_point(rt: &HostRuntime, r: ring::Pointed) {
     match r {
         ring::Pointed::At(a) => {
-            say::number(a.id as u64);
-            say::signed(words::wide(a.x));
-            say::signed(words::wide(a.y));
+            say::number(rt, a.id as u64);
+            say::signed(rt, words::wide(a.x));
+            say::signed(rt, words::wide(a.y));
         }
         ring::Pointed::Refused(number) => {
-            say::refused(number);
+            say::refused(rt, number);
         }
     }
 }
 
-fn read(s: &[i32], position: usize) {
-    say::say(b"point");
-    say::number(position as u64);
-    say::say(b":");
-    print_point(ring::reader::point(s, position));
-    say::end_line();
+fn read(rt: &HostRuntime, s: &[i32], position: usize) {
+    say::say(rt, b"point");
+    say::number(rt, position as u64);
+    say::say(rt, b":");
+    print_point(rt, ring::reader::point(s, position));
+    say::end_line(rt);
 }
 
 // A length, a sheet of so many words, and a position.
-pub fn point_case() {
-    let n = tape::next_up_to(MOST);
+pub fn point_case(rt: &HostRuntime, tape: &mut Tape) {
+    let n = tape::next_up_to(tape, MOST);
     let mut space = [0i32; MOST];
-    tape::fill(&mut space, n);
-    read(&space[..n], tape::next_or_largest());
+    tape::fill(tape, &mut space, n);
+    read(rt, &space[..n], tape::next_or_largest(tape));
 }
 
-fn print_words(s: &[i32]) {
+fn print_words(rt: &HostRuntime, s: &[i32]) {
     let mut k = 0;
     while k < s.len() {
-        say::signed(words::wide(words::at(s, k)));
+        say::signed(rt, words::wide(words::at(s, k)));
         k += 1;
     }
 }
@@ -70,49 +71,49 @@ fn is_marked(s: &[i32]) -> bool {
 }
 
 // A packed sheet is printed and opened; of a refused one it is said whether each lent word is as it was.
-fn print_packed(number: u32, out: &[i32]) {
-    say::say(b"pack");
-    say::number(number as u64);
+fn print_packed(rt: &HostRuntime, number: u32, out: &[i32]) {
+    say::say(rt, b"pack");
+    say::number(rt, number as u64);
     if number == 0 {
-        say::say(b" open");
-        say::number(ring::open::open_no(out) as u64);
-        say::say(b":");
-        print_words(out);
+        say::say(rt, b" open");
+        say::number(rt, ring::open::open_no(out) as u64);
+        say::say(rt, b":");
+        print_words(rt, out);
     } else if is_marked(out) {
-        say::say(b" as it was");
+        say::say(rt, b" as it was");
     } else {
-        say::say(b" changed");
+        say::say(rt, b" changed");
     }
-    say::end_line();
+    say::end_line(rt);
 }
 
-fn packed(form: u32, n: usize, points: &[i32], order: &[i32], edition: u32, out: &mut [i32]) {
+fn packed(rt: &HostRuntime, form: u32, n: usize, points: &[i32], order: &[i32], edition: u32, out: &mut [i32]) {
     let number = pack::pack(form, n, points, order, edition, out);
-    print_packed(number, out);
+    print_packed(rt, number, out);
 }
 
 // A number of 64 bits, from three words.
-fn next_long() -> usize {
-    let low = tape::next_up_to(16777215);
-    let middle = tape::next_up_to(16777215);
-    let high = tape::next_up_to(65535);
+fn next_long(tape: &mut Tape) -> usize {
+    let low = tape::next_up_to(tape, 16777215);
+    let middle = tape::next_up_to(tape, 16777215);
+    let high = tape::next_up_to(tape, 65535);
     low + 16777216 * middle + 281474976710656 * high
 }
 
 // A form, n, how many point words and order words there are, an edition, the length of the lent output, the point words and the order words.
-pub fn pack_case() {
-    let form = tape::next_id();
-    let n = next_long();
-    let np = tape::next_up_to(MOST);
-    let no = tape::next_up_to(MOST);
-    let edition = tape::next_id();
-    let lent = tape::next_up_to(MOST);
+pub fn pack_case(rt: &HostRuntime, tape: &mut Tape) {
+    let form = tape::next_id(tape);
+    let n = next_long(tape);
+    let np = tape::next_up_to(tape, MOST);
+    let no = tape::next_up_to(tape, MOST);
+    let edition = tape::next_id(tape);
+    let lent = tape::next_up_to(tape, MOST);
     let mut points = [0i32; MOST];
     let mut order = [0i32; MOST];
     let mut out = [MARK; MOST];
-    tape::fill(&mut points, np);
-    tape::fill(&mut order, no);
-    packed(
+    tape::fill(tape, &mut points, np);
+    tape::fill(tape, &mut order, no);
+    packed(rt, 
         form,
         n,
         &points[..np],

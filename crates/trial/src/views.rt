@@ -4,6 +4,7 @@ ghost use Rattle.ring.specs.Answers.{pointed, filtered, filtered_bits, walked};
 ghost use Rattle.ring.specs.Page.{page_answer, page_bits};
 ghost use Rattle.nearest.specs.Nearest.{nearest_no, nearest_answer, waited_by};
 
+use crate::tape::Tape;
 use crate::{say, tape};
 use list::{Key, Page, Request};
 use nearest::Found;
@@ -11,79 +12,79 @@ use ring::{Filtered, Head, Paged, Pointed, Walked};
 use view::Sheet;
 use walk::Answer;
 
-fn show_head(h: Head) {
-    say::say(b"open");
-    say::number(h.number as u64);
-    say::number(h.len as u64);
-    say::number(h.n as u64);
-    say::number(h.m as u64);
+fn show_head(rt: &HostRuntime, h: Head) {
+    say::say(rt, b"open");
+    say::number(rt, h.number as u64);
+    say::number(rt, h.len as u64);
+    say::number(rt, h.n as u64);
+    say::number(rt, h.m as u64);
 }
 
-fn show_filter(f: Filtered) {
-    say::say(b"filter");
-    say::number(f.number as u64);
-    say::number(f.count as u64);
-    say::number(f.opened);
+fn show_filter(rt: &HostRuntime, f: Filtered) {
+    say::say(rt, b"filter");
+    say::number(rt, f.number as u64);
+    say::number(rt, f.count as u64);
+    say::number(rt, f.opened);
 }
 
-fn show_answer(a: Answer) {
+fn show_answer(rt: &HostRuntime, a: Answer) {
     let h = a.hit;
-    crate::walks::print_hit(h);
-    say::say(b", opened");
-    say::number(a.opened);
+    crate::walks::print_hit(rt, h);
+    say::say(rt, b", opened");
+    say::number(rt, a.opened);
 }
 
-fn show_point(a: Pointed) {
-    say::say(b"point");
-    crate::sheets::print_point(a);
+fn show_point(rt: &HostRuntime, a: Pointed) {
+    say::say(rt, b"point");
+    crate::sheets::print_point(rt, a);
 }
 
-fn show_walk(w: Walked) {
-    say::say(b"ring");
+fn show_walk(rt: &HostRuntime, w: Walked) {
+    say::say(rt, b"ring");
     match w {
-        Walked::Done(a) => show_answer(a),
-        Walked::Refused(no) => say::refused(no),
+        Walked::Done(a) => show_answer(rt, a),
+        Walked::Refused(no) => say::refused(rt, no),
     }
 }
 
-fn show_pairs(g: Page) {
-    say::number(g.count as u64);
-    say::say(b" of");
-    say::number(g.source.terms.contractor as u64);
+fn show_pairs(rt: &HostRuntime, g: Page) {
+    say::number(rt, g.count as u64);
+    say::say(rt, b" of");
+    say::number(rt, g.source.terms.contractor as u64);
     if g.source.terms.grid {
-        say::say(b" grid");
+        say::say(rt, b" grid");
     }
     if g.end {
-        say::say(b" end");
+        say::say(rt, b" end");
     }
-    say::pair(g.pairs[0]);
-    say::pair(g.pairs[1]);
-    say::pair(g.pairs[15]);
+    say::pair(rt, g.pairs[0]);
+    say::pair(rt, g.pairs[1]);
+    say::pair(rt, g.pairs[15]);
 }
 
-fn show_page(a: Paged) {
-    say::say(b"page");
-    say::number(a.number as u64);
-    say::number(a.opened);
+fn show_page(rt: &HostRuntime, a: Paged) {
+    say::say(rt, b"page");
+    say::number(rt, a.number as u64);
+    say::number(rt, a.opened);
     let g = a.page;
-    show_pairs(g);
+    show_pairs(rt, g);
 }
 
-fn show_found(f: Found) {
-    say::say(b"nearest");
-    say::number(f.number as u64);
-    say::number(f.count as u64);
-    crate::near::print_near(f.points[0]);
-    crate::near::print_near(f.points[1]);
-    crate::near::print_near(f.points[15]);
+fn show_found(rt: &HostRuntime, f: Found) {
+    say::say(rt, b"nearest");
+    say::number(rt, f.number as u64);
+    say::number(rt, f.count as u64);
+    crate::near::print_near(rt, f.points[0]);
+    crate::near::print_near(rt, f.points[1]);
+    crate::near::print_near(rt, f.points[15]);
 }
 
-fn show_waiting(numbers: [u64; 4]) {
-    say::say(b" numbers");
-    say::number(numbers[0]);
-    say::number(numbers[1]);
-    say::number(numbers[2]);
-    say::number(numbers[3]);
+fn show_waiting(rt: &HostRuntime, numbers: [u64; 4]) {
+    say::say(rt, b" numbers");
+    say::number(rt, numbers[0]);
+    say::number(rt, numbers[1]);
+    say::number(rt, numbers[2]);
+    say::number(rt, numbers[3]);
 }
 
 // The readers on views made here, of words and any counts: the answer is that of the words alone.
@@ -213,6 +214,7 @@ fn nearest_through(
 
 // The pump houses nearest to a chamber, then the four lent numbers.
 fn ask_near(
+    rt: &HostRuntime,
     p: &[i32],
     np: usize,
     mp: usize,
@@ -223,12 +225,13 @@ fn ask_near(
     size: usize,
 ) {
     let mut waiting: [u64; 4] = [7, 8, 9, 10];
-    show_found(nearest_through(p, np, mp, q, nq, mq, id, size, &mut waiting));
-    show_waiting(waiting);
+    show_found(rt, nearest_through(p, np, mp, q, nq, mq, id, size, &mut waiting));
+    show_waiting(rt, waiting);
 }
 
 // Where two of the four are lent.
 fn ask_short(
+    rt: &HostRuntime,
     p: &[i32],
     np: usize,
     mp: usize,
@@ -239,12 +242,14 @@ fn ask_short(
     size: usize,
 ) {
     let mut waiting: [u64; 4] = [7, 8, 9, 10];
-    show_found(nearest_through(p, np, mp, q, nq, mq, id, size, &mut waiting[..2]));
-    show_waiting(waiting);
+    show_found(rt, nearest_through(p, np, mp, q, nq, mq, id, size, &mut waiting[..2]));
+    show_waiting(rt, waiting);
 }
 
 // A page from a key: its contractor, how many owner bytes there are, and these.
 fn ask_page(
+    rt: &HostRuntime,
+    tape: &mut Tape,
     p: &[i32],
     np: usize,
     mp: usize,
@@ -256,10 +261,10 @@ fn ask_page(
     grid: bool,
     bits: &mut [u64],
 ) {
-    let contractor = tape::next_id();
-    let n = tape::next_up_to(crate::pages::OWNERS);
+    let contractor = tape::next_id(tape);
+    let n = tape::next_up_to(tape, crate::pages::OWNERS);
     let mut owners = [0u8; crate::pages::OWNERS];
-    tape::fill_bytes(&mut owners, n);
+    tape::fill_bytes(tape, &mut owners, n);
     let request = Request {
         key: key,
         size: size,
@@ -267,36 +272,36 @@ fn ask_page(
         contractor: contractor,
         grid: grid,
     };
-    show_page(page_through(p, np, mp, q, nq, mq, &owners[..n], request, bits));
+    show_page(rt, page_through(p, np, mp, q, nq, mq, &owners[..n], request, bits));
 }
 
 // Which call, the counts that the views of P and of Q claim, two positions or ids, a size, and a profile. A call that does not take one of these reads it all the same.
-pub fn view_case(p: &[i32], q: &[i32], bits: &mut [u64]) {
-    let call = tape::next_count();
-    let np = tape::next_or_largest();
-    let mp = tape::next_or_largest();
-    let nq = tape::next_or_largest();
-    let mq = tape::next_or_largest();
-    let a = tape::next_id();
-    let b = tape::next_id();
-    let size = tape::next_or_largest();
-    let grid = tape::next_mark();
+pub fn view_case(rt: &HostRuntime, tape: &mut Tape, p: &[i32], q: &[i32], bits: &mut [u64]) {
+    let call = tape::next_count(tape);
+    let np = tape::next_or_largest(tape);
+    let mp = tape::next_or_largest(tape);
+    let nq = tape::next_or_largest(tape);
+    let mq = tape::next_or_largest(tape);
+    let a = tape::next_id(tape);
+    let b = tape::next_id(tape);
+    let size = tape::next_or_largest(tape);
+    let grid = tape::next_mark(tape);
     if call == 1 {
-        show_head(view::open_head(p));
+        show_head(rt, view::open_head(p));
     } else if call == 2 {
-        show_point(view::point_opened(p, a as usize));
+        show_point(rt, view::point_opened(p, a as usize));
     } else if call == 3 {
-        show_point(point_through(p, np, mp, a as usize));
+        show_point(rt, point_through(p, np, mp, a as usize));
     } else if call == 4 {
-        show_filter(filter_walk_through(p, np, mp, q, nq, mq, a as usize, bits));
+        show_filter(rt, filter_walk_through(p, np, mp, q, nq, mq, a as usize, bits));
     } else if call == 5 {
-        show_walk(ring_walk_through(p, np, mp, q, nq, mq, a as usize, b as usize, grid));
+        show_walk(rt, ring_walk_through(p, np, mp, q, nq, mq, a as usize, b as usize, grid));
     } else if call == 6 {
         let key = Key { q: a, p: b };
-        ask_page(p, np, mp, q, nq, mq, key, size, grid, bits);
+        ask_page(rt, tape, p, np, mp, q, nq, mq, key, size, grid, bits);
     } else if call == 7 {
-        ask_near(p, np, mp, q, nq, mq, a, size);
+        ask_near(rt, p, np, mp, q, nq, mq, a, size);
     } else {
-        ask_short(p, np, mp, q, nq, mq, a, size);
+        ask_short(rt, p, np, mp, q, nq, mq, a, size);
     }
 }

@@ -1,60 +1,61 @@
 // Both walks on two sheets.
+use crate::tape::Tape;
 use crate::{say, tape};
 
 // A position of Q, and its filter walk, which leaves its kept set in the words lent.
-pub fn filter_case(p: &[i32], q: &[i32], bits: &mut [u64]) {
-    let j = tape::next_or_largest();
-    say::say(b"filter");
-    say::number(j as u64);
-    say::say(b":");
+pub fn filter_case(rt: &HostRuntime, tape: &mut Tape, p: &[i32], q: &[i32], bits: &mut [u64]) {
+    let j = tape::next_or_largest(tape);
+    say::say(rt, b"filter");
+    say::number(rt, j as u64);
+    say::say(rt, b":");
     let f = ring::filter::filter_walk(p, q, j, bits);
-    say::number(f.number as u64);
-    say::number(f.count as u64);
-    say::number(f.opened);
+    say::number(rt, f.number as u64);
+    say::number(rt, f.count as u64);
+    say::number(rt, f.opened);
 }
 
-pub fn print_hit(h: walk::Hit) {
+pub fn print_hit(rt: &HostRuntime, h: walk::Hit) {
     match h {
         walk::Hit::Clear => {
-            say::say(b" clear");
+            say::say(rt, b" clear");
         }
         walk::Hit::Point(b) => {
-            say::say(b" point");
-            say::number(b.set as u64);
-            say::number(b.position as u64);
+            say::say(rt, b" point");
+            say::number(rt, b.set as u64);
+            say::number(rt, b.position as u64);
         }
         walk::Hit::Side(e) => {
-            say::say(b" side");
-            say::number(e.set as u64);
-            say::number(e.node as u64);
-            say::number(e.side as u64);
+            say::say(rt, b" side");
+            say::number(rt, e.set as u64);
+            say::number(rt, e.node as u64);
+            say::number(rt, e.side as u64);
         }
     }
 }
 
-fn print_answer(r: ring::Walked) {
+fn print_answer(rt: &HostRuntime, r: ring::Walked) {
     match r {
         ring::Walked::Refused(number) => {
-            say::refused(number);
+            say::refused(rt, number);
         }
         ring::Walked::Done(a) => {
             let h = a.hit;
-            print_hit(h);
-            say::number(a.opened);
+            print_hit(rt, h);
+            say::number(rt, a.opened);
         }
     }
-    say::end_line();
+    say::end_line(rt);
 }
 
 // A position of Q, one of P and a profile, and their ring walk.
-pub fn ring_case(p: &[i32], q: &[i32]) {
-    let j = tape::next_or_largest();
-    let i = tape::next_or_largest();
-    let grid = tape::next_mark();
-    say::say(b"ring");
-    say::number(j as u64);
-    say::number(i as u64);
-    crate::pages::print_mark(grid);
-    say::say(b":");
-    print_answer(ring::ringwalk::ring_walk(p, q, j, i, grid));
+pub fn ring_case(rt: &HostRuntime, tape: &mut Tape, p: &[i32], q: &[i32]) {
+    let j = tape::next_or_largest(tape);
+    let i = tape::next_or_largest(tape);
+    let grid = tape::next_mark(tape);
+    say::say(rt, b"ring");
+    say::number(rt, j as u64);
+    say::number(rt, i as u64);
+    crate::pages::print_mark(rt, grid);
+    say::say(rt, b":");
+    print_answer(rt, ring::ringwalk::ring_walk(p, q, j, i, grid));
 }
