@@ -160,6 +160,7 @@ module _ (w : List ℤ) (n m : ℕ) (q : Spot) where
 
   pub insert_some : {P : ℕ → Type 0} (e : ℕ) (l : List ℕ) → Some P l → Some P (insert w n m q e l)
   unfolding insert
+  insert_some {P = P} e [] x' = elim x' [ ]
   insert_some {P} e (f ∷ l) (here p) = insert_cases (Some P) e f l (λ h. later (here p)) (λ h. here p)
   insert_some {P} e (f ∷ l) (later r) = insert_cases (Some P) e f l (λ h. later (later r)) (λ h. later (insert_some e l r))
 
