@@ -2,12 +2,8 @@
 use Prim.Native.Nat.{◌-◌, ◌≤◌}
 use Rattle.packing.proofs.write_words.Given as goal
 
--- CONV: parameters differ: s len at₀ at
-
 abbrev pub invariant-loop-at : goal.invariant-loop-at
-invariant-loop-at l = l.initial.at ≤ l.s
-
--- CONV: parameters differ: s len at₀ at
+invariant-loop-at g l = l.at ≤ l.len
 
 abbrev pub decreases-loop-at : goal.decreases-loop-at
-decreases-loop-at l = l.s - l.initial.at
+decreases-loop-at g l = l.len - l.at
