@@ -1,12 +1,8 @@
-use Rattle.std.proofs.Common.{◌-◌, ◌≤◌, rules}
+use Rattle.std.proofs.Common.{◌-◌, ◌≤◌}
 use Rattle.story.proofs.main.Given as goal
 
--- CONV: parameters differ: t₀ seed₀ i₀ t seed i
-
 abbrev pub invariant-loop-i : goal.invariant-loop-i
-invariant-loop-i l = l.seed ≤ 1000
-
--- CONV: parameters differ: t₀ seed₀ i₀ t seed i
+invariant-loop-i l = l.i ≤ 1000
 
 abbrev pub decreases-loop-i : goal.decreases-loop-i
-decreases-loop-i l = 1000 - l.seed
+decreases-loop-i l = 1000 - l.i
