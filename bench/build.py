@@ -36,10 +36,8 @@ def program(name, sources, words=()):
     """The program of these C files, compiled as the archive is, with these words beside, and the archive."""
     os.makedirs(WORK, exist_ok=True)
     objects = [compiled(kit.TARGET, source + ".c", os.path.join(WORK, "%s-%s.o" % (name, source)), [LEVEL] + list(words)) for source in sources]
-    tools = kit.toolchain()
-    link = os.path.join(os.path.dirname(tools), "bin", "rattle-link")
     made = os.path.join(WORK, name)
-    kit.ran([link, "--target", kit.TARGET, "--toolchain", tools, "-o", made] + objects + [archive()], "%s is not linked: see above" % name)
+    kit.ran(kit.linker() + [made] + objects + [archive()], "%s is not linked: see above" % name)
     return made
 
 
@@ -50,6 +48,7 @@ def module():
     made = os.path.join(WORK, "ffi.bc")
     if not kit.newer(made, [archive()]):
         return made
+    os.makedirs(WORK, exist_ok=True)
     tools, keeping = kit.toolchain(), os.path.join(WORK, "keeping")
     os.makedirs(os.path.join(keeping, "bin"), exist_ok=True)
     for folder, names in (("", ["lib"]), ("bin", os.listdir(os.path.join(tools, "bin")))):
@@ -60,13 +59,15 @@ def module():
     with open(os.path.join(keeping, "bin", "clang"), "w", encoding="utf-8") as f:
         f.write(KEEP % (made, os.path.join(tools, "bin", "clang")))
     os.chmod(f.name, 0o755)
-    own, words = kit.machine(), []
-    for crate in kit.needs()["ffi"]:
-        words += ["--extern", "%s=%s" % (crate, os.path.join(TOP, "target", "rlib", crate + ".rlib"))]
-    logic = ["--antt-project", os.path.join(kit.home(), "logic", "antt-project.json"), "--logic-built", os.path.join(own, "logic-built")]
-    found = ["-L", "dependency=" + os.path.join(TOP, "target", "rlib"), "-L", "dependency=" + os.path.join(own, "rlib")]
-    kit.ran([os.path.join(own, "bin", "rattle"), "build", "--crate-name", "ffi", os.path.join(TOP, "crates", "ffi", "src", "lib.rt"), "--extern", "std=" + os.path.join(own, "rlib", "std.rlib")]
-            + words + found + logic + ["--toolchain", keeping, "--crate-type", "staticlib", "-o", os.path.join(WORK, "libffi.a")], "the module is not made: see above")
+    words, over = [], kit.OVER_C
+    for crate in sorted(kit.below(over) - {over}):
+        library = os.path.join(TOP, "crates", crate, "out", "rlib")
+        words += ["--extern", "%s=%s" % (crate, os.path.join(library, crate + ".rlib"))] if crate in kit.needs()[over] else ["-L", "dependency=" + library]
+    own = kit.home()
+    words += ["--extern", "std=" + os.path.join(own, "rlibs", "std.rlib"), "-L", "dependency=" + os.path.join(own, "rlibs")]
+    words += ["--antt-project", os.path.join(own, "rattle", "logic", "antt-project.json"), "--logic-built", os.path.join(own, "logic_built"), "--incremental", os.path.join(WORK, "incremental")]
+    kit.ran([os.path.join(own, "bin", "rattle"), "build", "--crate-name", over, os.path.join(TOP, "crates", over, "src", "lib.rt")]
+            + words + ["--toolchain", keeping, "--crate-type", "staticlib", "-o", os.path.join(WORK, "libffi.a")], "the module is not made: see above")
     return made
 
 
@@ -133,11 +134,6 @@ def instructions(command, work, nothing):
     did, before = counted(work), counted(nothing)
     parts = {short: did[short] - before.get(short, 0) for short in did}
     return sum(parts.values()), sorted(((count, short) for short, count in parts.items() if count > 0), reverse=True)
-
-
-def emulated():
-    """Whether the kit's emulator runs the programs."""
-    return os.path.exists(os.path.join(kit.toolchain(), "bin", "qemu-x86_64"))
 
 
 # ---------------------------------------------------------------- papers

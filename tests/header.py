@@ -20,8 +20,8 @@ LISTED = re.compile(r"^ \* +(\d+)  ((?:.*\n)(?: \*       .*\n)*)", re.M)
 SHEET = "a sheet"
 DECLARED = re.compile(r"^(\w+) (ring_\w+)\(([^)]*)\);", re.M)
 LAID_OUT = re.compile(r"^typedef struct (\w+) \{\n([^}]*)\}", re.M)
-EXPORTED = re.compile(r'^pub extern "C" fn (ring_\w+)\(([^)]*)\) -> (\w+)', re.M)
-STRUCT = re.compile(r"^#\[repr\(C\)\]\npub struct (\w+) \{\n([^}]*)\}", re.M)
+EXPORTED = re.compile(r'^pub extern "C" fn (ring_\w+)(?:<[^>]*>)?\(([^)]*)\)\s*->\s*((?:\w+::)*\w+)', re.M)
+STRUCT = re.compile(r"^#\[repr\(C\)\]\n(?:#\[.*\]\n)*pub struct (\w+) \{\n([^}]*)\}", re.M)
 FIELD = re.compile(r"^    pub (\w+): (.*),$", re.M)
 # what a type of the source is called over C; any other has `Ring` before its name
 NAMES = {"u8": "uint8_t", "u32": "uint32_t", "i32": "int32_t", "u64": "uint64_t", "usize": "size_t", "bool": "bool", "f64": "double", "HeadAnswer": "RingHead",
@@ -83,6 +83,7 @@ def split(text):
 
 def over_c(kind):
     """The types that a type of the source goes by over C: a slice as a pointer and a number of elements."""
+    kind = re.sub(r"\w+::|'\w+ ", "", kind)
     kind, size = re.fullmatch(r"\[(\w+); (\d+)\]", kind).groups() if kind[0] == "[" else (kind, "")
     lent = re.fullmatch(r"&(mut )?\[(\w+)\]", kind)
     if lent:
@@ -118,7 +119,8 @@ def differences(api, header, source):
 
 def main():
     api, header = read("docs/API.md"), read("include/ring.h")
-    source = "\n".join(read("crates/%s/src/lib.rt" % crate) for crate in ("list", "book", "depot", "ring", "runs", "shortest", "nearest", "many", "ranked", "ffi"))
+    source = "\n".join(read("crates/%s/src/lib.rt" % crate) for crate in ("list", "book", "depot", "ring", "runs", "shortest", "nearest", "many", "ranked", "ffi", "ffi_c")
+                       if os.path.exists(os.path.join(TOP, "crates", crate)))
     wrong = differences(api, header, source)
     # what is left out or changed must be told: a number of the list, a call of a number, a number of a call, a parameter, its type or name, a field, its type or name
     for lost, put in ((" *   25 ", ""), ("; more pairs than slots (ring_leaf_run)", ""), (", then 21,", ""), (", uint64_t *bits, size_t bits_len)", ")"),

@@ -1,13 +1,13 @@
 """What this repository builds with the Rattle kit, and how it is run: the proved programs, the archive of the proved calls, C programs over it.
 
-What is not built yet, or older than a crate, is proved and built first: each crate that is done is said on standard error as `k of n`, and every 15 seconds that
-work goes on. An interrupt ends the build's own processes, and no others. Programs are for x86-64: where the kit has an emulator for this machine it is used.
+What is not built yet, or older than a crate, is proved and built first, by `rt run` of a program and by `rt lib` of the archive: each crate that is done is said on
+standard error as `k of n`, and every 15 seconds that work goes on. What the gate (`rt ci`) has built counts. An interrupt ends the build's own processes, and no
+others. Programs are for x86-64, and run by the loader and the C library of the kit.
 The kit is found by `rt` on the path; where there is none, by the folder that was remembered when something was built last.
 """
 import contextlib
 import fcntl
 import os
-import platform
 import re
 import shutil
 import signal
@@ -20,7 +20,13 @@ TOP = os.path.dirname(os.path.dirname(os.path.abspath(__file__)))
 TARGET = "x86_64-unknown-linux-gnu"
 # how often it is said that work goes on, in seconds
 PATIENCE = 15
-DONE = re.compile(r"rt: (?:(\w+) proved \((.*)\)$|target/staticlib/lib(\w+)\.a has )")
+# the crate whose exports are the calls over C
+OVER_C = "ffi_c"
+# of a check's lines: a function that is done, the crate that it ends with, and that it is proved; and of `rt all verdict` the crate that is done
+FUNCTION = re.compile(r"checked (\w+)::\S+, (\d+) of (\d+)$")
+CRATE = re.compile(r"crate (\w+): modules ")
+PROVED = re.compile(r"logic=proved ")
+DONE = re.compile(r"== (\w+)$")
 
 
 class Fault(SystemExit):
@@ -46,20 +52,27 @@ def home():
     return folder
 
 
-def machine():
-    """The part of the kit for this machine."""
-    return os.path.join(home(), "on", platform.machine())
-
-
 def toolchain():
-    return os.path.join(machine(), "toolchain")
+    """The kit's compiler and linker, and the C library that programs run with."""
+    return os.path.join(home(), "toolchain")
+
+
+def linker():
+    """The words that link a program, but for its name and its parts."""
+    return [os.path.join(home(), "bin", "rattle-link"), "--target", TARGET, "--toolchain", toolchain(), "-o"]
 
 
 def remember():
     """Keeps the kit's folder for those who come without `rt` on the path."""
-    os.makedirs(kept(), exist_ok=True)
+    folder = home() + "\n"
+    try:
+        with open(kept("kit"), encoding="utf-8") as f:
+            if f.read() == folder:
+                return
+    except OSError:
+        os.makedirs(kept(), exist_ok=True)
     with open(kept("kit"), "w", encoding="utf-8") as f:
-        f.write(home() + "\n")
+        f.write(folder)
 
 
 # ---------------------------------------------------------------- proving and building
@@ -71,7 +84,7 @@ def needs():
         for line in f:
             name, colon, below = line.split("#")[0].partition(":")
             if colon:
-                lines[name.strip()] = below.split()
+                lines[name.split()[0]] = below.split()
     return {name: [one for one in below if one in lines] for name, below in lines.items()}
 
 
@@ -89,7 +102,8 @@ def below(name):
 def changed_since(made, crates):
     """Whether a file of these crates is newer than what was made of them, or the list of crates is."""
     at = os.path.getmtime(made)
-    files = (os.path.join(folder, name) for crate in crates for folder, _, names in os.walk(os.path.join(TOP, "crates", crate)) for name in names)
+    parts = (os.path.join(TOP, "crates", crate, part) for crate in crates for part in ("src", "specs", "proofs"))
+    files = (os.path.join(folder, name) for part in parts for folder, _, names in os.walk(part) for name in names)
     return os.path.getmtime(os.path.join(TOP, "crates.txt")) > at or any(os.path.getmtime(file) > at for file in files)
 
 
@@ -126,27 +140,31 @@ def group(words, **more):
 
 
 class Progress:
-    """Says each crate that is done, `k of n`, and now and then that work goes on."""
+    """Says each crate that is done, `k of n`, and now and then that work goes on. What a crate that is done stands on is done."""
 
     def __init__(self, crates):
-        self.left, self.count, self.done, self.begun = set(crates), len(crates), 0, time.monotonic()
+        self.crates, self.done, self.at, self.now = set(crates), set(), "", ""
+        self.begun = self.since = time.monotonic()
 
     def line(self, line):
-        found = DONE.match(line)
-        name, took = (found.group(1) or found.group(3), found.group(2) or "and its archive made") if found else ("", "")
-        if name in self.left:
-            self.left.remove(name)
-            self.done += 1
-            if not took.startswith("unchanged"):
-                say("%d of %d: %s proved (%s)" % (self.done, self.count, name, took))
+        function, crate = FUNCTION.match(line), CRATE.match(line)
+        if function:
+            self.now = ", %s of the %s functions to check of %s" % (function.group(2), function.group(3), function.group(1))
+        elif crate:
+            self.at = crate.group(1)
+        elif PROVED.match(line) and self.at in self.crates:
+            self.done |= below(self.at)
+            say("%d of %d: %s proved (%d s)" % (len(self.done), len(self.crates), self.at, time.monotonic() - self.since))
+            self.at, self.now, self.since = "", "", time.monotonic()
 
     def waits(self):
-        say("still proving, %d of %d done, %d seconds so far" % (self.done, self.count, time.monotonic() - self.begun))
+        say("still proving, %d of %d done%s, %d seconds so far" % (len(self.done), len(self.crates), self.now, time.monotonic() - self.begun))
 
 
-def worked(words, progress, log):
-    """Runs `rt` with these words, its lines to the progress and to the log; its status."""
-    with group([os.path.join(home(), "bin", "rt")] + words, cwd=TOP, stdin=subprocess.DEVNULL, stdout=subprocess.PIPE, stderr=subprocess.STDOUT) as work:
+def worked(words, crate, progress, log):
+    """Runs `rt` with these words in the folder of a crate, its lines to the progress and to the log; its status."""
+    at = os.path.join(TOP, "crates", crate)
+    with group([os.path.join(home(), "bin", "rt")] + words, cwd=at, stdin=subprocess.DEVNULL, stdout=subprocess.PIPE, stderr=subprocess.STDOUT) as work:
         def follow():
             for line in work.stdout:
                 log.write(line)
@@ -174,44 +192,64 @@ def alone():
         yield
 
 
-def proved(made, crate, steps):
-    """What is made of a crate by these calls of `rt`, proved and built where it is not there or a crate has changed since."""
+def proved(crate, name, word):
+    """What `rt` makes of a crate by this word in its `out/`, proved and built where it is not there or a crate has changed since."""
     home()
-    crates = below(crate)
+    crates, made = below(crate), os.path.join(TOP, "crates", crate, "out", name)
+    shown = os.path.relpath(made, TOP)
     if os.path.exists(made) and not changed_since(made, crates):
+        remember()
         return made
     with alone():
         missing = not os.path.exists(made)
         if not missing and not changed_since(made, crates):
             return made
-        if missing:
-            say("proving and building %s: this takes some minutes the first time" % os.path.relpath(made, TOP))
-            with contextlib.suppress(FileNotFoundError):
-                os.remove(kept("stamp", crate))
-        else:
-            say("proving again what has changed below %s" % os.path.relpath(made, TOP))
+        say("proving and building %s: this takes some minutes the first time" % shown if missing else "proving again what has changed below %s" % shown)
         remember()
-        progress, status = Progress(crates), 0
-        name = os.path.join("target", "%s.log" % crate)
-        with open(os.path.join(TOP, name), "wb") as log:
-            for words in steps:
-                status = status or worked(words, progress, log)
-        if status or not os.path.exists(made):
-            with open(os.path.join(TOP, name), encoding="utf-8", errors="replace") as log:
-                sys.stderr.write("".join(log.readlines()[-20:]))
-            raise Fault("%s is not built: see above, and %s for the whole" % (os.path.relpath(made, TOP), name))
-        os.utime(made)
+        # what fails leaves what was made before: it is older than what it is asked for, and so does not count
+        begun, log = time.time(), os.path.join("target", "%s.log" % crate)
+        with open(os.path.join(TOP, log), "wb") as said:
+            status = worked([word], crate, Progress(crates), said)
+        with open(os.path.join(TOP, log), encoding="utf-8", errors="replace") as said:
+            lines = said.readlines()
+        # the status of `rt run` is that of the program, which is given nothing to read
+        ran = word == "run" and any(line.startswith("rt: running out/") for line in lines)
+        if (status and not ran) or not os.path.exists(made):
+            sys.stderr.write("".join(lines[-20:]))
+            raise Fault("%s is not built: see above, and %s for the whole" % (shown, log))
+        if os.path.getmtime(made) < begun:
+            os.utime(made)
     return made
 
 
 def built(name):
     """The proved program NAME."""
-    return proved(kept("bin", name), name, [["check", name]])
+    return proved(name, name, "run")
 
 
 def archive():
-    """The archive of the proved calls."""
-    return proved(kept("staticlib", "libffi.a"), "ffi", [["check"] + needs()["ffi"], ["staticlib", "ffi"]])
+    """The archive of the proved calls, under the name that its callers link: a copy of what `rt lib` makes of the crate whose exports they are."""
+    made, named = proved(OVER_C, "lib%s.a" % OVER_C, "lib"), kept("staticlib", "libffi.a")
+    if newer(named, [made]):
+        os.makedirs(os.path.dirname(named), exist_ok=True)
+        part = "%s.%d" % (named, os.getpid())
+        shutil.copyfile(made, part)
+        os.replace(part, named)
+    return named
+
+
+def verdicts(folder):
+    """Each crate of the repository in a folder with the seconds that it takes from nothing, its tests among them, one after the other; a Fault where one is not proved."""
+    last, lines = time.monotonic(), []
+    with group([os.path.join(home(), "bin", "rt"), "all", "verdict", "--jobs", "1"], cwd=folder, stdin=subprocess.DEVNULL, stdout=subprocess.PIPE, stderr=subprocess.STDOUT) as work:
+        for line in work.stdout:
+            lines.append(line.decode("utf-8", "replace"))
+            found = DONE.match(lines[-1].rstrip("\n"))
+            if found and found.group(1) != "summary":
+                yield found.group(1), round(time.monotonic() - last)
+                last = time.monotonic()
+        if work.wait():
+            raise Fault("%s%s is not proved: see above" % ("".join(lines[-20:]), folder))
 
 
 # ---------------------------------------------------------------- C programs
@@ -254,8 +292,7 @@ def linked(name, objects):
     parts = list(objects) + [archive()]
     if newer(made, parts):
         part = "%s.%d" % (made, os.getpid())
-        link = [os.path.join(machine(), "bin", "rattle-link"), "--target", TARGET, "--toolchain", toolchain(), "-o", part]
-        ran(link + parts, "%s is not linked: see above" % name)
+        ran(linker() + [part] + parts, "%s is not linked: see above" % name)
         os.replace(part, made)
     return made
 
@@ -264,10 +301,8 @@ def linked(name, objects):
 
 def command(program):
     """The words that run a program on this machine."""
-    tools = toolchain()
-    emulator = os.path.join(tools, "bin", "qemu-x86_64")
-    loader = [os.path.join(tools, "lib", "ld-linux-x86-64.so.2"), "--library-path", os.path.join(tools, "lib"), program]
-    return ([emulator] if os.path.exists(emulator) else []) + loader
+    lib = os.path.join(toolchain(), "lib")
+    return [os.path.join(lib, "ld-linux-x86-64.so.2"), "--library-path", lib, program]
 
 
 def run(name, given):

@@ -135,7 +135,7 @@ class Library(Folder):
         """C and C++ with the kit's compiler, on libring.a, wherever the kit runs."""
         for source in ("clients/client.c", "clients/client.cpp"):
             made = self.path(os.path.basename(source))
-            kit.ran([os.path.join(kit.machine(), "bin", "rattle-link"), "--target", kit.TARGET, "--toolchain", kit.toolchain(), "-o", made, kit.compiled(source), self.lib("libring.a")], "")
+            kit.ran(kit.linker() + [made, kit.compiled(source), self.lib("libring.a")], "")
             done = subprocess.run(kit.command(made), stdout=subprocess.PIPE)
             self.assertEqual((done.returncode, done.stdout), (0, read(EXPECTED)), source)
 

@@ -1,7 +1,6 @@
 """`./list` in a house of its own: a copy of the command with a kit whose `rt` only says what it would do, and a listing program that is the plain reading. Where
 things are built, the command is tried as it stands as well."""
 import os
-import platform
 import pty
 import shutil
 import signal
@@ -18,15 +17,21 @@ import reading
 
 RT = """#!/bin/sh
 # a kit that proves nothing: what it is asked is kept
-echo "$@" >> "$KIT/asked"
+echo "$@ of $(basename "$PWD")" >> "$KIT/asked"
 [ ! -e "$KIT/slow" ] || { sh -c 'echo $$ >> "$KIT/pids"; exec sleep 100' & echo $$ >> "$KIT/pids"; wait; }
 [ ! -e "$KIT/wait" ] || sleep 1.3
-echo "rt: low proved (3 s)"
-echo "rt: ground proved (unchanged since it was last proved)"
-[ ! -e "$KIT/fails" ] || { echo "the prover's own words"; echo "rt: listing NOT PROVED (exit 1, 2 s)"; exit 1; }
-mkdir -p target/bin
-cp "$KIT/listing" target/bin/listing
-echo "rt: listing proved (4 s)"
+[ ! -e "$KIT/checks" ] || { echo "checked low::first, 1 of 7"; sleep 1.3; }
+echo "rt: chose --jobs 2 for low"
+echo "checked low::least, 1 of 1"
+echo "crate low: modules loaded=0 checked=40"
+echo "logic=proved functions=1"
+[ ! -e "$KIT/fails" ] || { echo "the prover's own words"; exit 1; }
+mkdir -p out
+cp "$KIT/listing" out/listing
+echo "crate listing: modules loaded=0 checked=40"
+echo "logic=proved functions=1"
+echo "rt: running out/listing; to give it other input, run that file yourself"
+exit "$(cat "$KIT/status" 2>/dev/null || echo 0)"
 """
 LISTING = """#!%s
 import sys
@@ -56,13 +61,13 @@ class House(Folder):
     def setUp(self):
         super().setUp()
         self.top, self.kit = self.path("house"), self.path("kit")
-        for folder in ("tools", "python/ring", "include", "crates/low/src"):
+        for folder in ("tools", "python/ring", "include", "crates/low/src", "crates/listing/src"):
             os.makedirs(os.path.join(self.top, folder))
         for name in ["list", "tools/list.py", "tools/kit.py", "include/ring.h"] + ["python/ring/" + name for name in os.listdir(os.path.join(TOP, "python", "ring")) if name.endswith(".py")]:
             shutil.copy(os.path.join(TOP, name), os.path.join(self.top, name))
         with open(os.path.join(self.top, "crates.txt"), "w") as f:
             f.write(CRATES)
-        loader = os.path.join(self.kit, "on", platform.machine(), "toolchain", "lib")
+        loader = os.path.join(self.kit, "toolchain", "lib")
         os.makedirs(loader)
         os.makedirs(os.path.join(self.kit, "bin"))
         self.program(os.path.join(loader, "ld-linux-x86-64.so.2"), '#!/bin/sh\nshift 2\nexec "$@"\n')
@@ -176,7 +181,7 @@ class Status(House):
     def test_a_program_that_breaks_off_is_3(self):
         for first in ("sys.exit(0)", "print('5 1 4 0 16'); sys.exit(0)", "sys.stdout.write('end 0'); sys.exit(0)", "print('end 0'); sys.exit(9)"):
             self.listing(first)
-            shutil.copy(os.path.join(self.kit, "listing"), os.path.join(self.top, "target", "bin", "listing"))
+            shutil.copy(os.path.join(self.kit, "listing"), os.path.join(self.top, "crates", "listing", "out", "listing"))
             status, printed, said = self.list(*SHEETS)
             self.assertEqual((status, printed), (3, b""), first)
             self.assertIn("without its last line", said)
@@ -186,17 +191,17 @@ class Building(House):
     def test_k_of_n_while_it_builds_and_nothing_after(self):
         status, printed, said = self.list(*SHEETS)
         self.assertEqual((status, printed), (0, LISTED))
-        self.assertEqual(said, "list: proving and building target/bin/listing: this takes some minutes the first time\nlist: 1 of 3: low proved (3 s)\n"
-                               "list: 3 of 3: listing proved (4 s)\n")
+        self.assertRegex(said, r"^list: proving and building crates/listing/out/listing: this takes some minutes the first time\nlist: 2 of 3: low proved \(\d+ s\)\n"
+                               r"list: 3 of 3: listing proved \(\d+ s\)\n$")
         self.assertEqual(self.list(*SHEETS), (0, LISTED, ""))
-        self.assertEqual(self.asked(), ["check listing"])
+        self.assertEqual(self.asked(), ["run of listing"])
         later = time.time() + 5
         os.makedirs(os.path.join(self.top, "crates/low/src"), exist_ok=True)
         path = os.path.join(self.top, "crates", "low", "src", "lib.rt")
         open(path, "w").close()
         os.utime(path, (later, later))
         self.assertIn("proving again what has changed", self.list(*SHEETS)[2])
-        self.assertEqual(self.asked(), ["check listing"] * 2)
+        self.assertEqual(self.asked(), ["run of listing"] * 2)
 
     def test_that_it_goes_on_is_said(self):
         path = os.path.join(self.top, "tools", "kit.py")
@@ -205,13 +210,27 @@ class Building(House):
             f.write(text.replace("PATIENCE = 15\n", "PATIENCE = 0.5\n"))
         self.mark("wait")
         self.assertRegex(self.list(*SHEETS)[2], r"list: still proving, 0 of 3 done, \d+ seconds so far\n")
+        self.assertRegex(self.list(*SHEETS)[2], "^$")
+
+    def test_how_far_a_check_is_is_said(self):
+        path = os.path.join(self.top, "tools", "kit.py")
+        text = read(path).decode()
+        with open(path, "w") as f:
+            f.write(text.replace("PATIENCE = 15\n", "PATIENCE = 0.5\n"))
+        self.mark("checks")
+        self.assertRegex(self.list(*SHEETS)[2], r"list: still proving, 0 of 3 done, 1 of the 7 functions to check of low, \d+ seconds so far\n")
+
+    def test_the_status_of_the_program_is_no_fault_of_the_build(self):
+        with open(os.path.join(self.kit, "status"), "w") as f:
+            f.write("9")
+        self.assertEqual(self.list(*SHEETS)[:2], (0, LISTED))
 
     def test_a_build_that_fails_is_3(self):
         self.mark("fails")
         status, printed, said = self.list(*SHEETS)
         self.assertEqual((status, printed), (3, b""))
         self.assertIn("the prover's own words\n", said)
-        self.assertIn("list: target/bin/listing is not built: see above, and target/listing.log for the whole\n", said)
+        self.assertIn("list: crates/listing/out/listing is not built: see above, and target/listing.log for the whole\n", said)
 
     def test_through_a_link(self):
         link = self.path("listed")
@@ -259,7 +278,7 @@ class Building(House):
         said = [work.communicate(timeout=120) for work in (one, two)]
         self.assertEqual([printed for printed, _ in said], [LISTED, LISTED])
         self.assertIn(b"another build is under way here: waiting for it", said[0][1] + said[1][1])
-        self.assertEqual(self.asked(), ["check listing"])
+        self.assertEqual(self.asked(), ["run of listing"])
 
 
 @unittest.skipUnless(built(), "the listing program is not built")
