@@ -6,7 +6,7 @@ use Rattle.plane.specs.Rule.{SpotIn}
 use Rattle.walk.proofs.NodeLaws.{spot_fits}
 use Rattle.walk.proofs.FilterCode.{still_holds}
 use Rattle.seeds.proofs.LineLaws.{lined_all, line_holds}
-use Rattle.seeds.proofs.CoverLaws.{on_in, either_in, covers_all, covers_none, covers_walk, covers_profile}
+use Rattle.seeds.proofs.CoverLaws.{on_in, either_in, covers_walk, covers_profile}
 use Rattle.seeds.proofs.candidates.Goals as goal
 
 pub first_line-line-requires : goal.first_line-line-requires

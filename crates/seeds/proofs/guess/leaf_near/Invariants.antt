@@ -1,10 +1,7 @@
 -- `seeds::guess::leaf_near` answers a node, and ends, since the level falls. Assumes nothing.
 use mathlib.Core.Path.{◌≡◌}
-use Prim.Native.Nat.{◌-◌, ◌<◌}
-use native.Mathlib.Omega.{arith}
+use Prim.Native.Nat.{◌<◌}
 use Rattle.sheet.specs.Nodes.{level_of}
-use Rattle.walk.proofs.NodeLaws.{Node}
-use Rattle.seeds.proofs.CoverLaws.{node_runs, node_down}
 use Rattle.seeds.proofs.guess.leaf_near.Given as goal
 
 abbrev pub invariant-loop-level : goal.invariant-loop-level

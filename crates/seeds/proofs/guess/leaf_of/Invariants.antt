@@ -1,7 +1,5 @@
 -- `seeds::guess::leaf_of` answers a node. Assumes nothing.
 use Prim.Native.Nat.{◌-◌, ◌≤◌, ◌<◌}
-use native.Mathlib.Omega.{arith}
-use Rattle.seeds.proofs.CoverLaws.{has_nodes}
 use Rattle.seeds.proofs.guess.leaf_of.Given as goal
 
 abbrev pub invariant-loop-high : goal.invariant-loop-high

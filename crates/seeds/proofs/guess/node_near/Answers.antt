@@ -1,5 +1,3 @@
-use mathlib.Core.Logic.{⊎_elim}
-use Prim.Native.Nat.{◌+◌, ◌-◌, ◌≤◌, ◌<◌}
 use native.Mathlib.Omega.{arith}
 use Rattle.walk.proofs.NodeLaws.{box_fits}
 use Rattle.seeds.proofs.guess.node_near.Goals as goal

@@ -1,8 +1,5 @@
 -- `seeds::guess::node_near` answers one of the nodes. Assumes nothing.
-use mathlib.Core.Logic.{⊎_elim}
 use Prim.Native.Nat.{◌+◌, ◌-◌, ◌≤◌, ◌<◌}
-use native.Mathlib.Omega.{arith}
-use Rattle.walk.proofs.NodeLaws.{box_fits}
 use Rattle.seeds.proofs.guess.node_near.Given as goal
 
 abbrev pub invariant-loop-k : goal.invariant-loop-k

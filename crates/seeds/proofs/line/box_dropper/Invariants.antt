@@ -1,7 +1,5 @@
 -- `seeds::line::box_dropper` meets its contract: what it answers drops, and nothing is promised where it finds none. Assumes nothing.
 use Prim.Native.Nat.{◌-◌, ◌≤◌}
-use native.Mathlib.Omega.{arith}
-use Rattle.seeds.proofs.LineLaws.{lined_at, drops_at, drops_none}
 use Rattle.seeds.proofs.line.box_dropper.Given as goal
 
 abbrev pub invariant-loop-k : goal.invariant-loop-k

@@ -1,8 +1,5 @@
 -- `seeds::line::farthest` answers one of the 24. Assumes nothing.
-use mathlib.Core.Logic.{⊎_elim}
 use Prim.Native.Nat.{◌-◌, ◌≤◌, ◌<◌}
-use native.Mathlib.Omega.{arith}
-use Rattle.seeds.proofs.LineLaws.{lined_at}
 use Rattle.seeds.proofs.line.farthest.Given as goal
 
 abbrev pub invariant-loop-k : goal.invariant-loop-k

@@ -1,11 +1,6 @@
 -- `seeds::line::sift` meets its contract: all through, each of the first `count` places is one of those at the start. Assumes nothing.
-use mathlib.Core.Path.{◌∙◌}
-use mathlib.Core.Logic.{⊎_elim}
 use Prim.Native.Nat.{◌-◌, ◌≤◌}
-use native.Mathlib.Omega.{arith}
-use Rattle.plane.specs.Rule.{SpotIn}
 use Rattle.seeds.specs.Line.{Lined, Among}
-use Rattle.seeds.proofs.LineLaws.{lined_all, lined_few, lined_self, lined_at, among_in, lined_put, lined_same}
 use Rattle.seeds.proofs.line.sift.Given as goal
 
 abbrev pub invariant-loop-k : goal.invariant-loop-k

@@ -1,6 +1,4 @@
-use Prim.Native.Nat.{◌-◌, ◌≤◌}
-use native.Mathlib.Omega.{arith}
-use Rattle.seeds.proofs.LineLaws.{lined_at, drops_at, drops_none}
+use Rattle.seeds.proofs.LineLaws.{drops_at}
 use Rattle.plane.specs.Rule.{drops}
 use Rattle.seeds.proofs.line.spot_dropper.Goals as goal
 

@@ -2,9 +2,7 @@
 use mathlib.Core.Path.{◌≡◌}
 use mathlib.Core.Bool.{true}
 use Prim.Native.Nat.{◌-◌, ◌≤◌}
-use native.Mathlib.Omega.{arith}
 use Rattle.seeds.specs.Scan.{Blank}
-use Rattle.seeds.proofs.ScanLaws.{blank_none, blank_turn, blank_all}
 use Rattle.seeds.proofs.scan.is_blank.Given as goal
 
 abbrev pub invariant-loop-k : goal.invariant-loop-k

@@ -1,9 +1,6 @@
 use mathlib.Core.Bool.{not}
-use mathlib.Core.Path.{ap, ◌≡◌, refl, ◌∙◌}
-use Prim.Native.Nat.{◌*◌, ◌-◌, ◌≤◌}
+use mathlib.Core.Path.{ap, ◌∙◌}
 use native.Mathlib.Omega.{arith}
-use lib.ListN.{length}
-use Rattle.bits.specs.Set.{next_from}
 use Rattle.seeds.proofs.ScanLaws.{skip_words, not_no}
 use Rattle.seeds.proofs.scan.past_blank.Goals as goal
 

@@ -1,10 +1,8 @@
 -- `seeds::scan::past_blank` meets its contract: all through, no position is kept between the two words. Assumes nothing.
-use mathlib.Core.Path.{◌≡◌, refl, ◌∙◌}
+use mathlib.Core.Path.{◌≡◌}
 use Prim.Native.Nat.{◌*◌, ◌-◌, ◌≤◌}
-use native.Mathlib.Omega.{arith}
 use lib.ListN.{length}
 use Rattle.bits.specs.Set.{next_from}
-use Rattle.seeds.proofs.ScanLaws.{skip_words, not_no}
 use Rattle.seeds.proofs.scan.past_blank.Given as goal
 
 abbrev pub invariant-loop-at : goal.invariant-loop-at

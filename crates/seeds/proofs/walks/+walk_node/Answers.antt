@@ -1,9 +1,8 @@
-use mathlib.Core.Path.{◌≡◌, refl, ap, ◌∙◌}
+use mathlib.Core.Path.{refl, ap, ◌∙◌}
 use mathlib.Core.Logic.{inr}
-use Prim.Native.Nat.{◌+◌, ◌-◌, ◌≤◌}
 use native.Mathlib.Omega.{arith}
 use native.Mathlib.Nat.{pos_of_ne-zero}
-use Rattle.walk.proofs.NodeLaws.{Node, kid, leaf_fits, few}
+use Rattle.walk.proofs.NodeLaws.{Node, kid, leaf_fits}
 use Rattle.walk.proofs.FilterCode.{still_holds}
 use Rattle.seeds.specs.declared.walks.Course.{Course}
 use Rattle.seeds.proofs.LineLaws.{line_same, line_holds, line_after, known_in}

@@ -1,6 +1,5 @@
 -- `seeds::walks::box_by` meets its contract. Assumes nothing.
 use Rattle.walk.proofs.NodeLaws.{box_fits}
-use Rattle.seeds.proofs.LineLaws.{drops_box_as}
 use Rattle.seeds.proofs.walks.box_by.Goals as goal
 
 pub box_dropper-requires : goal.box_dropper-requires

@@ -1,13 +1,9 @@
 -- `seeds::walks::retry_all` meets its contract: all through, what was kept at the start still is, or a dropper drops it. Assumes nothing.
-use mathlib.Core.Path.{◌≡◌, refl, ◌∙◌}
+use mathlib.Core.Path.{◌≡◌}
 use Prim.Native.Nat.{◌-◌}
-use native.Mathlib.Omega.{arith}
 use lib.ListN.{length}
-use Rattle.bits.proofs.NextLaws.{from_le}
-use Rattle.walk.proofs.FilterCode.{still_holds}
 use Rattle.seeds.specs.Line.{Among}
 use Rattle.seeds.specs.Covers.{Retries}
-use Rattle.seeds.proofs.CoverLaws.{retries_none, retries_after}
 use Rattle.seeds.proofs.walks.retry_all.Given as goal
 
 abbrev pub invariant-loop-i : goal.invariant-loop-i

@@ -1,7 +1,6 @@
 -- `seeds::walks::seed_leaf` meets its contract. Assumes nothing.
 use native.Mathlib.Omega.{arith}
 use Rattle.walk.proofs.NodeLaws.{Node, leaf_fits}
-use Rattle.seeds.proofs.LineLaws.{line_same}
 use Rattle.seeds.proofs.walks.seed_leaf.Goals as goal
 
 pub seed_places-requires : goal.seed_places-requires

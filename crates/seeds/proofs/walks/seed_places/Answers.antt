@@ -1,10 +1,8 @@
 use mathlib.Core.Path.{◌∙◌}
-use Prim.Native.Nat.{◌+◌, ◌-◌, ◌<◌}
+use Prim.Native.Nat.{◌+◌, ◌<◌}
 use native.Mathlib.Omega.{arith}
 use Rattle.walk.proofs.NodeLaws.{spot_fits, position_fits}
-use Rattle.seeds.specs.Line.{Lined, Known}
-use Rattle.seeds.specs.Covers.{On}
-use Rattle.seeds.proofs.LineLaws.{line_same, line_holds, line_after}
+use Rattle.seeds.proofs.LineLaws.{line_holds, line_after}
 use Rattle.seeds.proofs.CoverLaws.{on_in}
 use Rattle.seeds.proofs.walks.seed_places.Goals as goal
 

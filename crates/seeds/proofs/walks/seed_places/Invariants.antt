@@ -1,12 +1,7 @@
 -- `seeds::walks::seed_places` meets its contract: all through, each dropper is one of those at the start, or a record of the sheet stands there. Assumes nothing.
-use mathlib.Core.Path.{◌∙◌}
-use Prim.Native.Nat.{◌+◌, ◌-◌, ◌<◌}
-use native.Mathlib.Omega.{arith}
-use Rattle.walk.proofs.NodeLaws.{spot_fits, position_fits}
+use Prim.Native.Nat.{◌-◌}
 use Rattle.seeds.specs.Line.{Lined, Known}
 use Rattle.seeds.specs.Covers.{On}
-use Rattle.seeds.proofs.LineLaws.{line_same, line_holds, line_after}
-use Rattle.seeds.proofs.CoverLaws.{on_in}
 use Rattle.seeds.proofs.walks.seed_places.Given as goal
 
 abbrev pub invariant-loop-i : goal.invariant-loop-i

@@ -1,13 +1,9 @@
 -- `seeds::walks::try_again` meets its contract: all through, what was kept at the start still is, or a dropper drops it. Assumes nothing.
-use mathlib.Core.Path.{◌≡◌, refl, ap, ◌∙◌}
-use mathlib.Core.Logic.{⊎_elim}
+use mathlib.Core.Path.{◌≡◌}
 use Prim.Native.Nat.{◌-◌}
-use native.Mathlib.Omega.{arith}
 use lib.ListN.{length}
-use Rattle.walk.proofs.FilterCode.{still_holds}
 use Rattle.seeds.specs.Line.{Among}
 use Rattle.seeds.specs.Covers.{Retries}
-use Rattle.seeds.proofs.CoverLaws.{retries_none, retries_after, retries_as}
 use Rattle.seeds.proofs.walks.try_again.Given as goal
 
 abbrev pub invariant-loop-k : goal.invariant-loop-k

@@ -1,11 +1,10 @@
 -- `seeds::walks::walk_place` meets its contract: the position is kept, or a dropper drops it. Assumes nothing.
 use mathlib.Core.Path.{◌∙◌}
-use mathlib.Core.Logic.{inl}
 use Prim.Native.Nat.{◌<◌}
 use native.Mathlib.Omega.{arith}
 use Rattle.walk.proofs.NodeLaws.{spot_fits, position_fits}
-use Rattle.seeds.proofs.LineLaws.{line_same, line_wider, lined_count, line_dropped_by}
-use Rattle.seeds.proofs.CoverLaws.{deals_dropped, deals_kept}
+use Rattle.seeds.proofs.LineLaws.{line_wider}
+use Rattle.seeds.proofs.CoverLaws.{deals_kept}
 use Rattle.seeds.proofs.walks.walk_place.Goals as goal
 
 pub spot_at-z-requires : goal.spot_at-z-requires

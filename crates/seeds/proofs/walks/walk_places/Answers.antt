@@ -1,13 +1,7 @@
-use mathlib.Core.Path.{◌≡◌, refl, ◌∙◌}
-use mathlib.Core.Logic.{inr}
-use Prim.Native.Nat.{◌+◌, ◌-◌, ◌≤◌, ◌<◌}
 use native.Mathlib.Omega.{arith}
-use lib.ListN.{length}
 use Rattle.walk.proofs.FilterCode.{still_holds}
-use Rattle.seeds.specs.Line.{Lined, Known}
-use Rattle.seeds.specs.Covers.{On, Deals}
-use Rattle.seeds.proofs.LineLaws.{line_same, line_holds, line_after, known_in}
-use Rattle.seeds.proofs.CoverLaws.{on_in, deals_none, deals_next, deals_as}
+use Rattle.seeds.proofs.LineLaws.{line_holds}
+use Rattle.seeds.proofs.CoverLaws.{on_in}
 use Rattle.seeds.proofs.walks.walk_places.Goals as goal
 
 pub walk_place-on-requires : goal.walk_place-on-requires

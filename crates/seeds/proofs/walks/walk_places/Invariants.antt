@@ -1,14 +1,9 @@
 -- `seeds::walks::walk_places` meets its contract: after i turns the first i places are dealt with. Assumes nothing.
-use mathlib.Core.Path.{◌≡◌, refl, ◌∙◌}
-use mathlib.Core.Logic.{inr}
+use mathlib.Core.Path.{◌≡◌}
 use Prim.Native.Nat.{◌+◌, ◌-◌, ◌≤◌, ◌<◌}
-use native.Mathlib.Omega.{arith}
 use lib.ListN.{length}
-use Rattle.walk.proofs.FilterCode.{still_holds}
 use Rattle.seeds.specs.Line.{Lined, Known}
 use Rattle.seeds.specs.Covers.{On, Deals}
-use Rattle.seeds.proofs.LineLaws.{line_same, line_holds, line_after, known_in}
-use Rattle.seeds.proofs.CoverLaws.{on_in, deals_none, deals_next, deals_as}
 use Rattle.seeds.proofs.walks.walk_places.Given as goal
 
 abbrev pub invariant-loop-i : goal.invariant-loop-i
