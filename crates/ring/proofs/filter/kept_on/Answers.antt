@@ -1,0 +1,8 @@
+-- `ring::filter::kept_on` meets its contract. Assumes nothing.
+use Rattle.ring.proofs.FilterLaws.{filter_told}
+use Rattle.ring.proofs.filter.kept_on.Goals as goal
+
+pub returns : goal.returns
+returns c =
+    let k = c.filter_kept-opened.ensures in
+    (filter_told _ _ _ _ k.0 k.1 c.len.ensures, k.0)

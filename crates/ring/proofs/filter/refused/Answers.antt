@@ -1,0 +1,9 @@
+-- `ring::filter::refused` meets its contract.
+-- Assumes nothing.
+use mathlib.Core.Path.{refl}
+use Rattle.ring.specs.Answers.{unfiltered}
+use Rattle.ring.proofs.filter.refused.Goals as goal
+
+pub returns : goal.returns
+unfolding unfiltered
+returns c = refl
