@@ -41,7 +41,7 @@ def texts():
 
 def seen_from(text):
     """The files that a text brings in, by whatever form of import."""
-    return {(crate, folder, name) for crate, folder, name in re.findall(r"^(?:ghost )?use Rattle·(\w+?)(?:·\w+)?\.(specs|proofs)\.(\w+)", text, re.M)}
+    return {(crate, folder, name) for crate, folder, name in re.findall(r"^(?:ghost )?use Rattle\.(\w+)\.(specs|proofs)\.(\w+)", text, re.M)}
 
 
 def declarations(text):
@@ -98,11 +98,15 @@ def promises(known):
         for name in os.listdir(folder):
             with open(os.path.join(folder, name), encoding="utf-8") as f:
                 text = f.read()
-            is_open = crate in LISTING
+            is_open, inside = crate in LISTING, None
             for line in text.split("\n"):
                 if re.match(r"\s*(?:pub(?:\(crate\))? )?(?:extern \"C\" )?fn ", line):
                     is_open = crate in LISTING or line.lstrip().startswith("pub ")
-                elif line.lstrip().startswith("ensures ") and is_open:
+                elif re.match(r"\s*ensures\b", line) and is_open:
+                    inside = len(line) - len(line.lstrip())
+                elif inside is not None and line.strip() and len(line) - len(line.lstrip()) <= inside and not line.lstrip().startswith("}"):
+                    inside = None
+                if inside is not None:
                     yield line, seen_from(text)
 
 

@@ -6,7 +6,7 @@ starts with two spaces goes on with the line before it.
     S8
     definition: sheet Order placeOk, orderOk          a crate, a file of its specs/ (or `src`), and names that it declares
     proved: sheet::open_no                            a function of a crate, for its contract
-    proved: sheet order-rank, one-place -- a remark   laws that a file of the crate's proofs/ declares; or a file there: `demands Once`
+    proved: sheet order_rank, one_place -- a remark   laws that a file of the crate's proofs/ declares; or a file there: `demands Once`
     tested: try_sheets -- a remark                    a program; a file of the repository, with its arguments or with "words" that stand in it; `plane Examples`
     refused: sheet/loose_box                          a must-fail edit; or a refutation, `refuted NAME`; or `by definition`
     form: words                                       which form a type or a function has, in words
@@ -28,7 +28,7 @@ SHOWN = [("form", "Form"), ("definition", "Definition"), ("proved", "Proved by")
 NUMBER = re.compile(r"[A-Z]{1,2}\d+")
 RULE = re.compile(r"^- \*\*([A-Z]{1,2}\d+)\.\*\* (.*?)(?=^- |^#|^$|\Z)", re.M | re.S)
 CITED = re.compile(r"\[([A-Z]{1,2}\d+(?:, [A-Z]{1,2}\d+)*)\]")
-DECLARED = re.compile(r"^[ \t]*((?:(?:pub|unfoldable|abbrev|record|data)[ \t]+)*)([^\s:(){}=]+)(?=[ \t]+[:({]|[ \t]*$|[ \t]+where)", re.M)
+DECLARED = re.compile(r"^[ \t]*((?:(?:pub|unfoldable|abbrev|irrelevant|record|data)[ \t]+)*)([^\s:(){}=]+)(?=[ \t]+[:({]|[ \t]*$|[ \t]+where)", re.M)
 IN_CODE = re.compile(r"^[ \t]*(?:pub(?:\(crate\))?[ \t]+)?(?:extern[ \t]+\"C\"[ \t]+)?(?:struct|enum|fn)[ \t]+(\w+)", re.M)
 
 HEAD = """Written by `tools/promises` from [RULES.md](RULES.md) and [promises.txt](promises.txt): change those, not this. One entry for each rule. *Definition*: the
@@ -347,7 +347,7 @@ def line_of(lines, at, name):
         k -= 1
     # of a refutation the comment may stand above the wrong definition before it
     up = k
-    while kind == "refutation" and up > 1 and not re.match(r"(?:pub )?\S+-wrong\b", lines[up - 1]):
+    while kind == "refutation" and up > 1 and not re.match(r"(?:pub )?\S+_wrong\b", lines[up - 1]):
         if lines[up - 1].startswith(mark):
             return k if lines[up - 1].startswith(mark + " --") else up
         up -= 1
