@@ -1,0 +1,18 @@
+-- `many::all::count_all` meets its contract. The loop's invariant is `Counting`: what was counted, and what is left, is the list. Assumes nothing.
+use mathlib.Core.Path.{◌≡◌}
+use Prim.Native.Nat.{◌-◌}
+use lib.ListN.{length}
+use Rattle.sheet.specs.Places.{points_of}
+use Rattle.list.specs.RingList.{pair_by}
+use Rattle.list.specs.Terms.{profile_for}
+use Rattle.chamber.specs.Sized.{listed_to}
+use Rattle.chamber.proofs.ListedLaws.{Counting}
+use Rattle.many.proofs.all.count_all.Given as goal
+
+abbrev pub invariant-loop-j : goal.invariant-loop-j
+invariant-loop-j l =
+    Counting (listed_to l.largest l.terms l.owners (points_of l.p) (points_of l.q)) (pair_by (profile_for l.terms) (points_of l.p) (points_of l.q)) l.hp.n l.hq.n l.total l.j
+    × (length l.bits ≡ length l.initial.bits)
+
+abbrev pub decreases-loop-j : goal.decreases-loop-j
+decreases-loop-j l = l.hq.n - l.j
