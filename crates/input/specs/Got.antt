@@ -1,6 +1,7 @@
 -- What reading to the end gives.
-use Rattle.std.specs.Prelude.{List, ℕ, min, Result, Ok, Err}
+use Rattle.std.specs.Prelude.{List, ℕ, ◌≡◌, ◌<◌, min, length, take, Option, Result, Ok, Err}
 use Rattle.std.specs.Counts.{IsPrefixLen}
+use Rattle.std.specs.Io.KnownBytes.{Keeps, Consumes, IsAtEnd}
 use Rattle.input.specs.declared.Got.{Got}
 use Rattle.input.specs.declared.Got.TheVariants.{Bytes, Failed}
 
@@ -13,3 +14,14 @@ told_by (Err e) most = Failed
 abbrev pub Within : Got → List ℕ → Type 0
 Within (Bytes n) room = IsPrefixLen n room
 Within Failed room = Unit {0}
+
+-- what one read does to the bytes that a reader has left, where those are known: what it puts into the room it takes from them, none only where none is left; a read
+-- that fails takes none
+abbrev pub ReadsSome : Option (List ℕ) → Option (List ℕ) → Got → List ℕ → Type 0
+ReadsSome old new (Bytes n) room = Consumes old new (take n room) × (n ≡ 0 → 0 < length room → IsAtEnd new)
+ReadsSome old new Failed room = Keeps old new
+
+-- what reading to the end does to them: the bytes at the start of the room are the first of them, and where they do not fill the room none is left
+abbrev pub ReadsAll : Option (List ℕ) → Option (List ℕ) → Got → List ℕ → Type 0
+ReadsAll old new (Bytes n) room = Consumes old new (take n room) × (n < length room → IsAtEnd new)
+ReadsAll old new Failed room = Unit {0}

@@ -1,8 +1,9 @@
-// A reader read to its end. A read that fails and the end of the input are told apart.
+// A reader read to its end. A read that fails and the end of the input are told apart. Which bytes standard input or a file gives no contract can say; of a reader
+// whose bytes are known, these are the ones that stand in the room.
 #![tactic(auto)]
 
 ghost use Rattle.std.specs.Prelude.{◌≡◌, length};
-ghost use Rattle.input.specs.Got.{told_by, Within};
+ghost use Rattle.input.specs.Got.{told_by, Within, ReadsSome, ReadsAll};
 
 use std::io;
 use std::io::Read;
@@ -27,7 +28,8 @@ fn told(got: io::Result<usize>, buf: &[u8]) -> Got
 
 // One read, to the start of `buf`: 0 bytes at the end of the input.
 fn read_some<R: Read>(from: &mut R, buf: &mut [u8]) -> Got
-    ensures { Within result buf.new }
+    ensures within { Within result buf.new }
+    ensures bytes { ReadsSome (R.remaining from.old) (R.remaining from.new) result buf.new }
 {
     let got = from.read(buf);
     told(got, buf)
@@ -35,7 +37,8 @@ fn read_some<R: Read>(from: &mut R, buf: &mut [u8]) -> Got
 
 // Reads until `buf` is full or the input ends; the bytes stand at the start of `buf`. The first read that fails is the last.
 pub fn read_all<R: Read>(from: &mut R, buf: &mut [u8]) -> Got
-    ensures { Within result buf.new }
+    ensures within { Within result buf.new }
+    ensures bytes { ReadsAll (R.remaining from.old) (R.remaining from.new) result buf.new }
 {
     let mut done: usize = 0;
     while done < buf.len() {

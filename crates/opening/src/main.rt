@@ -25,8 +25,14 @@ fn open_words(rt: &impl Print, s: &[i32]) {
         let _ = rt.write_all(b"opens");
         print(rt, h.n as u64);
         print(rt, h.m as u64);
-        print(rt, words::num_at(s, std::num::wrapping_sub_usize(s.len(), 2)) as u64);
-        print(rt, words::num_at(s, std::num::wrapping_sub_usize(s.len(), 1)) as u64);
+        print(
+            rt,
+            words::num_at(s, std::num::wrapping_sub_usize(s.len(), 2)) as u64,
+        );
+        print(
+            rt,
+            words::num_at(s, std::num::wrapping_sub_usize(s.len(), 1)) as u64,
+        );
     }
     let _ = rt.write_all(b"\n");
 }
