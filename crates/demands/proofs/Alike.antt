@@ -8,7 +8,7 @@ use mathlib.Core.List.{List, [], ◌++◌}
 use Prim.Native.Nat.{ℕ}
 use lib.IntN.{ℤ}
 use lib.ListN.{length, take, drop}
-use denote.Ref.{Bor, MutBor}
+use denote.Ref.{Bor}
 use Rattle.list.specs.declared.Key.{Key}
 use Rattle.list.specs.declared.Pair.{Pair}
 use Rattle.list.specs.declared.Request.{Request}
@@ -48,8 +48,8 @@ use Rattle.demands.specs.Promises.{FormsAnswers, StoreAnswers, FormsArrayAnswers
 
 -- ---- through a view
 
-place : MutBor (List ℤ) → Place
-place w = record { address = w.ptr; name = w.name }
+place : Bor (List ℤ) → Place
+place w = record { address = w.ref_ptr; name = 0 }
 
 pub view_point : (d : Sheet) (i : ℕ) (r : Pointed) → ViewPoints d i r → PointAnswers d.words.now i r
 view_point d i r a = record { κs = ([], tt); w_at = place d.words; promised = a }

@@ -105,7 +105,7 @@ use Rattle.ffi.specs.contracts.ring_depot_take as store-c
 use Rattle.ffi.specs.contracts.ring_leaf_run as run-c
 use Rattle.ffi.specs.contracts.ring_pairs as pairs-c
 use Rattle.ffi.specs.contracts.ring_own_pairs as own-pairs-c
-use Rattle.demands.specs.Promises.{LengthAnswers, PlaceAnswers, FormsAnswers, DepotBegins, StoreAnswers, Place, slice, HeadAnswers, PointAnswers, FilterAnswers, RingAnswers, PageAnswers, ShortAnswers, PackAnswers, MarkAnswers, BeginAnswers, NextAnswers, TakeAnswers, RunAnswers, PartnersAnswers, NearestAnswers, NearFilterAnswers, OwnAnswers, PairsAnswers, OwnPairsAnswers, CountAnswers, OwnCountAnswers, BusyAnswers, PumpAnswers, UrgentAnswers}
+use Rattle.demands.specs.Promises.{LengthAnswers, PlaceAnswers, FormsAnswers, DepotBegins, StoreAnswers, Place, slice, mut_slice, HeadAnswers, PointAnswers, FilterAnswers, RingAnswers, PageAnswers, ShortAnswers, PackAnswers, MarkAnswers, BeginAnswers, NextAnswers, TakeAnswers, RunAnswers, PartnersAnswers, NearestAnswers, NearFilterAnswers, OwnAnswers, PairsAnswers, OwnPairsAnswers, CountAnswers, OwnCountAnswers, BusyAnswers, PumpAnswers, UrgentAnswers}
 use Rattle.demands.specs.OverC.{LengthC, PlaceC, DepotBeginC, StoreC, OpenC, PackC, PointC, FilterC, WalkC, PageC, ShortC, BeginC, MarkC, NextC, PartnersC, NearestC, NearFilterC, OwnC, CountC, OwnCountC, BusyC, PumpC, UrgentC}
 use Rattle.demands.proofs.Once as once
 
@@ -202,33 +202,33 @@ module _ {M : Type 1} {𝓤 : Ura M} (𝓛 : Logic 𝓤) (mem : Memory → SProp
   next_c_says κs l b s r = refl
 
   pub take_c_says : (κs : Lfts 1) (l : Place) (b : Book) (s : List Pair) (g : Page) (r : Taken) (s' : List Pair)
-      → take-c.ensures-1 𝓛 κs mem run b (slice l s) g (record { entry = b; exit = b }) (record { entry = slice l s; exit = slice l s' }) (record { entry = g; exit = g }) r
+      → take-c.ensures-1 𝓛 κs mem run b (mut_slice l s) g (record { entry = b; exit = b }) (record { entry = mut_slice l s; exit = mut_slice l s' }) (record { entry = g; exit = g }) r
       ≡ fact 𝓤 (TakeAnswers b s g r s')
   take_c_says κs l b s g r s' = refl
 
   pub forms_c_says : (κs : Lfts 2) (l o : Place) (b : Book) (s : List Pair) (out : List Form) (r : Made) (out' : List Form)
-      → forms-c.ensures-1 𝓛 κs mem run b (slice l s) (slice o out) (record { entry = b; exit = b }) (record { entry = slice l s; exit = slice l s }) (record { entry = slice o out; exit = slice o out' }) r
+      → forms-c.ensures-1 𝓛 κs mem run b (slice l s) (mut_slice o out) (record { entry = b; exit = b }) (record { entry = slice l s; exit = slice l s }) (record { entry = mut_slice o out; exit = mut_slice o out' }) r
       ≡ fact 𝓤 (FormsAnswers b s out r out')
   forms_c_says κs l o b s out r out' = refl
 
   pub store_c_says : (κs : Lfts 1) (l : Place) (d : Depot) (s : List Form) (f : Form) (r : StoreAnswer) (s' : List Form)
-      → store-c.ensures-1 𝓛 κs mem run d (slice l s) f (record { entry = d; exit = d }) (record { entry = slice l s; exit = slice l s' }) (record { entry = f; exit = f }) r
+      → store-c.ensures-1 𝓛 κs mem run d (mut_slice l s) f (record { entry = d; exit = d }) (record { entry = mut_slice l s; exit = mut_slice l s' }) (record { entry = f; exit = f }) r
       ≡ fact 𝓤 (StoreC d s f r s')
   store_c_says κs l d s f r s' = refl
 
   pub run_c_says : (κs : Lfts 4) (p_at q_at l b_at : Place) (P Q : List ℤ) (v : ℕ) (s : List Pair) (w : List ℕ) (r : Run) (s' : List Pair) (w' : List ℕ)
-      → run-c.ensures-1 𝓛 κs mem run (slice p_at P) (slice q_at Q) v (slice l s) (slice b_at w)
-      (record { entry = slice p_at P; exit = slice p_at P }) (record { entry = slice q_at Q; exit = slice q_at Q }) (record { entry = v; exit = v }) (record { entry = slice l s; exit = slice l s' }) (record { entry = slice b_at w; exit = slice b_at w' }) r
+      → run-c.ensures-1 𝓛 κs mem run (slice p_at P) (slice q_at Q) v (mut_slice l s) (mut_slice b_at w)
+      (record { entry = slice p_at P; exit = slice p_at P }) (record { entry = slice q_at Q; exit = slice q_at Q }) (record { entry = v; exit = v }) (record { entry = mut_slice l s; exit = mut_slice l s' }) (record { entry = mut_slice b_at w; exit = mut_slice b_at w' }) r
       ≡ fact 𝓤 (RunAnswers P Q v s w r s' w')
   run_c_says κs p_at q_at l b_at P Q v s w r s' w' = refl
 
   pub pairs_c_says : (κs : Lfts 5) (p_at q_at o_at l b_at : Place) (P Q : List ℤ) (o : List ℕ) (ask : Wanted) (s : List Pair) (w : List ℕ) (r : Many) (s' : List Pair) (w' : List ℕ)
-      → pairs-c.ensures-1 𝓛 κs mem run (slice p_at P) (slice q_at Q) (slice o_at o) ask (slice l s) (slice b_at w) (record { entry = slice p_at P; exit = slice p_at P }) (record { entry = slice q_at Q; exit = slice q_at Q }) (record { entry = slice o_at o; exit = slice o_at o }) (record { entry = ask; exit = ask }) (record { entry = slice l s; exit = slice l s' }) (record { entry = slice b_at w; exit = slice b_at w' }) r
+      → pairs-c.ensures-1 𝓛 κs mem run (slice p_at P) (slice q_at Q) (slice o_at o) ask (mut_slice l s) (mut_slice b_at w) (record { entry = slice p_at P; exit = slice p_at P }) (record { entry = slice q_at Q; exit = slice q_at Q }) (record { entry = slice o_at o; exit = slice o_at o }) (record { entry = ask; exit = ask }) (record { entry = mut_slice l s; exit = mut_slice l s' }) (record { entry = mut_slice b_at w; exit = mut_slice b_at w' }) r
       ≡ fact 𝓤 (PairsAnswers P Q o ask s w r s' w')
   pairs_c_says κs p_at q_at o_at l b_at P Q o ask s w r s' w' = refl
 
   pub own_pairs_c_says : (κs : Lfts 3) (w_at l b_at : Place) (S : List ℤ) (key : Key) (big : ℕ) (g : Bool) (s : List Pair) (w : List ℕ) (r : Many) (s' : List Pair) (w' : List ℕ)
-      → own-pairs-c.ensures-1 𝓛 κs mem run (slice w_at S) key big g (slice l s) (slice b_at w) (record { entry = slice w_at S; exit = slice w_at S }) (record { entry = key; exit = key }) (record { entry = big; exit = big }) (record { entry = g; exit = g }) (record { entry = slice l s; exit = slice l s' }) (record { entry = slice b_at w; exit = slice b_at w' }) r
+      → own-pairs-c.ensures-1 𝓛 κs mem run (slice w_at S) key big g (mut_slice l s) (mut_slice b_at w) (record { entry = slice w_at S; exit = slice w_at S }) (record { entry = key; exit = key }) (record { entry = big; exit = big }) (record { entry = g; exit = g }) (record { entry = mut_slice l s; exit = mut_slice l s' }) (record { entry = mut_slice b_at w; exit = mut_slice b_at w' }) r
       ≡ fact 𝓤 (OwnPairsAnswers S key big g s w r s' w')
   own_pairs_c_says κs w_at l b_at S key big g s w r s' w' = refl
 

@@ -66,9 +66,9 @@ pub record PackC (form n : ℕ) (points order : List ℤ) (edition : ℕ) (out :
   pub o_at : Place
   pub out_at : Place
   pub promised : pack-c.Post κs
-      (form, (n, (slice p_at points, (slice o_at order, (edition, (slice out_at out, tt))))))
+      (form, (n, (slice p_at points, (slice o_at order, (edition, (mut_slice out_at out, tt))))))
       r
-      (form, (n, (slice p_at points, (slice o_at order, (edition, (slice out_at out', tt))))))
+      (form, (n, (slice p_at points, (slice o_at order, (edition, (mut_slice out_at out', tt))))))
 
 -- `ring_sheet_len(n)` answers r [C1, D8]
 pub record LengthC (n r : ℕ) : Type 0 where
@@ -92,7 +92,7 @@ pub record FilterC (P Q : List ℤ) (j : ℕ) (bits : List ℕ) (r : Filtered) (
   pub p_at : Place
   pub q_at : Place
   pub b_at : Place
-  pub promised : filter-c.Post κs (slice p_at P, (slice q_at Q, (j, (slice b_at bits, tt)))) r (slice p_at P, (slice q_at Q, (j, (slice b_at bits', tt))))
+  pub promised : filter-c.Post κs (slice p_at P, (slice q_at Q, (j, (mut_slice b_at bits, tt)))) r (slice p_at P, (slice q_at Q, (j, (mut_slice b_at bits', tt))))
 
 -- `ring_pair_walk(P, Q, j, i, grid)` answers r [C1, D8]
 pub record WalkC (P Q : List ℤ) (j i : ℕ) (g : Bool) (r : WalkAnswer) : Type 0 where
@@ -109,16 +109,16 @@ pub record PageC (P Q : List ℤ) (o : List ℕ) (ask : Request) (bits : List �
   pub o_at : Place
   pub b_at : Place
   pub promised : page-c.Post κs
-      (slice p_at P, (slice q_at Q, (slice o_at o, (ask, (slice b_at bits, tt)))))
+      (slice p_at P, (slice q_at Q, (slice o_at o, (ask, (mut_slice b_at bits, tt)))))
       r
-      (slice p_at P, (slice q_at Q, (slice o_at o, (ask, (slice b_at bits', tt)))))
+      (slice p_at P, (slice q_at Q, (slice o_at o, (ask, (mut_slice b_at bits', tt)))))
 
 -- `ring_own_page(S, key, size, grid, bits)` answers r, and the lent words are `bits'` at its exit [C1, D8]
 pub record OwnC (S : List ℤ) (key : Key) (size : ℕ) (g : Bool) (bits : List ℕ) (r : Paged) (bits' : List ℕ) : Type 0 where
   pub κs : Lfts 2
   pub w_at : Place
   pub b_at : Place
-  pub promised : own-c.Post κs (slice w_at S, (key, (size, (g, (slice b_at bits, tt))))) r (slice w_at S, (key, (size, (g, (slice b_at bits', tt)))))
+  pub promised : own-c.Post κs (slice w_at S, (key, (size, (g, (mut_slice b_at bits, tt))))) r (slice w_at S, (key, (size, (g, (mut_slice b_at bits', tt)))))
 
 -- `ring_partners(P, Q, id, t, bits)` answers r, and the lent words are `bits'` at its exit [C1, D8]
 pub record PartnersC (P Q : List ℤ) (id t : ℕ) (bits : List ℕ) (r : Partnered) (bits' : List ℕ) : Type 0 where
@@ -127,9 +127,9 @@ pub record PartnersC (P Q : List ℤ) (id t : ℕ) (bits : List ℕ) (r : Partne
   pub q_at : Place
   pub b_at : Place
   pub promised : partners-c.Post κs
-      (slice p_at P, (slice q_at Q, (id, (t, (slice b_at bits, tt)))))
+      (slice p_at P, (slice q_at Q, (id, (t, (mut_slice b_at bits, tt)))))
       r
-      (slice p_at P, (slice q_at Q, (id, (t, (slice b_at bits', tt)))))
+      (slice p_at P, (slice q_at Q, (id, (t, (mut_slice b_at bits', tt)))))
 
 -- `ring_shortest(P, Q, k, bits)` answers r, and the lent words are `bits'` at its exit [C1, D8]
 pub record ShortC (P Q : List ℤ) (k : ℕ) (bits : List ℕ) (r : Shortlist) (bits' : List ℕ) : Type 0 where
@@ -137,7 +137,7 @@ pub record ShortC (P Q : List ℤ) (k : ℕ) (bits : List ℕ) (r : Shortlist) (
   pub p_at : Place
   pub q_at : Place
   pub b_at : Place
-  pub promised : shortest-c.Post κs (slice p_at P, (slice q_at Q, (k, (slice b_at bits, tt)))) r (slice p_at P, (slice q_at Q, (k, (slice b_at bits', tt))))
+  pub promised : shortest-c.Post κs (slice p_at P, (slice q_at Q, (k, (mut_slice b_at bits, tt)))) r (slice p_at P, (slice q_at Q, (k, (mut_slice b_at bits', tt))))
 
 -- `ring_nearest(P, Q, id, size, waiting)` answers r, and the lent numbers are `waiting'` at its exit [C1, D8]
 pub record NearestC (P Q : List ℤ) (id size : ℕ) (waiting : List ℕ) (r : Found) (waiting' : List ℕ) : Type 0 where
@@ -146,9 +146,9 @@ pub record NearestC (P Q : List ℤ) (id size : ℕ) (waiting : List ℕ) (r : F
   pub q_at : Place
   pub w_at : Place
   pub promised : nearest-c.Post κs
-      (slice p_at P, (slice q_at Q, (id, (size, (slice w_at waiting, tt)))))
+      (slice p_at P, (slice q_at Q, (id, (size, (mut_slice w_at waiting, tt)))))
       r
-      (slice p_at P, (slice q_at Q, (id, (size, (slice w_at waiting', tt)))))
+      (slice p_at P, (slice q_at Q, (id, (size, (mut_slice w_at waiting', tt)))))
 
 -- `ring_near_filter(P, Q, id, waiting, bits)` answers r, and at its exit the lent numbers are `waiting'`, the lent words `bits'` [C1, D8]
 pub record NearFilterC (P Q : List ℤ) (id : ℕ) (waiting bits : List ℕ) (r : Filtered) (waiting' bits' : List ℕ) : Type 0 where
@@ -158,9 +158,9 @@ pub record NearFilterC (P Q : List ℤ) (id : ℕ) (waiting bits : List ℕ) (r 
   pub w_at : Place
   pub b_at : Place
   pub promised : near-filter-c.Post κs
-      (slice p_at P, (slice q_at Q, (id, (slice w_at waiting, (slice b_at bits, tt)))))
+      (slice p_at P, (slice q_at Q, (id, (mut_slice w_at waiting, (mut_slice b_at bits, tt)))))
       r
-      (slice p_at P, (slice q_at Q, (id, (slice w_at waiting', (slice b_at bits', tt)))))
+      (slice p_at P, (slice q_at Q, (id, (mut_slice w_at waiting', (mut_slice b_at bits', tt)))))
 
 -- `ring_count(P, Q, o, which, bits)` answers r, and the lent words are `bits'` at its exit
 pub record CountC (P Q : List ℤ) (o : List ℕ) (which : Which) (bits : List ℕ) (r : Counted) (bits' : List ℕ) : Type 0 where
@@ -170,16 +170,16 @@ pub record CountC (P Q : List ℤ) (o : List ℕ) (which : Which) (bits : List �
   pub o_at : Place
   pub b_at : Place
   pub promised : count-c.Post κs
-      (slice p_at P, (slice q_at Q, (slice o_at o, (which, (slice b_at bits, tt)))))
+      (slice p_at P, (slice q_at Q, (slice o_at o, (which, (mut_slice b_at bits, tt)))))
       r
-      (slice p_at P, (slice q_at Q, (slice o_at o, (which, (slice b_at bits', tt)))))
+      (slice p_at P, (slice q_at Q, (slice o_at o, (which, (mut_slice b_at bits', tt)))))
 
 -- `ring_own_count(S, big, grid, bits)` answers r, and the lent words are `bits'` at its exit
 pub record OwnCountC (S : List ℤ) (big : ℕ) (g : Bool) (bits : List ℕ) (r : Counted) (bits' : List ℕ) : Type 0 where
   pub κs : Lfts 2
   pub w_at : Place
   pub b_at : Place
-  pub promised : own-count-c.Post κs (slice w_at S, (big, (g, (slice b_at bits, tt)))) r (slice w_at S, (big, (g, (slice b_at bits', tt))))
+  pub promised : own-count-c.Post κs (slice w_at S, (big, (g, (mut_slice b_at bits, tt)))) r (slice w_at S, (big, (g, (mut_slice b_at bits', tt))))
 
 -- `ring_busiest(P, Q, o, ask, bits)` answers r, and the lent words are `bits'` at its exit
 pub record BusyC (P Q : List ℤ) (o : List ℕ) (ask : Question) (bits : List ℕ) (r : Busy) (bits' : List ℕ) : Type 0 where
@@ -189,9 +189,9 @@ pub record BusyC (P Q : List ℤ) (o : List ℕ) (ask : Question) (bits : List �
   pub o_at : Place
   pub b_at : Place
   pub promised : busiest-c.Post κs
-      (slice p_at P, (slice q_at Q, (slice o_at o, (ask, (slice b_at bits, tt)))))
+      (slice p_at P, (slice q_at Q, (slice o_at o, (ask, (mut_slice b_at bits, tt)))))
       r
-      (slice p_at P, (slice q_at Q, (slice o_at o, (ask, (slice b_at bits', tt)))))
+      (slice p_at P, (slice q_at Q, (slice o_at o, (ask, (mut_slice b_at bits', tt)))))
 
 -- `ring_busiest_pumps(P, Q, k, big, grid, bits)` answers r, and the lent words are `bits'` at its exit
 pub record PumpC (P Q : List ℤ) (k big : ℕ) (g : Bool) (bits : List ℕ) (r : Busy) (bits' : List ℕ) : Type 0 where
@@ -200,9 +200,9 @@ pub record PumpC (P Q : List ℤ) (k big : ℕ) (g : Bool) (bits : List ℕ) (r 
   pub q_at : Place
   pub b_at : Place
   pub promised : busiest-pumps-c.Post κs
-      (slice p_at P, (slice q_at Q, (k, (big, (g, (slice b_at bits, tt))))))
+      (slice p_at P, (slice q_at Q, (k, (big, (g, (mut_slice b_at bits, tt))))))
       r
-      (slice p_at P, (slice q_at Q, (k, (big, (g, (slice b_at bits', tt))))))
+      (slice p_at P, (slice q_at Q, (k, (big, (g, (mut_slice b_at bits', tt))))))
 
 -- `ring_urgent(P, Q, o, ps, qs, ask, bits)` answers r, and the lent words are `bits'` at its exit
 pub record UrgentC (P Q : List ℤ) (o ps qs : List ℕ) (ask : Question) (bits : List ℕ) (r : Urgent) (bits' : List ℕ) : Type 0 where
@@ -214,9 +214,9 @@ pub record UrgentC (P Q : List ℤ) (o ps qs : List ℕ) (ask : Question) (bits 
   pub qs_at : Place
   pub b_at : Place
   pub promised : urgent-c.Post κs
-      (slice p_at P, (slice q_at Q, (slice o_at o, (slice ps_at ps, (slice qs_at qs, (ask, (slice b_at bits, tt)))))))
+      (slice p_at P, (slice q_at Q, (slice o_at o, (slice ps_at ps, (slice qs_at qs, (ask, (mut_slice b_at bits, tt)))))))
       r
-      (slice p_at P, (slice q_at Q, (slice o_at o, (slice ps_at ps, (slice qs_at qs, (ask, (slice b_at bits', tt)))))))
+      (slice p_at P, (slice q_at Q, (slice o_at o, (slice ps_at ps, (slice qs_at qs, (ask, (mut_slice b_at bits', tt)))))))
 
 -- `ring_book_begin(source)` answers r [C1, D8]
 pub record BeginC (source : Source) (r : BookAnswer) : Type 0 where

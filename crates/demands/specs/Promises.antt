@@ -6,7 +6,7 @@
 -- The calls over slices of records (`Book::next_key`, `Book::take`, `depot::forms`, `Depot::take`, `runs::leaf_run`, `many::pairs`, `many::own_pairs`) and over views (`view::open` and its readers) have no such reading.
 -- Theirs is stated here, and proofs/Says shows that it is their `ensures`, word for word.
 use Rattle.std.specs.Prelude.{◌≡◌, Bool, true, false, List, [], ℕ, ℤ, length}
-use Rattle.std.specs.Borrow.{GName, Bor}
+use Rattle.std.specs.Borrow.{GName, Bor, MutBor}
 use contract.Lifetimes.{Lfts}
 use Rattle.list.specs.declared.Key.{Key}
 use Rattle.list.specs.declared.Pair.{Pair}
@@ -96,9 +96,13 @@ pub record Place : Type 0 where
   pub address : ℕ × ℕ
   pub name : GName
 
--- a slice that stands there and holds these
+-- a slice that stands there and holds these, lent to be read
 abbrev pub slice : {X : Type 0} → Place → List X → Bor (List X)
-slice l w = record { ref_ptr = l.address; ghost_name = l.name; now = w }
+slice l w = record { ref_ptr = l.address; now = w }
+
+-- the same, lent to be written
+abbrev pub mut_slice : {X : Type 0} → Place → List X → MutBor (List X)
+mut_slice l w = record { ref_ptr = l.address; ghost_name = l.name; now = w }
 
 -- ---- ring: the calls on plain slices
 
@@ -133,9 +137,9 @@ pub record FilterAnswers (P Q : List ℤ) (j : ℕ) (bits : List ℕ) (r : Filte
   pub q_at : Place
   pub b_at : Place
   pub promised : filter-walk.Post κs
-      (slice p_at P, (slice q_at Q, (j, (slice b_at bits, tt))))
+      (slice p_at P, (slice q_at Q, (j, (mut_slice b_at bits, tt))))
       r
-      (slice p_at P, (slice q_at Q, (j, (slice b_at bits', tt))))
+      (slice p_at P, (slice q_at Q, (j, (mut_slice b_at bits', tt))))
 
 -- `ring::ringwalk::ring_walk(P, Q, j, i, grid)` answers r [B1, D1, D7, D8]
 pub record RingAnswers (P Q : List ℤ) (j i : ℕ) (g : Bool) (r : Walked) : Type 0 where
@@ -152,16 +156,16 @@ pub record PageAnswers (P Q : List ℤ) (o : List ℕ) (ask : Request) (bits : L
   pub o_at : Place
   pub b_at : Place
   pub promised : page.Post κs
-      (slice p_at P, (slice q_at Q, (slice o_at o, (ask, (slice b_at bits, tt)))))
+      (slice p_at P, (slice q_at Q, (slice o_at o, (ask, (mut_slice b_at bits, tt)))))
       r
-      (slice p_at P, (slice q_at Q, (slice o_at o, (ask, (slice b_at bits', tt)))))
+      (slice p_at P, (slice q_at Q, (slice o_at o, (ask, (mut_slice b_at bits', tt)))))
 
 -- `ring::own::own_page(S, key, size, grid, bits)` answers r, and the lent words are `bits'` at its exit [D8]
 pub record OwnAnswers (S : List ℤ) (key : Key) (size : ℕ) (g : Bool) (bits : List ℕ) (r : Paged) (bits' : List ℕ) : Type 0 where
   pub κs : Lfts 2
   pub w_at : Place
   pub b_at : Place
-  pub promised : own-page.Post κs (slice w_at S, (key, (size, (g, (slice b_at bits, tt))))) r (slice w_at S, (key, (size, (g, (slice b_at bits', tt)))))
+  pub promised : own-page.Post κs (slice w_at S, (key, (size, (g, (mut_slice b_at bits, tt))))) r (slice w_at S, (key, (size, (g, (mut_slice b_at bits', tt)))))
 
 -- An answer of the page request of these terms and owner bytes, for these lent words: of two sheets, or of a self join, which is of the one sheet in both places, has no t, and is undivided, with no
 -- bytes.
@@ -179,9 +183,9 @@ pub record PartnersAnswers (P Q : List ℤ) (id t : ℕ) (bits : List ℕ) (r : 
   pub q_at : Place
   pub b_at : Place
   pub promised : partners.Post κs
-      (slice p_at P, (slice q_at Q, (id, (t, (slice b_at bits, tt)))))
+      (slice p_at P, (slice q_at Q, (id, (t, (mut_slice b_at bits, tt)))))
       r
-      (slice p_at P, (slice q_at Q, (id, (t, (slice b_at bits', tt)))))
+      (slice p_at P, (slice q_at Q, (id, (t, (mut_slice b_at bits', tt)))))
 
 -- ---- the shortest circles
 
@@ -191,7 +195,7 @@ pub record ShortAnswers (P Q : List ℤ) (k : ℕ) (bits : List ℕ) (r : Shortl
   pub p_at : Place
   pub q_at : Place
   pub b_at : Place
-  pub promised : shortest.Post κs (slice p_at P, (slice q_at Q, (k, (slice b_at bits, tt)))) r (slice p_at P, (slice q_at Q, (k, (slice b_at bits', tt))))
+  pub promised : shortest.Post κs (slice p_at P, (slice q_at Q, (k, (mut_slice b_at bits, tt)))) r (slice p_at P, (slice q_at Q, (k, (mut_slice b_at bits', tt))))
 
 -- ---- nearest first
 
@@ -202,9 +206,9 @@ pub record NearestAnswers (P Q : List ℤ) (id size : ℕ) (waiting : List ℕ) 
   pub q_at : Place
   pub w_at : Place
   pub promised : nearest.Post κs
-      (slice p_at P, (slice q_at Q, (id, (size, (slice w_at waiting, tt)))))
+      (slice p_at P, (slice q_at Q, (id, (size, (mut_slice w_at waiting, tt)))))
       r
-      (slice p_at P, (slice q_at Q, (id, (size, (slice w_at waiting', tt)))))
+      (slice p_at P, (slice q_at Q, (id, (size, (mut_slice w_at waiting', tt)))))
 
 -- `nearest::near_filter(P, Q, id, waiting, bits)` answers r, and at its exit the lent numbers are `waiting'`, the lent words `bits'` [D8]
 pub record NearFilterAnswers (P Q : List ℤ) (id : ℕ) (waiting bits : List ℕ) (r : Filtered) (waiting' bits' : List ℕ) : Type 0 where
@@ -214,9 +218,9 @@ pub record NearFilterAnswers (P Q : List ℤ) (id : ℕ) (waiting bits : List �
   pub w_at : Place
   pub b_at : Place
   pub promised : near-filter.Post κs
-      (slice p_at P, (slice q_at Q, (id, (slice w_at waiting, (slice b_at bits, tt)))))
+      (slice p_at P, (slice q_at Q, (id, (mut_slice w_at waiting, (mut_slice b_at bits, tt)))))
       r
-      (slice p_at P, (slice q_at Q, (id, (slice w_at waiting', (slice b_at bits', tt)))))
+      (slice p_at P, (slice q_at Q, (id, (mut_slice w_at waiting', (mut_slice b_at bits', tt)))))
 
 -- ---- pack, marker
 
@@ -231,9 +235,9 @@ pub record PackAnswers (form n : ℕ) (points order : List ℤ) (edition : ℕ) 
   pub o_at : Place
   pub out_at : Place
   pub promised : pack.Post κs
-      (form, (n, (slice p_at points, (slice o_at order, (edition, (slice out_at out, tt))))))
+      (form, (n, (slice p_at points, (slice o_at order, (edition, (mut_slice out_at out, tt))))))
       r
-      (form, (n, (slice p_at points, (slice o_at order, (edition, (slice out_at out', tt))))))
+      (form, (n, (slice p_at points, (slice o_at order, (edition, (mut_slice out_at out', tt))))))
 
 -- `marker::mark(ax, ay, bx, by)` answers r [B1, D8]
 pub record MarkAnswers (ax ay bx by : ℤ) (r : Marked) : Type 0 where
@@ -297,9 +301,9 @@ pub record RunArrayAnswers (P Q : List ℤ) (leaf : ℕ) (slots : List Pair) (le
   pub q_at : Place
   pub b_at : Place
   pub promised : run_array_lem.Post κs
-      (slice p_at P, (slice q_at Q, (leaf, (slots, (len, (slice b_at bits, tt))))))
+      (slice p_at P, (slice q_at Q, (leaf, (slots, (len, (mut_slice b_at bits, tt))))))
       r
-      (slice p_at P, (slice q_at Q, (leaf, (slots, (len, (slice b_at bits', tt))))))
+      (slice p_at P, (slice q_at Q, (leaf, (slots, (len, (mut_slice b_at bits', tt))))))
 
 -- ---- many pairs at once
 
@@ -321,16 +325,16 @@ pub record CountAnswers (P Q : List ℤ) (o : List ℕ) (which : Which) (bits : 
   pub o_at : Place
   pub b_at : Place
   pub promised : count.Post κs
-      (slice p_at P, (slice q_at Q, (slice o_at o, (which, (slice b_at bits, tt)))))
+      (slice p_at P, (slice q_at Q, (slice o_at o, (which, (mut_slice b_at bits, tt)))))
       r
-      (slice p_at P, (slice q_at Q, (slice o_at o, (which, (slice b_at bits', tt)))))
+      (slice p_at P, (slice q_at Q, (slice o_at o, (which, (mut_slice b_at bits', tt)))))
 
 -- `many::tally::own_count(S, big, grid, bits)` answers r, and the lent words are `bits'` at its exit
 pub record OwnCountAnswers (S : List ℤ) (big : ℕ) (g : Bool) (bits : List ℕ) (r : Counted) (bits' : List ℕ) : Type 0 where
   pub κs : Lfts 2
   pub w_at : Place
   pub b_at : Place
-  pub promised : own_count.Post κs (slice w_at S, (big, (g, (slice b_at bits, tt)))) r (slice w_at S, (big, (g, (slice b_at bits', tt))))
+  pub promised : own_count.Post κs (slice w_at S, (big, (g, (mut_slice b_at bits, tt)))) r (slice w_at S, (big, (g, (mut_slice b_at bits', tt))))
 
 -- what is asked of the list of these terms, of two sheets: the pairs after a key, to a size; and how many there are
 abbrev pub wanted_of : Terms → Key → ℕ → Wanted
@@ -366,9 +370,9 @@ pub record BusyAnswers (P Q : List ℤ) (o : List ℕ) (ask : Question) (bits : 
   pub o_at : Place
   pub b_at : Place
   pub promised : busiest.Post κs
-      (slice p_at P, (slice q_at Q, (slice o_at o, (ask, (slice b_at bits, tt)))))
+      (slice p_at P, (slice q_at Q, (slice o_at o, (ask, (mut_slice b_at bits, tt)))))
       r
-      (slice p_at P, (slice q_at Q, (slice o_at o, (ask, (slice b_at bits', tt)))))
+      (slice p_at P, (slice q_at Q, (slice o_at o, (ask, (mut_slice b_at bits', tt)))))
 
 -- `ranked::busiest::busiest_pumps(P, Q, k, big, grid, bits)` answers r, and the lent words are `bits'` at its exit
 pub record PumpAnswers (P Q : List ℤ) (k big : ℕ) (g : Bool) (bits : List ℕ) (r : Busy) (bits' : List ℕ) : Type 0 where
@@ -377,9 +381,9 @@ pub record PumpAnswers (P Q : List ℤ) (k big : ℕ) (g : Bool) (bits : List �
   pub q_at : Place
   pub b_at : Place
   pub promised : busiest-pumps.Post κs
-      (slice p_at P, (slice q_at Q, (k, (big, (g, (slice b_at bits, tt))))))
+      (slice p_at P, (slice q_at Q, (k, (big, (g, (mut_slice b_at bits, tt))))))
       r
-      (slice p_at P, (slice q_at Q, (k, (big, (g, (slice b_at bits', tt))))))
+      (slice p_at P, (slice q_at Q, (k, (big, (g, (mut_slice b_at bits', tt))))))
 
 -- `ranked::visits::urgent(P, Q, o, ps, qs, ask, bits)` answers r, and the lent words are `bits'` at its exit [BU12]
 pub record UrgentAnswers (P Q : List ℤ) (o ps qs : List ℕ) (ask : Question) (bits : List ℕ) (r : Urgent) (bits' : List ℕ) : Type 0 where
@@ -391,9 +395,9 @@ pub record UrgentAnswers (P Q : List ℤ) (o ps qs : List ℕ) (ask : Question) 
   pub qs_at : Place
   pub b_at : Place
   pub promised : urgent.Post κs
-      (slice p_at P, (slice q_at Q, (slice o_at o, (slice ps_at ps, (slice qs_at qs, (ask, (slice b_at bits, tt)))))))
+      (slice p_at P, (slice q_at Q, (slice o_at o, (slice ps_at ps, (slice qs_at qs, (ask, (mut_slice b_at bits, tt)))))))
       r
-      (slice p_at P, (slice q_at Q, (slice o_at o, (slice ps_at ps, (slice qs_at qs, (ask, (slice b_at bits', tt)))))))
+      (slice p_at P, (slice q_at Q, (slice o_at o, (slice ps_at ps, (slice qs_at qs, (ask, (mut_slice b_at bits', tt)))))))
 
 -- ---- views
 
