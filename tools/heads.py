@@ -20,12 +20,13 @@ def closed(text, at):
 
 
 class Head:
-    """A function: whether it is open to other crates, its name, where it starts and in which line, all that stands between its name and its body, and its clauses as (kind, name, text)."""
+    """A function: whether it is open to other crates, its name, where it starts and in which line, all that stands between its name and its body, of it
+    what stands before the clauses, and these as (kind, name, text)."""
 
     def __init__(self, text, found):
         self.open, self.name, self.start = (found.group(1) or "").strip() == "pub", found.group(2), found.start()
         self.line = text.count("\n", 0, found.start()) + 1
-        at, self.clauses = found.end(), []
+        at, self.clauses, first = found.end(), [], None
         while True:
             brace, semicolon = text.find("{", at), text.find(";", at)
             clause = CLAUSE.search(text, at, brace) if brace >= 0 else None
@@ -36,8 +37,9 @@ class Head:
                 break
             end = closed(text, brace)
             self.clauses.append((clause.group(1), clause.group(2), text[brace + 1:end - 1]))
+            first = clause.start() if first is None else first
             at = end
-        self.text = text[found.end():self.end]
+        self.text, self.before = text[found.end():self.end], text[found.end():self.end if first is None else first]
 
     def says(self, kind):
         """Whether there is a clause of this kind."""
