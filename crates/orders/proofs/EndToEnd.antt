@@ -55,6 +55,7 @@ use Rattle.orders.proofs.Orders.{in_order, keys_once, held_once, room_for_all, c
 
 -- a form of a list stands at some place of it, and what stands at a place is of it
 place_of : (l : List Form) (x f : Form) → Memᴰ f l → (k : ℕ) × (k < length l) × (get_or l k x ≡ f)
+place_of [] x f x3 = elim x3 [ ]
 place_of (g ∷ l) x f (mathlib.Core.List.Memᴰ.head e) = (0, omega arith, sym e)
 place_of (g ∷ l) x f (mathlib.Core.List.Memᴰ.tail m) = let r = place_of l x f m in (suc r.0, omega (arith, r.1), r.2)
 

@@ -171,6 +171,7 @@ without_in g f (h ∷ l) m = go (same_form g h) m (without_in g f l)
 -- the forms are some of those met
 pub firsts_in : (l : List Form) (f : Form) → Memᴰ f (firsts l) → Memᴰ f l
 unfolding firsts
+firsts_in [] f x' = elim x' [ ]
 firsts_in (g ∷ l) f (Memᴰ.head e) = Memᴰ.head e
 firsts_in (g ∷ l) f (Memᴰ.tail m) = Memᴰ.tail (firsts_in l f (without_in g f (firsts l) m))
 
@@ -200,6 +201,7 @@ taken_more (g ∷ log) h =
 -- what was taken was handed in
 pub taken_handed : (log : List Handed) (f : Form) → Memᴰ f (taken_of log) → Memᴰ f (handed_in log)
 unfolding taken_of handed_in if_taken
+taken_handed [] f m = elim m [ ]
 taken_handed (h ∷ log) f m =
     ⊎_elim
     (λ (x : Memᴰ f (if_taken h.outcome h.form)). Memᴰ.head (its h.outcome x))

@@ -3,7 +3,7 @@
 use mathlib.Core.Path.{◌≡◌, refl, sym, ap, subst, ◌∙◌}
 use mathlib.Core.Bool.{true, cond, ◌&&◌}
 use mathlib.Core.List.Memᴰ
-use mathlib.Core.List.{List, ◌∷◌, map, Memᴰ}
+use mathlib.Core.List.{[], List, ◌∷◌, map, Memᴰ}
 use Prim.Native.Nat.{ℕ, ◌≤◌, ◌<◌}
 use native.Mathlib.Omega.{arith}
 use lib.Dec.{leb}
@@ -45,10 +45,12 @@ use Rattle.orders.specs.Deliveries.{Under, no_t, full_list, Genuine}
 -- ---- a list of forms made of pairs
 
 map_in : (g : Pair → Form) (l : List Pair) (f : Form) → Memᴰ f (map g l) → (v : Pair) × Memᴰ v l × (f ≡ g v)
+map_in g [] f x' = elim x' [ ]
 map_in g (v ∷ l) f (Memᴰ.head e) = (v, Memᴰ.head refl, e)
 map_in g (v ∷ l) f (Memᴰ.tail m) = let r = map_in g l f m in (r.0, Memᴰ.tail r.1, r.2)
 
 in_map : (g : Pair → Form) (l : List Pair) (v : Pair) → Memᴰ v l → Memᴰ (g v) (map g l)
+in_map g [] v x' = elim x' [ ]
 in_map g (u ∷ l) v (Memᴰ.head e) = Memᴰ.head (ap g e)
 in_map g (u ∷ l) v (Memᴰ.tail m) = Memᴰ.tail (in_map g l v m)
 
