@@ -1,0 +1,20 @@
+-- `ranked::visits::of_all` meets its contract. The loop's invariant is `Visiting`: what is left of the list. Assumes nothing.
+use mathlib.Core.Path.{◌≡◌, refl}
+use Prim.Native.Nat.{◌-◌}
+use lib.ListN.{length}
+use Rattle.plane.specs.Point.{id_at}
+use Rattle.sheet.specs.Places.{points_of}
+use Rattle.list.specs.RingList.{pair_by}
+use Rattle.list.specs.Terms.{profile_for}
+use Rattle.chamber.specs.Sized.{listed_to}
+use Rattle.ranked.specs.Urgent.{visit_of}
+use Rattle.ranked.proofs.VisitsLaws.{Visiting, visit_pair}
+use Rattle.ranked.proofs.visits.of_all.Given as goal
+
+abbrev pub invariant-loop-j : goal.invariant-loop-j
+invariant-loop-j l =
+    Visiting (listed_to l.largest l.terms l.owners (points_of l.p) (points_of l.q)) (pair_by (profile_for l.terms) (points_of l.p) (points_of l.q)) (visit_of (points_of l.p) (points_of l.q) l.p_scores l.q_scores) (visit_pair (points_of l.p) (points_of l.q) l.p_scores l.q_scores) (id_at (points_of l.q)) (λ y x. refl) l.k l.hp.n l.hq.n l.g l.j
+    × (length l.bits ≡ length l.initial.bits)
+
+abbrev pub decreases-loop-j : goal.decreases-loop-j
+decreases-loop-j l = l.hq.n - l.j

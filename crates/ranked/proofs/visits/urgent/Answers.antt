@@ -1,0 +1,48 @@
+-- `ranked::visits::urgent` meets its contract, number by number. Assumes nothing.
+use mathlib.Core.Path.{refl, sym, ◌∙◌}
+use Rattle.bits.proofs.LentLaws.{part_long}
+use Rattle.many.proofs.CheckLaws.{done_refused, done_given}
+use Rattle.ranked.specs.Busiest.{asked_list}
+use Rattle.ranked.specs.Urgent.{urgent_of, urgent_answer, urgent_bits}
+use Rattle.ranked.proofs.AskedLaws.{words_need}
+use Rattle.ranked.proofs.ScoresLaws.{last_served, urgent_stops, urgent_last}
+use Rattle.ranked.proofs.visits.urgent.Goals as goal
+
+pub returns-then-c-ne0 : goal.returns-then-c-ne0
+unfolding urgent_answer urgent_bits
+returns-then-c-ne0 c =
+    done_refused _ _ _ _ _ _ _ (urgent_stops _ _ _ c.args.p_scores.now c.args.q_scores.now c.args.asked _ _ c.checked-c.ensures.0 c.if-c-ne0.true) c.if-c-ne0.true c.refused.ensures
+
+pub returns-then-no-ne0 : goal.returns-then-no-ne0
+unfolding urgent_answer urgent_bits
+returns-then-no-ne0 c =
+    let k = c.checked-c in
+    let z = c.if-c-ne0.false in
+    let v = k.ensures.1 z in
+    let w = words_need _ _ _ v.p_opens _ c.words_for-w.ensures in
+    done_refused _ _ _ _ _ _ _ (urgent_last _ _ _ c.args.p_scores.now c.args.q_scores.now c.args.asked _ _ k.ensures.0 z _ _ _ _ v.p_opens v.q_opens _ w _ c.last_no-no.ensures) c.if-no-ne0.true c.refused-then-no-ne0.ensures
+
+pub slice_bounds-given-end : goal.slice_bounds-given-end
+slice_bounds-given-end c = (last_served _ _ _ _ _ _ _ c.last_no-no.ensures c.if-no-ne0.false).2
+
+pub slice_bounds-given-end-2 : goal.slice_bounds-given-end-2
+slice_bounds-given-end-2 c = sym (part_long _ _ (last_served _ _ _ _ _ _ _ c.last_no-no.ensures c.if-no-ne0.false).2)
+
+pub given-requires : goal.given-requires
+given-requires c =
+    let v = c.checked-c.ensures.1 c.if-c-ne0.false in
+    let z = last_served _ _ _ _ _ _ _ c.last_no-no.ensures c.if-no-ne0.false in
+    (v.p_opens, v.q_opens, record { two = refl; all = refl }, part_long _ _ z.2 ∙ c.words_for-w.ensures, z.0, z.1, v.some, v.most)
+
+pub returns : goal.returns
+unfolding urgent_answer urgent_bits urgent_of asked_list
+returns c =
+    let k = c.checked-c in
+    let z = c.if-c-ne0.false in
+    let v = k.ensures.1 z in
+    let w = words_need _ _ _ v.p_opens _ c.words_for-w.ensures in
+    let g = c.given.ensures in
+    let n = c.last_no-no in
+    let y = c.if-no-ne0.false in
+    let fits = (last_served _ _ _ _ _ _ _ n.ensures y).2 in
+    done_given _ _ _ _ _ _ (sym (urgent_last _ _ _ c.args.p_scores.now c.args.q_scores.now c.args.asked _ _ k.ensures.0 z _ _ _ _ v.p_opens v.q_opens _ w _ n.ensures) ∙ y) _ fits w g.0 _ g.1
