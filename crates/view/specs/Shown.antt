@@ -22,4 +22,4 @@ shown o = record { number = o.number; start = o.sheet.words.ref_ptr; covers = o.
 unfoldable pub open_of : Bor (List ℤ) → Shown
 open_of s =
     answer (sheet_no s.now) (record { number = 0; start = s.ref_ptr; covers = s.now; n = points s.now; m = nodes s.now })
-    (λ k. record { number = k; start = s.ptr; covers = []; n = 0; m = 0 })
+    (λ k. record { number = k; start = s.ref_ptr; covers = []; n = 0; m = 0 })
