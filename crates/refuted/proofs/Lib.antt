@@ -1,4 +1,4 @@
--- Wrong readings of the rules. Each is a definition with the sentence that it breaks, and a theorem `NAME-wrong`: a case that tells it from the right one, or that
+-- Wrong readings of the rules. Each is a definition with the sentence that it breaks, and a theorem `NAME_wrong`: a case that tells it from the right one, or that
 -- no answer of its kind meets the promise. docs/PROMISES.md names them all, as `refuted NAME`.
 --     Cases          what the cases are made of: the document's two sets
 --     Plane          the ring rule, the filter's rules, rules (1) and (2) of boxes

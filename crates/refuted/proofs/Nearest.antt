@@ -6,7 +6,7 @@ use Prim.Native.Nat.{ℕ, ◌+◌}
 use lib.Dec.{eqb, leb, ltb}
 use lib.IntN.{ℤ, pos}
 use lib.ListN.{length, replicate}
-use Rattle.words.specs.Word.{num, eq_z, within, before as wordBefore, is_below, min_z, max_z}
+use Rattle.words.specs.Word.{num, eq_z, within, before as word_before, is_below, min_z, max_z}
 use Rattle.words.specs.All.{all_b, first_b, tab}
 use Rattle.words.specs.First.{given, first, answer}
 use Rattle.words.specs.Range.{id_word, edition_word, coord_word}
@@ -120,7 +120,7 @@ abbrev size_first : List ℤ → ℕ → ℕ → ℕ
 size_first Q id size = first (size_no size ∷ id_no (points_of Q) id ∷ [])
 
 pub size_first_wrong : (size_first chamber_sheet 1 0 ≡ 10) × (nearest_no pump_sheet chamber_sheet 1 0 0 ≡ 20)
-unfolding nearest_no size_no id_no position_of first_b points_of tab spot_of open_no body_no trailer_no first given counts_ok within edition_word layout_ok root_word points_ok point_ok fields_ok rises_ok id_word coord_word wordBefore order_ok place_ok is_below rank_of order_of nodes_ok table_ok node_ok node_rule run_ok end_ok is_last same_level due_of due_next tight_ok tight_side best better min_z max_z coord_of side_of level_of first_of count_of eq_z num all_b limits_of form1
+unfolding nearest_no size_no id_no position_of first_b points_of tab spot_of open_no body_no trailer_no first given counts_ok within edition_word layout_ok root_word points_ok point_ok fields_ok rises_ok id_word coord_word word_before order_ok place_ok is_below rank_of order_of nodes_ok table_ok node_ok node_rule run_ok end_ok is_last same_level due_of due_next tight_ok tight_side best better min_z max_z coord_of side_of level_of first_of count_of eq_z num all_b limits_of form1
 size_first_wrong = (refl, refl)
 
 abbrev slice_first : List ℤ → ℕ → ℕ → ℕ
@@ -128,7 +128,7 @@ slice_first P size len = first (wait_no P len ∷ size_no size ∷ [])
 
 -- [G10]
 pub slice_first_wrong : (slice_first pump_sheet 0 0 ≡ 25) × (nearest_no pump_sheet chamber_sheet 5 0 0 ≡ 10)
-unfolding nearest_no size_no id_no position_of first_b points_of tab spot_of wait_no open_no body_no trailer_no first given counts_ok within edition_word layout_ok root_word points_ok point_ok fields_ok rises_ok id_word coord_word wordBefore order_ok place_ok is_below rank_of order_of nodes_ok table_ok node_ok node_rule run_ok end_ok is_last same_level due_of due_next tight_ok tight_side best better min_z max_z coord_of side_of level_of first_of count_of eq_z num all_b limits_of form1
+unfolding nearest_no size_no id_no position_of first_b points_of tab spot_of wait_no open_no body_no trailer_no first given counts_ok within edition_word layout_ok root_word points_ok point_ok fields_ok rises_ok id_word coord_word word_before order_ok place_ok is_below rank_of order_of nodes_ok table_ok node_ok node_rule run_ok end_ok is_last same_level due_of due_next tight_ok tight_side best better min_z max_z coord_of side_of level_of first_of count_of eq_z num all_b limits_of form1
 slice_first_wrong = (refl, refl)
 
 -- 25 before 24. "24 bit slice too short, after all others but 16 and 25": with neither words nor numbers lent it is 24. [Y15]
@@ -136,5 +136,5 @@ abbrev numbers_first : List ℤ → ℕ → ℕ → ℕ
 numbers_first P bits len = first (wait_no P len ∷ bits_no (need P) bits ∷ [])
 
 pub numbers_before_bits_wrong : (numbers_first pump_sheet 0 0 ≡ 25) × (near_filter_no pump_sheet chamber_sheet 5 0 0 ≡ 24)
-unfolding near_filter_no bits_no words_for id_no position_of first_b points_of tab spot_of wait_no open_no body_no trailer_no first given counts_ok within edition_word layout_ok root_word points_ok point_ok fields_ok rises_ok id_word coord_word wordBefore order_ok place_ok is_below rank_of order_of nodes_ok table_ok node_ok node_rule run_ok end_ok is_last same_level due_of due_next tight_ok tight_side best better min_z max_z coord_of side_of level_of first_of count_of eq_z num all_b limits_of form1
+unfolding near_filter_no bits_no words_for id_no position_of first_b points_of tab spot_of wait_no open_no body_no trailer_no first given counts_ok within edition_word layout_ok root_word points_ok point_ok fields_ok rises_ok id_word coord_word word_before order_ok place_ok is_below rank_of order_of nodes_ok table_ok node_ok node_rule run_ok end_ok is_last same_level due_of due_next tight_ok tight_side best better min_z max_z coord_of side_of level_of first_of count_of eq_z num all_b limits_of form1
 numbers_before_bits_wrong = (refl, refl)

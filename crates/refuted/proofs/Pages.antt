@@ -27,7 +27,7 @@ use Rattle.bits.specs.Set.{digit, at as bit_at, kept, with, none, words_for, wip
 use Rattle.list.specs.declared.Key.{Key}
 use Rattle.list.specs.declared.Pair.{Pair}
 use Rattle.list.specs.declared.Request.{Request}
-use Rattle.list.specs.Pairs.{start, none as nonePair, follows, after, chamber_pairs}
+use Rattle.list.specs.Pairs.{start, none as none_pair, follows, after, chamber_pairs}
 use Rattle.list.specs.Pages.{threshold_no, size_no, contractor_no, owners_no, padded, shown, page_of}
 use Rattle.list.specs.Rows.{row, rows, at_least, list_by}
 use Rattle.list.specs.RingList.{unblocked, ring_pair_by, ring_list_by, ring_list}
@@ -134,7 +134,7 @@ refusing_all_wrong k e = let z : 0 ≡ suc k = ap (λ (r : Paged). r.number) e i
 pub unchanging_page_wrong : (l : List Pair) → ((P Q : List ℤ) → sheets_no P Q ≡ 0 → (page_answer P Q [] request (need P)).page.pairs ≡ l) → ⊥
 unfolding page_answer page_no grid_no page_given page_refused answer contractor_no owners_no key_no size_no threshold_no bits_no words_for open_no body_no trailer_no first given counts_ok within edition_word layout_ok root_word points_ok point_ok fields_ok rises_ok id_word coord_word before order_ok place_ok is_below rank_of order_of nodes_ok table_ok node_ok node_rule run_ok end_ok is_last same_level due_of due_next tight_ok tight_side best better min_z max_z coord_of side_of level_of first_of count_of eq_z num all_b limits_of form1 sheets_no page_of shown padded after follows list_for listed_for pair_for at_least list_by rows row ring_pair_by unblocked blocks same_spot points_of tab spot_of
 unchanging_page_wrong l same =
-    true≢false (ap (λ (k : List Pair). eqb (get_or k 0 nonePair).q 5) (same pump_sheet chamber_sheet refl ∙ sym (same nothing chamber_sheet refl)))
+    true≢false (ap (λ (k : List Pair). eqb (get_or k 0 none_pair).q 5) (same pump_sheet chamber_sheet refl ∙ sym (same nothing chamber_sheet refl)))
 
 -- Q before P. "1 to 8 for P, then for Q": P has a form number that is none, and Q has under 6 words. [N18]
 abbrev chambers_first : List ℤ → List ℤ → ℕ

@@ -21,7 +21,7 @@ use Rattle.sheet.specs.Nodes.{level_of, first_of, count_of, same_level, due_next
 use Rattle.sheet.specs.Boxes.{side_of, coord_of, better, best, tight_side, tight_ok, sum_over}
 use Rattle.sheet.specs.Open.{body_no, open_no}
 use Rattle.sheet.specs.Places.{spot_of, box_of, points_of}
-use Rattle.bits.specs.Set.{digit, at as bit_at, kept, with, none as noBits, words_for, wiped}
+use Rattle.bits.specs.Set.{digit, at as bit_at, kept, with, none as no_bits, words_for, wiped}
 use Rattle.list.specs.declared.Pair.{Pair}
 use Rattle.list.specs.Pairs.{none}
 use Rattle.list.specs.Rows.{row, rows, list_by}
@@ -144,21 +144,21 @@ ends k = cond (eqb k 0) (spot (pos 0) (pos 0)) (spot (pos 20) (pos 0))
 -- for the chamber at (0, 0) by the other, and of that one a ring partner stands there. [L5]
 abbrev one_skips : (ℕ → Spot) → ℕ → List ℤ → Kept
 one_skips q c w =
-    walk_all w 2 1 (λ j go k. cond (some_b c (skips q c 1 w 2 j k.bits)) k (go (so_far k.bits (k.opened + 1)))) (leaf_take q c 1 w 2) (so_far (noBits 16) 0)
+    walk_all w 2 1 (λ j go k. cond (some_b c (skips q c 1 w 2 j k.bits)) k (go (so_far k.bits (k.opened + 1)))) (leaf_take q c 1 w 2) (so_far (no_bits 16) 0)
 
 abbrev beyond : List ℤ
 beyond = words (1 ∷ 21 ∷ 0 ∷ 2 ∷ 25 ∷ 0 ∷ 0 ∷ 1 ∷ 0 ∷ 1 ∷ 0 ∷ 0 ∷ 2 ∷ 21 ∷ 0 ∷ 25 ∷ 0 ∷ 17 ∷ 7 ∷ 2 ∷ 1 ∷ 7 ∷ 1 ∷ [])
 
 pub one_skips_wrong : (kept (one_skips ends 2 beyond).bits (slot 1 1 0) ≡ false) × (leaf_keeps ends 2 1 beyond 1 0 ≡ true)
-unfolding leaf_kept leaf_visit leaf_take skips weigh ruled_out walk_all walk in_turn noBits kept with bit_at digit all_b level_of first_of count_of box_of side_of spot_of order_of num drops drops_box blocks same_spot in_box
+unfolding leaf_kept leaf_visit leaf_take skips weigh ruled_out walk_all walk in_turn no_bits kept with bit_at digit all_b level_of first_of count_of box_of side_of spot_of order_of num drops drops_box blocks same_spot in_box
 one_skips_wrong = (refl, refl)
 
 -- Pump houses alone rule out a partner. "another chamber of the leaf rules out a partner just as a kept pump house does": (21, 0) is behind the chamber at (20, 0). [L4]
 abbrev pumps_alone : (ℕ → Spot) → ℕ → ℕ → List ℕ → Bool
 pumps_alone q i k b = some_b 2 (λ p. kept b (slot 1 k p) && drops (q k) (spot_of beyond p) (spot_of beyond i))
 
-pub pumps_rule_wrong : (pumps_alone ends 0 0 (noBits 16) ≡ false) × (ruled_out ends 2 1 beyond 2 (λ p. drops (ends 0) p (spot_of beyond 0)) 0 (noBits 16) ≡ true)
-unfolding leaf_kept leaf_visit leaf_take skips weigh ruled_out walk_all walk in_turn noBits kept with bit_at digit all_b level_of first_of count_of box_of side_of spot_of order_of num drops drops_box blocks same_spot in_box
+pub pumps_rule_wrong : (pumps_alone ends 0 0 (no_bits 16) ≡ false) × (ruled_out ends 2 1 beyond 2 (λ p. drops (ends 0) p (spot_of beyond 0)) 0 (no_bits 16) ≡ true)
+unfolding leaf_kept leaf_visit leaf_take skips weigh ruled_out walk_all walk in_turn no_bits kept with bit_at digit all_b level_of first_of count_of box_of side_of spot_of order_of num drops drops_box blocks same_spot in_box
 pumps_rule_wrong = (refl, refl)
 
 -- A chamber at q's own place rules out a partner, as before request 3. "The same holds for leaf runs and their second rule." [O5]
@@ -169,8 +169,8 @@ abbrev old_rule : (ℕ → Spot) → ℕ → ℕ → ℕ → Bool
 old_rule q h k i = behind (q k) (q h) (spot_of beyond i)
 
 pub same_spot_rules_wrong :
-    (old_rule one_spot 1 0 0 ≡ true) × (ruled_out one_spot 2 1 beyond 2 (λ p. drops (one_spot 0) p (spot_of beyond 0)) 0 (noBits 16) ≡ false)
-unfolding leaf_kept leaf_visit leaf_take skips weigh ruled_out walk_all walk in_turn noBits kept with bit_at digit all_b level_of first_of count_of box_of side_of spot_of order_of num drops drops_box blocks same_spot in_box
+    (old_rule one_spot 1 0 0 ≡ true) × (ruled_out one_spot 2 1 beyond 2 (λ p. drops (one_spot 0) p (spot_of beyond 0)) 0 (no_bits 16) ≡ false)
+unfolding leaf_kept leaf_visit leaf_take skips weigh ruled_out walk_all walk in_turn no_bits kept with bit_at digit all_b level_of first_of count_of box_of side_of spot_of order_of num drops drops_box blocks same_spot in_box
 same_spot_rules_wrong = (refl, refl)
 
 -- ---- the count
@@ -181,7 +181,7 @@ walk_each P Q v = sum_over (λ k. (leaf_kept (λ h. chamber_spot Q v k) 1 1 P).o
 
 pub walk_each_wrong :
     (walk_each pump_sheet chamber_sheet 0 ≡ 2) × ((leaf_kept (chamber_spot chamber_sheet 0) (count_of chamber_sheet 2 0) 1 pump_sheet).opened ≡ 1)
-unfolding sum_over chamber_spot chamber_at leaf_kept leaf_visit leaf_take skips weigh ruled_out walk_all walk in_turn noBits kept with bit_at digit all_b level_of first_of count_of box_of side_of spot_of order_of num drops drops_box blocks same_spot in_box
+unfolding sum_over chamber_spot chamber_at leaf_kept leaf_visit leaf_take skips weigh ruled_out walk_all walk in_turn no_bits kept with bit_at digit all_b level_of first_of count_of box_of side_of spot_of order_of num drops drops_box blocks same_spot in_box
 walk_each_wrong = (refl, refl)
 
 -- The walk of P alone. "Its count is that walk's opened nodes plus those of each kept partner's ring walk." [L7]
@@ -189,5 +189,5 @@ abbrev walk_alone : List ℤ → List ℤ → ℕ → ℕ
 walk_alone P Q v = (leaf_kept (chamber_spot Q v) (count_of Q (points Q) v) 1 P).opened
 
 pub walk_alone_wrong : (walk_alone pump_sheet chamber_sheet 0 ≡ 1) × (leaf_opened 1 pump_sheet chamber_sheet 0 ≡ 7)
-unfolding leaf_opened sum_over chamber_spot chamber_at pair_walk_by ring_walk ring_on ring_visit ring_take meet enter walk_all walk in_turn level_of first_of count_of box_of side_of spot_of order_of num blocks same_spot far side_in inside leaf_kept leaf_visit leaf_take skips weigh ruled_out noBits kept with bit_at digit all_b drops drops_box in_box
+unfolding leaf_opened sum_over chamber_spot chamber_at pair_walk_by ring_walk ring_on ring_visit ring_take meet enter walk_all walk in_turn level_of first_of count_of box_of side_of spot_of order_of num blocks same_spot far side_in inside leaf_kept leaf_visit leaf_take skips weigh ruled_out no_bits kept with bit_at digit all_b drops drops_box in_box
 walk_alone_wrong = (refl, refl)
