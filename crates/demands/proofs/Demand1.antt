@@ -71,7 +71,7 @@ use Rattle.book.specs.declared.Asked.{Asked}
 use Rattle.book.specs.declared.Taken.{Taken}
 use Rattle.book.specs.declared.TakenArray.{TakenArray}
 use Rattle.list.specs.Lent.{lent_of}
-use Rattle.book.specs.Rules.{begin_no, begun_no, next_no, next_case_no, take_no, taken, taken_slots}
+use Rattle.book.specs.Rules.{begin_no, begun_no, next_no, next_case_no, take_no, taken_slots}
 use Rattle.book.proofs.Once as of_book
 use Rattle.depot.specs.declared.Form.{Form}
 use Rattle.depot.specs.declared.Made.{Made}

@@ -43,7 +43,7 @@ use Rattle.integers.proofs.Bools.{decide}
 use Rattle.words.specs.Range.{last_id}
 use Rattle.words.proofs.TabLaws.{at_tab}
 use Rattle.plane.specs.Point.{Point, point_at, id_at, spot_at}
-use Rattle.plane.specs.Rule.{blocks, drops}
+use Rattle.plane.specs.Rule.{drops}
 use Rattle.sheet.specs.Layout.{points, nodes, edition, form}
 use Rattle.sheet.specs.Nodes.{level_of, count_of}
 use Rattle.sheet.specs.Places.{spot_of, point_of, points_of}

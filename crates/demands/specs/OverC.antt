@@ -51,7 +51,7 @@ use Rattle.ffi.proofs.ring_urgent.Reads as urgent-c
 use Rattle.ffi.proofs.ring_book_begin.Reads as begin-c
 use Rattle.ffi.proofs.ring_depot_begin.Reads as depot-begin-c
 use Rattle.ffi.proofs.ring_marker.Reads as mark-c
-use Rattle.demands.specs.Promises.{Place, slice}
+use Rattle.demands.specs.Promises.{Place, slice, mut_slice}
 
 -- `ring_open(w)` answers h [C1, D8]
 pub record OpenC (w : List ℤ) (h : HeadAnswer) : Type 0 where
