@@ -1,11 +1,11 @@
 """What the papers name, held to what is there: links, paths of files, modules and functions, files of definitions and laws.
 
-Papers are README.md, tests/README.md and docs/*.md. Of docs/CHANGES.md only the links are held: it says what was so at each landing, and names go later.
+Papers are README.md, tests/README.md and docs/*.md. Of docs/CHANGES.md and docs/PORT.md only the links are held: they say what was so at each landing and before the port, and names go later.
 """
 import os
 import re
 
-HISTORY = "docs/CHANGES.md"
+HISTORY = ("docs/CHANGES.md", "docs/PORT.md")
 LINK = re.compile(r"\[[^\]\n]*\]\(([^)\s]+)\)|^\[[^\]\n]+\]: (\S+)$", re.M)
 QUOTED = re.compile(r"`([^`\n]+)`")
 # `walk` proofs/WalkLaws, FilterCode
@@ -49,7 +49,7 @@ def broken(files, read):
             target = (found.group(1) or found.group(2)).split("#")[0]
             if target and "://" not in target and not stands(os.path.normpath(os.path.join(os.path.dirname(paper), target)), files):
                 wrong.append("%s: links to %s, which is not there" % (line(found), target))
-        if paper == HISTORY:
+        if paper in HISTORY:
             continue
         for found in QUOTED.finditer(text):
             word = found.group(1).split()[0].rstrip(",;:.").removeprefix("./")
