@@ -1,5 +1,5 @@
 -- `compare::all_small` is safe and ends. Assumes nothing.
-use Rattle.std.proofs.Common.{◌-◌, ◌≤◌, rules}
+use Rattle.std.proofs.Common.{◌-◌, ◌≤◌}
 use Rattle.compare.proofs.all_small.Given as goal
 
 abbrev pub invariant-loop-k : goal.invariant-loop-k

@@ -1,5 +1,5 @@
 -- `compare::all_tried` is safe and ends. Assumes nothing.
-use Rattle.std.proofs.Common.{◌-◌, ◌≤◌, rules}
+use Rattle.std.proofs.Common.{◌-◌, ◌≤◌}
 use Rattle.compare.proofs.all_tried.Given as goal
 
 abbrev pub invariant-loop-k : goal.invariant-loop-k

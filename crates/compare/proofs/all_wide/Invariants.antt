@@ -1,5 +1,5 @@
 -- `compare::all_wide` is safe and ends. Assumes nothing.
-use Rattle.std.proofs.Common.{◌-◌, ◌≤◌, rules}
+use Rattle.std.proofs.Common.{◌-◌, ◌≤◌}
 use Rattle.compare.proofs.all_wide.Given as goal
 
 abbrev pub invariant-loop-k : goal.invariant-loop-k

@@ -1,5 +1,5 @@
 -- `compare::is_moved` is safe and ends. Assumes nothing.
-use Rattle.std.proofs.Common.{◌-◌, ◌≤◌, rules}
+use Rattle.std.proofs.Common.{◌-◌, ◌≤◌}
 use Rattle.compare.proofs.is_moved.Given as goal
 
 abbrev pub invariant-loop-k : goal.invariant-loop-k

@@ -1,5 +1,4 @@
 -- `compare::listed` is safe and ends. Assumes nothing.
-use Rattle.std.proofs.Common.{rules}
 use Rattle.compare.proofs.listed.Given as goal
 
 abbrev pub invariant-loop-left : goal.invariant-loop-left

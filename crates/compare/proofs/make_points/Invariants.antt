@@ -1,5 +1,5 @@
 -- `compare::make_points` is safe and ends. Assumes nothing.
-use Rattle.std.proofs.Common.{◌≡◌, ◌-◌, ◌≤◌, length, rules}
+use Rattle.std.proofs.Common.{◌≡◌, ◌-◌, ◌≤◌, length}
 use Rattle.compare.proofs.make_points.Given as goal
 
 abbrev pub invariant-loop-k : goal.invariant-loop-k

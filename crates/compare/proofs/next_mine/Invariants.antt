@@ -1,5 +1,4 @@
 -- `compare::next_mine` is safe and ends. Assumes nothing.
-use Rattle.std.proofs.Common.{rules}
 use Rattle.compare.proofs.next_mine.Given as goal
 
 abbrev pub invariant-loop-left : goal.invariant-loop-left
