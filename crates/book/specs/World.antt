@@ -34,11 +34,11 @@ module _ (w : World) where
   abbrev pub chambers_of : Source → List Point
   chambers_of s = cond s.terms.own (w.assets s.q_edition) (w.chambers s.q_edition)
 
-  -- its list: that of its terms, of these points, by the owner bytes of its chamber edition; those of an undivided list do not matter (`undivided-any` of list) [Z2, T6, J6, A10]
+  -- its list: that of its terms, of these points, by the owner bytes of its chamber edition; those of an undivided list do not matter (`undivided_any` of list) [Z2, T6, J6, A10]
   abbrev pub list_of : Source → List Pair
   list_of s = list_for s.terms (w.owners s.q_edition) (pumps_of s) (chambers_of s)
 
-  -- the points in both places stand in reach of its profile, so that no size of its list exceeds the profile's limit. Of the circle every world has it (`circle-in-reach` of
+  -- the points in both places stand in reach of its profile, so that no size of its list exceeds the profile's limit. Of the circle every world has it (`circle_in_reach` of
   -- proofs/Story); of the street grid a world has it where the sheets are of form 1, "form 1 sheets only", which 29 sees to
   pub record InReach (s : Source) : Type 0 where
     pub pumps_in : ring_list.Reached (profile_for s.terms) (pumps_of s)

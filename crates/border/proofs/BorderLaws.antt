@@ -1,15 +1,15 @@
 -- What a part says of its whole: P and Q are two sets of points, however large; the part has those of both that stand in a box R.
 --
---     part_within, part_has      a record of the part is one of the whole that stands in R, and each of those is one of the part; part-rises: its ids ascend too
+--     part_within, part_has      a record of the part is one of the whole that stands in R, and each of those is one of the part; part_rises: its ids ascend too
 --     blocked_in                 where the circle of a pair lies in R, so does all that blocks the pair
 --     border_pair                so the pair is a ring pair of the whole exactly if it is one of the part
 --     border_keeps               a pair of the whole whose ends are of the part is one of the part, whether its circle lies in R or not: what blocks it there blocks it in the whole
 --     ends_in                    the ends of a pair whose circle lies in R are of the part
---     border_list, border_part   so it stands in the list of the whole exactly if it stands in that of the part, with the same ids and size; border-listed: and of any pair with ends in R, one way
---     margin_enough              the circle lies in R, a core and its margin, where both ends stand in the core and are at most two margins apart; margin-chamber: or where one end does and they
+--     border_list, border_part   so it stands in the list of the whole exactly if it stands in that of the part, with the same ids and size; border_listed: and of any pair with ends in R, one way
+--     margin_enough              the circle lies in R, a core and its margin, where both ends stand in the core and are at most two margins apart; margin_chamber: or where one end does and they
 --                                are at most one margin apart
 --     clear_root                 where the size is the square of a way, as along the streets, the test of a side compares the way itself
---     border_closed              a chamber that has all of the map outside R behind records of the part has all its partners in R; behind-box: a box is behind a record by the test of its corners
+--     border_closed              a chamber that has all of the map outside R behind records of the part has all its partners in R; behind_box: a box is behind a record by the test of its corners
 -- Assumes nothing.
 use mathlib.Core.Path.{◌≡◌, refl, sym, ap, ap₂, subst, ◌∙◌}
 use mathlib.Core.Bool.{Bool, true, false, cond, not, ◌&&◌}

@@ -1,7 +1,7 @@
 -- How far a circle reaches on either axis: what blocks a pair, and its ends, are no farther from its middle there than half of the way that its size is the square of. Of either profile.
 --
 --     Near           of a place, that
---     block_near     of what blocks; end-near: of the ends
+--     block_near     of what blocks; end_near: of the ends
 --     spans          the ends are no farther apart on an axis
 --     root_le        the greater number has the greater square, and no other
 -- Assumes nothing.

@@ -1,5 +1,5 @@
 -- A country's records are more than a sheet may hold. They are cut into parts: the sheets of a part hold all records of both sets that stand in a box of the map, and no others.
--- A chamber and a pump house whose circle lies in the box are a ring pair of the whole exactly if they are one of the part: `border-pair` of proofs/BorderLaws. A pair whose circle
+-- A chamber and a pump house whose circle lies in the box are a ring pair of the whole exactly if they are one of the part: `border_pair` of proofs/BorderLaws. A pair whose circle
 -- leaves the box must be asked of the sheets of a larger box.
 use Rattle.std.specs.Prelude.{◌≡◌, Bool, true, false, cond, ◌&&◌, ◌⊎◌, List, [], ◌∷◌, ℕ, ◌<◌, ℤ, pos, ◌+ℤ◌, ◌-ℤ◌, ◌*ℤ◌, length}
 use Rattle.std.specs.Int.Signed.{le_z}
@@ -31,7 +31,7 @@ module _ (f : Profile) where
 abbrev pub widened : ℕ → Boxed → Boxed
 widened m c = record { xmin = c.xmin -ℤ pos m; ymin = c.ymin -ℤ pos m; xmax = c.xmax +ℤ pos m; ymax = c.ymax +ℤ pos m }
 
--- z is behind a record of the set, as seen from a chamber at q: the record blocks the pair of the two. The half-plane rule, of the circle; of all places of a box at once it is `dropsBox`.
+-- z is behind a record of the set, as seen from a chamber at q: the record blocks the pair of the two. The half-plane rule, of the circle; of all places of a box at once it is `drops_box`.
 -- [Q5]
 pub record Behind (s : List Point) (q z : Spot) : Type 0 where
   pub at : ℕ
@@ -43,7 +43,7 @@ pub record Closed (m r : Boxed) (P' Q' : List Point) (q : Spot) : Type 0 where
   pub shut : (z : Spot) → in_box m z ≡ true → in_box r z ≡ false → Behind P' q z ⊎ Behind Q' q z
 
 -- A chamber of a part, at position j of its chambers, is settled there: all of the map outside the box is behind records of the part, as seen from it, and the circle of each ring pair that it has in the
--- part lies in the box. It takes the part alone to see that. Its pairs are then those of the whole: `settled-pair` of proofs/SettledLaws. Of the circle. [Q5, Q6]
+-- part lies in the box. It takes the part alone to see that. Its pairs are then those of the whole: `settled_pair` of proofs/SettledLaws. Of the circle. [Q5, Q6]
 pub record Settled (m r : Boxed) (P' Q' : List Point) (j : ℕ) : Type 0 where
   pub shut : Closed m r P' Q' (spot_at Q' j)
   pub sure : (i : ℕ) → i < length P' → ring_pair P' Q' j i ≡ true → circle_in circle r (spot_at Q' j) (spot_at P' i) ≡ true

@@ -33,7 +33,7 @@ unfoldable pub covers : Place → Place → Place → Bool
 covers a b z = leb (apart a.x b.x z.x + apart a.y b.y z.y) (across a.x b.x + across a.y b.y)
 
 -- A place on the map turned by an eighth: x + y and x - y. There the sum of the distances on the two axes, by which the streets go, is the greater of the two distances
--- (`turned-sum` of proofs/Turned).
+-- (`turned_sum` of proofs/Turned).
 abbrev pub turn : Place → Place
 turn a = record { x = a.x +ℤ a.y; y = a.x -ℤ a.y }
 

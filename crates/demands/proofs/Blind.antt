@@ -3,9 +3,9 @@
 --
 --     blind_page     the number and the page are the same, and so are the lent words at its exit
 --     blind_book     so a book that is in one state takes the two pages alike
---     blind_pairs    the same of many pairs at once: the whole answer, the slots and the lent words at its exit.  blind-count: and of their number
+--     blind_pairs    the same of many pairs at once: the whole answer, the slots and the lent words at its exit.  blind_count: and of their number
 --     blind_busiest  the same of the busiest chambers: the whole answer and the lent words at its exit
---     blind_urgent   and of the most urgent visits, whatever scores in range the other's chambers have.  scores-kept: also where each chamber keeps its score
+--     blind_urgent   and of the most urgent visits, whatever scores in range the other's chambers have.  scores_kept: also where each chamber keeps its score
 -- Assumes nothing.
 use mathlib.Core.Path.{◌≡◌, sym, ap, ap₂, ◌∙◌}
 use mathlib.Core.Bool.{Bool, true, false, not, ◌&&◌, ◌||◌}
@@ -65,7 +65,7 @@ use Rattle.ranked.proofs.BlindLaws.{blind_ranks, blind_scored, blind_visits}
 use Rattle.demands.specs.Promises.{PageAnswers, TakeAnswers, PairsAnswers, CountAnswers, BusyAnswers, UrgentAnswers}
 use Rattle.demands.proofs.SizedLaws.{sized_blind, to_only}
 
--- Where each chamber keeps its score, the scores of the two runs are as `blind-urgent` asks. [BU12]
+-- Where each chamber keeps its score, the scores of the two runs are as `blind_urgent` asks. [BU12]
 pub scores_kept : (c : ℕ) (Q : List Point) (o : List ℕ) (Q' : List Point) (o' : List ℕ) (r : Renamed c Q o Q' o') (s s' : List ℕ) → length s ≡ length s' → ((j : ℕ) → j < length Q → get_or s' (r.to j) 0 ≡ get_or s j 0) → Rescored c Q o Q' o' r s s'
 scores_kept c Q o Q' o' r s s' n keeps = record { as_many = n; in_range = λ j h. ap (λ (x : ℕ). leb x last_score) (keeps j h); own_score = λ j h e. keeps j h }
 

@@ -1,16 +1,16 @@
 -- Beyond one sheet. A country's pump houses and chambers are two sets of points, more than a sheet may hold. A province's two sheets hold all that stand in a box R of the map, and no others. What the
--- shipped calls answer for these sheets, of the country's own ring pairs: `ringPairBy` of list/specs/RingList, over all records of the country. `circleIn` and `part_of` stand in border/specs/Border, on points alone.
+-- shipped calls answer for these sheets, of the country's own ring pairs: `ring_pair_by` of list/specs/RingList, over all records of the country. `circle_in` and `part_of` stand in border/specs/Border, on points alone.
 -- q is position j of the country's chambers, p is position i of its pump houses. Of either profile.
 --
 --     border_pages       a chamber and a pump house whose circle lies in R are in the province's pages, followed from (0, 0), exactly if they are a ring pair of the country: with these ids and this size
 --     border_found       a ring pair of the country with both ends in R is in the province's pages, wherever its circle reaches. So what they do not hold is none of the country
 --     border_walk        the ring walk of a chamber and a pump house whose circle lies in R is clear exactly if they are a ring pair of the country: how one pair is asked of a larger sheet
---     border_core        R is a core and a margin. Both ends in the core, at most two margins apart: as border_pages says.  border-chamber: or the chamber in the core, at most one margin apart
+--     border_core        R is a core and a margin. Both ends in the core, at most two margins apart: as border_pages says.  border_chamber: or the chamber in the core, at most one margin apart
 --     country_pairs      so of a country that is cut into cores, all with one margin: a chamber and a pump house at most a margin apart are a ring pair of it exactly if the pages of the province in whose
 --                        core the chamber stands hold them
---     province_visits    of the chambers that a province keeps, which are settled there (by its own records alone), its pages hold the ring pairs of the country, however long: all, and no others; province-only: nor anything else
+--     province_visits    of the chambers that a province keeps, which are settled there (by its own records alone), its pages hold the ring pairs of the country, however long: all, and no others; province_only: nor anything else
 --     country_visits     so of a country of which each chamber is kept by one province, each ring pair is in the pages of exactly one province, and nothing else is in any
---     country_had        such a country and such a province can be had.  chamber-settled: and a chamber that is settled in it, though a pump house and a chamber stand outside
+--     country_had        such a country and such a province can be had.  chamber_settled: and a chamber that is settled in it, though a pump house and a chamber stand outside
 -- Assumes nothing.
 use mathlib.Core.Path.{◌≡◌, refl, sym, ap, ap₂, subst, ◌∙◌}
 use mathlib.Core.Bool.{Bool, true, false}

@@ -1,5 +1,5 @@
 -- A list by rows, where the names of the rows may stand in any order, as the q ids of a leaf's places do: of two of its pairs the first is of an earlier row, or of the same row
--- and has the lower p id. (Where the rows' names rise too, this is `ring-list-ascends` of `list`, which is used here: on the list that has the rows' numbers for names.)
+-- and has the lower p id. (Where the rows' names rise too, this is `ring_list_ascends` of `list`, which is used here: on the list that has the rows' numbers for names.)
 -- Assumes nothing.
 use mathlib.Core.Path.{◌≡◌, refl, sym, ap, ap₂, ◌∙◌}
 use mathlib.Core.Bool.{Bool, true, false, cond}

@@ -4,9 +4,9 @@
 --
 -- That every input is taken is proofs/Takes. Here is one theorem for each call: the number of its answer is the defined one, 0 where no rule is broken; and an
 -- answer with another number is that number and nothing else. None has a premise but that the call answered. The definitions of the numbers stand in the
--- document's order: `sheetNo` of sheet/specs/Open, `packNo` of pack/specs/Pack, `pointNo`, `filterNo`, `ringNo` of ring/specs/Numbers, `pageNo` of
--- ring/specs/Page, `ownNo` of ring/specs/Own, `partnersNo` of ring/specs/Partners, `short_no` of shortest/specs/Answer, `beginNo`, `nextNo`, `takeNo` of
--- book/specs/Rules, `markNo` of marker/specs/Mark, `runNo` of runs/specs/Run, `nearestNo` and `nearFilterNo` of nearest/specs/Nearest, `pairsNo`, `ownPairsNo`,
+-- document's order: `sheet_no` of sheet/specs/Open, `pack_no` of pack/specs/Pack, `point_no`, `filter_no`, `ring_no` of ring/specs/Numbers, `page_no` of
+-- ring/specs/Page, `own_no` of ring/specs/Own, `partners_no` of ring/specs/Partners, `short_no` of shortest/specs/Answer, `begin_no`, `next_no`, `take_no` of
+-- book/specs/Rules, `mark_no` of marker/specs/Mark, `runNo` of runs/specs/Run, `nearestNo` and `nearFilterNo` of nearest/specs/Nearest, `pairsNo`, `ownPairsNo`,
 -- `countNo` and `ownCountNo` of many/specs/Many.
 -- For the calls through views and on arrays see proofs/Alike. What is lent as `&` cannot be written. What is lent as `&mut` is spoken of here: pack's words,
 -- the slots of take, leaf_run, pairs and own_pairs, the numbers of nearest and near_filter, the words for kept sets of each call that filters. What an answer leaves there: Lent.

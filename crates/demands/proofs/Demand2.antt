@@ -4,18 +4,18 @@
 -- The two sheets may be of different forms.
 -- Where a call is lent words w for kept sets, `enough` says that they are as many as it needs; w' are the words at its exit, of which Lent says more.
 --
---     kept_partner       the filter walk keeps every ring partner.  kept_count, kept-unused: its count is that of the positions kept, and unused bits are 0
---     clear_iff          the ring walk is clear exactly for a ring pair; point_blocks, side-blocks: what it names does block, and a side that it names is the first that qualifies
+--     kept_partner       the filter walk keeps every ring partner.  kept_count, kept_unused: its count is that of the positions kept, and unused bits are 0
+--     clear_iff          the ring walk is clear exactly for a ring pair; point_blocks, side_blocks: what it names does block, and a side that it names is the first that qualifies
 --     pair_exact         a ring pair is a kept position whose ring walk is clear, and no other
---     made_list          the pairs made with exact kept sets and ring walks are the list, as lists; filter-list: with those of the filter walk and the ring walk
---     page_pairs_lem         a page of any terms (t, kind, contractor) is that of their list: pairs, number, end mark.  page-opened: the count beside it is that of the defined walks
+--     made_list          the pairs made with exact kept sets and ring walks are the list, as lists; filter_list: with those of the filter walk and the ring walk
+--     page_pairs_lem         a page of any terms (t, kind, contractor) is that of their list: pairs, number, end mark.  page_opened_lem: the count beside it is that of the defined walks
 --     pair_size          each pair that a page shows has the squared diameter of the places of its two records
---     pages_list         following the pages from (0, 0) gives the list.  list_ascends, list-once: it runs by q id, then p id, each once, by ids.  list-only: nothing else is in it
---     threshold_exact    a pair stands in t's list exactly if it stands in the full list and its chamber has at least t pairs there.  threshold-whole: such a chamber has all its pairs in it.  full-list: the list of 0 is the full list
---     partners_exact     the single question: the smaller of t and the number of the chamber's pairs in the list, and a yes exactly when that is t.  partners-yes: exactly when there are at least t
+--     pages_list         following the pages from (0, 0) gives the list.  list_ascends, list_once: it runs by q id, then p id, each once, by ids.  list_only: nothing else is in it
+--     threshold_exact    a pair stands in t's list exactly if it stands in the full list and its chamber has at least t pairs there.  threshold_whole: such a chamber has all its pairs in it.  full_list: the list of 0 is the full list
+--     partners_exact     the single question: the smaller of t and the number of the chamber's pairs in the list, and a yes exactly when that is t.  partners_yes: exactly when there are at least t
 --     list_exact         two records are in the full list exactly if they are a ring pair
---     contractor_exact   two records are in a contractor's list exactly if they are in the undivided list and the chamber is the contractor's.  contractor-ring: and so, of no t, if they are a ring pair and it is
---     list_divided       each pair of the undivided list is in exactly one of the two contractors' lists, where the bytes are one 0 or 1 a chamber, and list-divided-only: nothing else is.  list-undivided: the list of 2 is that of all chambers
+--     contractor_exact   two records are in a contractor's list exactly if they are in the undivided list and the chamber is the contractor's.  contractor_ring: and so, of no t, if they are a ring pair and it is
+--     list_divided       each pair of the undivided list is in exactly one of the two contractors' lists, where the bytes are one 0 or 1 a chamber, and list_divided_only: nothing else is.  list_undivided: the list of 2 is that of all chambers
 --     list_by_points     sheets with the same points give the same list, and the same pairs, number and end mark of every page
 --     nearest_listed     a chamber and a pump house at the least distance are a pair.  never_empty, first-visit: so of two sheets that are not empty the list is not, and its first page shows a pair
 --     opened_at_most_m   one walk of one sheet opens at most its nodes

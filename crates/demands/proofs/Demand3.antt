@@ -3,7 +3,7 @@
 -- when it holds all, and while it is open with room for all, each page that answers its own next request adds a pair or closes it."
 --
 -- The premises are in specs/World: `History w b s` is a book b with its slots s after any such history, every step of which is an answer that the promise of a shipped
--- call admits (`Book::begin`, `ring::pages::page`, `ring::own::own_page`, `Book::take`). `bookList w b` is the list of the book's terms, of the points of its editions: "demand 3 holds for
+-- call admits (`Book::begin`, `ring::pages::page`, `ring::own::own_page`, `Book::take`). `book_list w b` is the list of the book's terms, of the points of its editions: "demand 3 holds for
 -- each t's list", of a self join "the three demands hold for it", and "Demands 2 and 3 hold for each contractor's list, the owner bytes being the same under one chamber edition".
 --
 --     held_prefix     it holds the first so many pairs of its list

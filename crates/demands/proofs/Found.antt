@@ -2,7 +2,7 @@
 --
 --     length_tells    up to 60,000 points it is the length that `pack` asks for, by 17.  length_none: beyond, 0
 --     place_no_lem        the number of the position's answer is the defined one, and an answer with another number than 0 is that number and 0
---     place_tells     where it is served, the record at the position has the id.  place-known: the id of a record of a sheet is served
+--     place_tells     where it is served, the record at the position has the id.  place_known: the id of a record of a sheet is served
 -- Assumes nothing.
 use mathlib.Core.Path.{◌≡◌, refl, sym, ap, ◌∙◌}
 use mathlib.Core.List.{List}

@@ -2,15 +2,15 @@
 -- For every two sheets that open, or one in both places for a self join, and in terms of what the shipped calls answer for them: of any terms (t, kind, contractor, profile), so the calls of two sheets and those of
 -- a self join are spoken of in one. `Sized` is the list to a size; `after key Sized` are its pairs strictly after the key.
 --
---     many_served        what is in range is served.  pairs-given: it stores the first so many pairs after the key as there are slots, says how many these are, and whether more follow
+--     many_served        what is in range is served.  pairs_given: it stores the first so many pairs after the key as there are slots, says how many these are, and whether more follow
 --     pairs_exact        a pair is one of those after the key exactly if it is in the list of these terms, its size is at most the largest, its chamber has at least t such pairs, and it is after the key.
---                        pairs-listed: so it is one of the list of t.  pairs-only: each that is stored is one of these.  pairs_order, pairs-each: they stand in the list's order, each once, by ids
+--                        pairs_listed: so it is one of the list of t.  pairs_only: each that is stored is one of these.  pairs_order, pairs_each: they stand in the list's order, each once, by ids
 --     pairs_size         each pair has the size of the places of its two records, and that is at most the largest
---     pairs_untouched    the slots past those stored are as they were; where refused all are: `pairs-no` and `own-pairs-no` of Demand1
---     pairs_whole        to the greatest size it is the list of the terms.  pairs-list: so with a slot for each pair, from (0, 0) on, the whole list is stored and nothing follows
---     follow_list        calls that follow each other store a first part of the pairs after the first key, all of them exactly if the last one says that no more follow.  follow-ends: each that says that more
---                        follow has stored a pair, so that they end.  follow-exact: whoever follows them to the end has the pairs that `pairs-exact` names, and no others
---     count_tells        the number of pairs is that of all from the start.  count-enough: and whoever lends so many slots gets them all
+--     pairs_untouched    the slots past those stored are as they were; where refused all are: `pairs_no_lem` and `own_pairs_no_lem` of Demand1
+--     pairs_whole        to the greatest size it is the list of the terms.  pairs_list_lem: so with a slot for each pair, from (0, 0) on, the whole list is stored and nothing follows
+--     follow_list        calls that follow each other store a first part of the pairs after the first key, all of them exactly if the last one says that no more follow.  follow_ends: each that says that more
+--                        follow has stored a pair, so that they end.  follow_exact: whoever follows them to the end has the pairs that `pairs_exact` names, and no others
+--     count_tells        the number of pairs is that of all from the start.  count_enough: and whoever lends so many slots gets them all
 --     pairs_by_points    sheets with the same points give the same
 --     own_many, own_number_of     the calls of a self join answer as those of its terms
 -- Assumes nothing.

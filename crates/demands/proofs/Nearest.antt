@@ -4,7 +4,7 @@
 --
 --     nearest_given      the call is served, and gives as many pump houses as are asked for, or all where P has fewer; unused ones are two zeros; the first n + m lent numbers are 0, and the rest as they were
 --     nearest_each       pump house a is that at the position which stands there in the order of the walk, with its id and its squared distance to the chamber
---     nearest_order      that order: by squared distance, on a tie by position, so by id.  order-each: each pump house stands once in it. So none that is not given comes before one that is
+--     nearest_order      that order: by squared distance, on a tie by position, so by id.  order_each: each pump house stands once in it. So none that is not given comes before one that is
 --     near_filter_given  the filter is served, and the lent numbers are left the same way
 --     near_filter_pairs  a pump house is a ring partner of the chamber exactly if the lent words keep it and its ring walk is clear: these pairs are the list's
 --     near_opened        it opens at most the nodes of P

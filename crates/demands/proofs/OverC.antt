@@ -387,7 +387,7 @@ store_c_no d slots f c slots' a = ap (λ (x : StoreAnswer). x.number) a.0 ∙ st
 pub mark_c_no : (ax ay bx by : ℤ) (c : MarkAnswer) → MarkC ax ay bx by c → c.number ≡ mark_no ax ay bx by
 mark_c_no ax ay bx by c a = ap (λ (x : MarkAnswer). x.number) a.promised ∙ mark_number (marked_at ax ay bx by) ∙ (marked_marks ax ay bx by).number
 
--- ---- one input, one answer, one final state. (`ring_book_take`, `ring_forms`, `ring_leaf_run`, `ring_pairs`, `ring_own_pairs`: `take-once`, `forms-once`, `run-once`, `pairs-once`, `own-pairs-once` of Once)
+-- ---- one input, one answer, one final state. (`ring_book_take`, `ring_forms`, `ring_leaf_run`, `ring_pairs`, `ring_own_pairs`: `take_once`, `forms_once`, `run_once`, `pairs_once`, `own_pairs_once` of Once)
 
 pub open_c_once : (w : List ℤ) (r r' : HeadAnswer) → OpenC w r → OpenC w r' → r ≡ r'
 open_c_once w r r' a b = a.promised ∙ sym b.promised

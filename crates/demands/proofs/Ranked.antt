@@ -1,13 +1,13 @@
 -- The busiest chambers and pump houses, and the most urgent visits: "the k chambers with the most ring partners, in order, ties by id, k 1 to 16, fewer if there are fewer, each with its number of
 -- partners, those with none too; and the same of pump houses"; "the k ring pairs with the highest sum of scores among those of at most a given size, ties by q id and then p id".
--- For every two sheets that open, and in terms of what the shipped calls answer for them. `Sized` is the list to a size, of which Many speaks; `chamberPairs id l` and `pumpPairs id l` are the pairs of a list
+-- For every two sheets that open, and in terms of what the shipped calls answer for them. `Sized` is the list to a size, of which Many speaks; `chamber_pairs id l` and `pump_pairs id l` are the pairs of a list
 -- with that chamber, with that pump house.
 --
 --     busiest_served, pumps_served, urgent_served     what is in range is served
---     busiest_given      k rows, or as many as the contractor has chambers; unused ones are zeros.  pumps-given: or as many as there are pump houses.  urgent-given: or as many as the list has pairs
---     busiest_each       each row is one of the contractor's chambers, with as many pairs as the list has of it.  pumps-each: a pump house.  urgent-listed: a pair of the list, with the sum of its scores
+--     busiest_given      k rows, or as many as the contractor has chambers; unused ones are zeros.  pumps_given: or as many as there are pump houses.  urgent_given_lem: or as many as the list has pairs
+--     busiest_each       each row is one of the contractor's chambers, with as many pairs as the list has of it.  pumps_each: a pump house.  urgent_listed: a pair of the list, with the sum of its scores
 --     busiest_order, pumps_order, urgent_order     in order: each row stands before those given after it, so none is given twice
---     busiest_first      and before each of the contractor's chambers that is not given.  pumps-first: each pump house.  urgent-first: each pair of the list
+--     busiest_first      and before each of the contractor's chambers that is not given.  pumps_first: each pump house.  urgent_first: each pair of the list
 --     urgent_score       the score of a row is the sum of the two that were lent for its positions
 -- Assumes nothing.
 use mathlib.Core.Path.{◌≡◌, refl, sym, ap, subst, ◌∙◌}

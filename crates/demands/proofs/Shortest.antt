@@ -1,11 +1,11 @@
 -- Request 14: "For a half day's crew, give in order the k pairs with the smallest squared size, ties by q id and then p id, k from 1 to 16, fewer if the list is shorter."
 -- For every two sheets that open, every k from 1 to 16 and as many words lent as the points of P need, and in terms of what the shipped call answers for them.
--- `Before v w` of shortest/specs/Order: by squared size, then q id, then p id. `pairsOf P Q` is the list: `ringList` of the points of both sheets, of which
+-- `Before v w` of shortest/specs/Order: by squared size, then q id, then p id. `pairs_of P Q` is the list: `ring_list` of the points of both sheets, of which
 -- Demand2 speaks.
 --
 --     shortest_given     the call is served, and gives k pairs, or all where the list is shorter; unused ones are three zeros
 --     shortest_listed    each is a pair of the list
---     shortest_order     each stands before those given after it.  given-once: so none is given twice
+--     shortest_order     each stands before those given after it.  given_once: so none is given twice
 --     shortest_first     and before each pair of the list that is not given: no pair that was left out is shorter than one that was given
 --     shortest_by_points     sheets with the same points give the same answer
 -- Assumes nothing.

@@ -5,7 +5,7 @@
 --     streets_closed      of the street grid, with three pairs and their sizes along the streets
 --     alone_closed        of the self join of the chambers, with the pair of the two
 --     wide_closed         of two sheets of form 2, with places that no sheet of form 1 has
--- And the premises of `blind-page`, two runs that differ in an id of the other contractor's: `document-renamed`.
+-- And the premises of `blind_page`, two runs that differ in an id of the other contractor's: `document-renamed`.
 -- Assumes nothing.
 use mathlib.Core.Path.{◌≡◌, refl, sym, ap, ◌∙◌}
 use mathlib.Core.Bool.{true, true≢false, false}
@@ -292,7 +292,7 @@ renamed : Renamed 0 (points_of document_q) document_owners (points_of renamed_q)
 unfolding points_of spot_of tab num document_q renamed_q
 renamed = record { to = turned; back = turned; to_in = turned_in; back_in = turned_in; to_back = turned_twice; back_to = turned_twice; place = same_place; owner = same_owner; own_id = own_id; as_many = refl }
 
--- All premises of `blind-page` for contractor 0, at once: the sheets open in both runs, P is the same, Q keeps its edition and its form and is renamed. The other's id did change,
+-- All premises of `blind_page` for contractor 0, at once: the sheets open in both runs, P is the same, Q keeps its edition and its form and is renamed. The other's id did change,
 -- from 6 to 3, and the contractor's own chamber 5 moved from the first position to the second. [U5]
 pub document_renamed : (sheet_no document_p ≡ 0) × (sheet_no document_q ≡ 0) × (sheet_no renamed_q ≡ 0) × SameSeen document_p document_p × SameSeen document_q renamed_q
     × Renamed 0 (points_of document_q) document_owners (points_of renamed_q) renamed_owners

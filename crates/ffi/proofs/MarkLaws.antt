@@ -1,4 +1,4 @@
--- The marker's promise admits one answer, `markedAt`, and that one meets it: what crosses to C is the marker's own answer. Assumes nothing.
+-- The marker's promise admits one answer, `marked_at`, and that one meets it: what crosses to C is the marker's own answer. Assumes nothing.
 use mathlib.Core.Path.{◌≡◌, refl, ap, subst}
 use Prim.Native.Nat.{ℕ, zero, suc}
 use native.Mathlib.Omega.{arith}

@@ -16,12 +16,12 @@ Within (Bytes n) room = IsPrefixLen n room
 Within Failed room = Unit {0}
 
 -- what one read does to the bytes that a reader has left, where those are known: what it puts into the room it takes from them, none only where none is left; a read
--- that fails takes none
+-- that fails takes none [X10]
 abbrev pub ReadsSome : Option (List ℕ) → Option (List ℕ) → Got → List ℕ → Type 0
 ReadsSome old new (Bytes n) room = Consumes old new (take n room) × (n ≡ 0 → 0 < length room → IsAtEnd new)
 ReadsSome old new Failed room = Keeps old new
 
--- what reading to the end does to them: the bytes at the start of the room are the first of them, and where they do not fill the room none is left
+-- what reading to the end does to them: the bytes at the start of the room are the first of them, and where they do not fill the room none is left [X10]
 abbrev pub ReadsAll : Option (List ℕ) → Option (List ℕ) → Got → List ℕ → Type 0
 ReadsAll old new (Bytes n) room = Consumes old new (take n room) × (n < length room → IsAtEnd new)
 ReadsAll old new Failed room = Unit {0}

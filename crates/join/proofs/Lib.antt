@@ -6,7 +6,7 @@
 --     ThresholdLaws the walks of a page of t, and a chamber of it
 --     CountLaws     a chamber's ring partners: those that stay kept, and how many they are
 --     OnlyLaws      the walks of a contractor's page
---     Meaning      the theorems: `page-pairs`, `page-opened`, `list-by-points`
+--     Meaning      the theorems: `page_pairs_lem`, `page_opened_lem`, `list_by_points`
 --     KindLaws     the walks of the terms, whichever the kind
 pub mod MakerLaws
 pub mod WorkLaws

@@ -2,8 +2,8 @@
 --
 --     points_rise       the ids of a sheet's points ascend, from 1 to 2,000,000,000: what the laws of the list ask for
 --     points_sound      and they stand where a sheet's points may: what demand 3 asks for
---     join_page_pairs        the pairs, their number and the end mark are those of the page of the terms' list, `listFor a o (points_of P) (points_of Q)`, o having the owner bytes
---     join_page_opened       the count is that of the walks, `pageOpened` of `pageWalks`: of the contractor's own chambers alone
+--     join_page_pairs        the pairs, their number and the end mark are those of the page of the terms' list, `list_for a o (points_of P) (points_of Q)`, o having the owner bytes
+--     join_page_opened       the count is that of the walks, `page_opened` of `page_walks`: of the contractor's own chambers alone
 --     sheet_pages       following the pages from (0, 0), whatever their sizes, gives the list
 --     join_list_by_points    sheets with the same points give the same list, and the same pairs, number and end mark of every page
 -- Assumes nothing.

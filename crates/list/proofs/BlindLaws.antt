@@ -1,7 +1,7 @@
 -- What one contractor is handed does not depend on the ids of the other's chambers.
 --
 --     blind_list         two runs that differ in these ids alone give the contractor one list: with any t, of either profile
---     same_many          the chambers are as many in both; same-owners: and their bytes are refused in both or in neither
+--     same_many          the chambers are as many in both; same_owners: and their bytes are refused in both or in neither
 --     one_list          two lists that ascend and have the same pairs are one
 -- Assumes nothing.
 use mathlib.Core.Path.{◌≡◌, refl, sym, ap, ap₂, subst, ◌∙◌}

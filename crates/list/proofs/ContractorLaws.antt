@@ -1,10 +1,10 @@
 -- Whose a chamber is, and a contractor's list beside the undivided one: of any terms, with any t, of either profile.
 --
 --     contractor_iff            a pair stands in a contractor's list exactly if it stands in the undivided list of the same other terms, and its chamber is the contractor's;
---                               contractor-within: nothing else stands there
+--                               contractor_within: nothing else stands there
 --     divided                   with one 0 or 1 a chamber, each pair of the undivided list stands in exactly one of the two contractors' lists
---     undivided                 the list of contractor 2 is that of all chambers; undivided-any: whatever the bytes are
---     read_any, mine_read, owners_none, ..      what the code finds in the bytes; contractor_most, contractor_two, owners-each: what the numbers 27 and 26 being 0 says
+--     undivided                 the list of contractor 2 is that of all chambers; undivided_any: whatever the bytes are
+--     read_any, mine_read, owners_none, ..      what the code finds in the bytes; contractor_most, contractor_two, owners_each: what the numbers 27 and 26 being 0 says
 -- Assumes nothing.
 use mathlib.Core.Path.{◌≡◌, refl, sym, ap, subst, ◌∙◌}
 use mathlib.Core.Bool.{Bool, true, false, cond, not, ◌&&◌, ◌||◌}

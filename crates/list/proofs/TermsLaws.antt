@@ -6,9 +6,9 @@
 --     for_pages                 its pages, followed from (0, 0), give it
 --     kind_of                   terms are those of their own kind
 --     full_ring_list            the list of a profile's full terms, which is undivided, is the list of its ring pairs
---     threshold_iff             a pair stands in the list of t exactly if it stands in the ring pairs' list, and its chamber has at least t pairs there; threshold-pairs: with all its pairs
---     partners_listed           `partnersOf` is the number of the chamber's pairs in the ring pairs' list
---     self_iff, self_exact      two records of one set, the lower id first, are listed exactly if no record of it, no other record of it, blocks the pair; self-low: never the higher id first
+--     threshold_iff             a pair stands in the list of t exactly if it stands in the ring pairs' list, and its chamber has at least t pairs there; threshold_pairs: with all its pairs
+--     partners_listed           `partners_of` is the number of the chamber's pairs in the ring pairs' list
+--     self_iff, self_exact      two records of one set, the lower id first, are listed exactly if no record of it, no other record of it, blocks the pair; self_low: never the higher id first
 -- Assumes nothing.
 use mathlib.Core.Path.{◌≡◌, refl, sym, ap, ◌∙◌}
 use mathlib.Core.Bool.{Bool, true, false, cond, not, ◌&&◌}

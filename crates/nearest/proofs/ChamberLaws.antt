@@ -1,5 +1,5 @@
 -- What is found of two sheets and the id of a chamber.
---     seek_start, seek_on, seek-stop, seek_end     the chamber with an id, as it is sought
+--     seek_start, seek_on, seek_stop, seek_end     the chamber with an id, as it is sought
 --     placed_p, placed_q, placed_unknown, placed_here      what `placed` answers, number by number
 --     Placed, placed_facts      what a call may rely on where the number is 0
 -- Assumes nothing.

@@ -1,5 +1,5 @@
--- The premises can be had: a history of a depot that is not empty. The document's editions 7 and 9 are taken to three pairs and closed (`document-closed` of demands); their three
--- forms are made; a depot with room for three is handed the third, the first, the third once more and the second (`document-delivered`). Another depot begins with one slot, refuses
+-- The premises can be had: a history of a depot that is not empty. The document's editions 7 and 9 are taken to three pairs and closed (`document_closed` of demands); their three
+-- forms are made; a depot with room for three is handed the third, the first, the third once more and the second (`document_delivered`). Another depot begins with one slot, refuses
 -- the first form by 16, is lent three slots, and is sent that form again (`document-regrown`). And every book can be delivered, whatever its terms (`can-deliver`): those of the street
 -- grid, of a self join, of sheets of form 2 and of each contractor that `Worlds` of demands has. So nothing that is said of such histories is said of none.
 -- Assumes nothing.

@@ -1,16 +1,16 @@
--- What the walk that goes nearest first means, for every sheet that opens, in any form: `Opens w (points w) (nodes w)`, which the sheet's `open-facts` makes of `openNo lim w ≡ 0`.
+-- What the walk that goes nearest first means, for every sheet that opens, in any form: `Opens w (points w) (nodes w)`, which the sheet's `open_facts` makes of `open_no lim w ≡ 0`.
 --
 --     the points one after another
 --         near_ascends      by squared distance to q, on a tie by position
---         near_once         each point of the sheet once, and near-only: nothing else; near-all: so there are n
+--         near_once         each point of the sheet once, and near_only: nothing else; near_all: so there are n
 --     the filter for q over w, kept set on so many words as hold the points
 --         near_partner      "For every position, a ring partner of q is kept"
 --         near_exact        "Pairs made with its kept set equal the list": a ring partner of q is a kept position whose ring walk is clear, and no other
 --         near_dropped_by   a position that is not kept is dropped by another that is
---         near_unused       unused bits are 0; near-words: the words are as many as were lent
+--         near_unused       unused bits are 0; near_words: the words are as many as were lent
 --         near_opened_at_most_m
 --
--- That the walk ends with nothing waiting after n + m steps, and that never more wait than that, is in NearLaws (`steps-keep`, `length-weight`) and WalkCode (`going-fits`).
+-- That the walk ends with nothing waiting after n + m steps, and that never more wait than that, is in NearLaws (`steps_keep`, `length_weight`) and WalkCode (`going_fits`).
 -- Assumes nothing.
 use mathlib.Core.Path.{◌≡◌, sym, ◌∙◌}
 use mathlib.Core.Bool.{true, false, ◌&&◌}

@@ -28,7 +28,7 @@ follow j d =
     (record { level = d.level + 1; head = j + 1; next = d.head; top = j + 1 })
 
 -- word f of a node of which d is planned, as it is made from a sheet w that is written up to it: a leaf's box from the points, any other from the boxes of
--- the nodes that it covers; `read_is` of proofs/PackedLaws shows that it is `nodeWord`
+-- the nodes that it covers; `read_is` of proofs/PackedLaws shows that it is `node_word`
 unfoldable pub node_read : List ℤ → ℕ → Due → ℕ → ℤ
 node_read w n d f =
     cond (eqb f 0) (pos d.level)

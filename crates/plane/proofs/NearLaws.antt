@@ -1,4 +1,4 @@
--- What blocks a pair is nearer to each of its ends than they are to each other: `nearer-left`, `nearer-right`.
+-- What blocks a pair is nearer to each of its ends than they are to each other: `nearer_left`, `nearer_right`.
 -- Assumes nothing.
 use mathlib.Core.Path.{◌≡◌, refl, ap, ◌∙◌}
 use mathlib.Core.Bool.{Bool, true, false, not, ◌&&◌}

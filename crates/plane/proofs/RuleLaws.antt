@@ -1,4 +1,4 @@
--- What the half-plane rule says of the places in a box: `box-drops`, `point-box`; and laws of places.
+-- What the half-plane rule says of the places in a box: `box_drops`, `point_box`; and laws of places.
 -- Assumes nothing.
 use mathlib.Core.Path.{◌≡◌, refl, sym, ap, subst, ◌∙◌}
 use mathlib.Core.Bool.{Bool, true, false, not, cond, ◌&&◌}

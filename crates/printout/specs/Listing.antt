@@ -17,7 +17,7 @@ abbrev pub stands_at : List Point → ℕ → Spot
 stands_at s id = spot_at s (position_of s id)
 
 -- "q id, p id, twice the centre's x, twice its y, squared diameter": of a pair whose q stands at a and whose p stands at b. The squared diameter is the size that the pair
--- carries (`line-size` of proofs/ShowLaws). [X9]
+-- carries (`line_size` of proofs/ShowLaws). [X9]
 unfoldable pub line_at : Pair → Spot → Spot → List ℕ
 line_at v a b = line_text v.q v.p (a.x +ℤ b.x) (a.y +ℤ b.y) v.size
 

@@ -1,5 +1,5 @@
 -- Ranks: their order, the ranks of some records one after the other, and the k busiest of them.
---     busier_order      it is an order; busier_says, busier-so: what it says, in numbers
+--     busier_order      it is an order; busier_says, busier_so: what it says, in numbers
 --     ranks_next, ranks_end, ranks_only, ranks_same, ranks_apart     of the records one after the other
 --     idle_row          a chamber with few candidates has few pairs
 --     Counting          the loop over the candidates: met_start, met_turn, met_done

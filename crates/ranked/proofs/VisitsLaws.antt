@@ -1,5 +1,5 @@
 -- Visits: their order, the pairs of a chamber one after the other, and the k most urgent.
---     ahead_order       it is an order; ahead-says: what it says, in numbers
+--     ahead_order       it is an order; ahead_says: what it says, in numbers
 --     score_at          the score of the record at a position
 --     pair_not, pair_behind, pair_joins     one pair: it is not of the list, it would not be among the k, it is offered
 --     Picking           the loop over a chamber's candidates

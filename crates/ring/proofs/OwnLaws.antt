@@ -1,6 +1,6 @@
 -- The page request of a self join: its answers by number, and what the promise says of a page.
 --
---     ring_own_no           the number is the first that applies; own-refused: refused, all else is zero
+--     ring_own_no           the number is the first that applies; own_refused: refused, all else is zero
 --     own_served       with a sheet that opens, a key and a size in range, the answer is 0, the page of the list and the count of the walks
 --     ring_own_once         one request, one answer
 --     own_list         following the answers from (0, 0), whatever their sizes from 1 to 16, gives the list

@@ -1,6 +1,6 @@
 -- The page request: its answers by number, and what the promise says of a page.
 --
---     ring_page_no           the number is the first that applies; page-refused: refused, all else is zero
+--     ring_page_no           the number is the first that applies; page_refused_lem: refused, all else is zero
 --     ring_page_served       with sheets that open, a contractor with its owner bytes, a key and a size in range, the answer is 0, the page of the list and the count of the walks
 --     ring_page_once         one request, one answer
 --     ring_pages_list        following the answers from (0, 0), whatever their sizes from 1 to 16, gives the list

@@ -1,6 +1,6 @@
 -- The question for a chamber's partners: its answers by number, and what the promise says of them.
 --
---     ring_partners_no        the number is the first that applies; partners-refused: refused, all else is zero
+--     ring_partners_no        the number is the first that applies; partners_refused_lem: refused, all else is zero
 --     partners_served    with sheets that open, the id of a chamber and a t from 1 to 1,000, the answer is 0, the count and the yes
 --     ring_partners_once      one question, one answer
 -- Assumes nothing.

@@ -6,7 +6,7 @@
 --     run_zeros, run_untouched     zeros stand in the words that the run needs, and those past them are not touched
 --     run_refused_lem                  a refusal leaves the slots and the words as they stood
 --     run_long, run_words_long     the slices are as long as they were
--- That the pairs of all leaves are the list, each once, is `run-listed`, `run_holds`, `run-once` and `listed-run` of `leaf`.
+-- That the pairs of all leaves are the list, each once, is `run_listed`, `run_holds`, `run_once` and `listed_run` of `leaf`.
 -- Assumes nothing.
 use mathlib.Core.Path.{◌≡◌, refl, sym, ap, ◌∙◌}
 use mathlib.Core.Bool.{Bool, true, false, cond}

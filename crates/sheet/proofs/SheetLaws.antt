@@ -1,4 +1,4 @@
--- What it means that a sheet opens: all that the tests of `openNo` say, in one record.
+-- What it means that a sheet opens: all that the tests of `open_no` say, in one record.
 -- Assumes nothing.
 use mathlib.Core.Path.{◌≡◌, refl, sym, ap, subst, ◌∙◌}
 use mathlib.Core.Bool.{Bool, true, false, cond, beq}

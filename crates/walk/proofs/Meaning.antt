@@ -1,11 +1,11 @@
--- What the two walks mean, for every sheet that opens, in any form: `Opens w (points w) (nodes w)`, which the sheet's `open-facts` makes of `openNo lim w ≡ 0`.
--- The ring rule is that of the lists of points, `ringPairBy φ (points_of P) (points_of Q) j i`, with no tree in it, of any lawful profile φ: q is position j of Q, p is position i
+-- What the two walks mean, for every sheet that opens, in any form: `Opens w (points w) (nodes w)`, which the sheet's `open_facts` makes of `open_no lim w ≡ 0`.
+-- The ring rule is that of the lists of points, `ring_pair_by φ (points_of P) (points_of Q) j i`, with no tree in it, of any lawful profile φ: q is position j of Q, p is position i
 -- of P.
 --
 --     filter walk for q over w, kept set on so many words as hold the points
 --         walk_kept_partner      "For every position, a ring partner of q is kept"
 --         dropped_by        a position that is not kept is dropped by one that is
---         unused_zero       "unused bits are 0"; kept-words: the words are as many as were lent
+--         unused_zero       "unused bits are 0"; kept_words: the words are as many as were lent
 --         count_kept        "the number of bits set" is the number of kept positions
 --         filter_opened_at_most_m
 --     ring walk for a, b over w

@@ -1,4 +1,4 @@
--- Laws of `allB` and `firstB`: how a loop that tests every index, or looks for the first, finds it, and what it says of each index.
+-- Laws of `all_b` and `first_b`: how a loop that tests every index, or looks for the first, finds it, and what it says of each index.
 -- Assumes nothing.
 use mathlib.Core.Path.{◌≡◌, refl, sym, ap, subst, ◌∙◌}
 use mathlib.Core.Bool.{Bool, true, false, ◌&&◌, and-false}

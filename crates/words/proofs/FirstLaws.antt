@@ -2,7 +2,7 @@
 --     none_applies, one_applies      the two laws of `first`: it is 0 exactly if every number of the list is; else it is one of them, and all before it are 0
 --     first_passes, first_stops, first_last      the head of the list is 0, or is not, or is the last: what a function finds at each of its returns
 --     first_skips, first_front       a number that the head is not is a later one's; a list that starts with another
---     given_no, given_yes            the number of one test; given_failed, given-held: what its being 0 says of the test
+--     given_no, given_yes            the number of one test; given_failed, given_held: what its being 0 says of the test
 --     answer_given, answer_refused, answer_number      the answer by its number, and the number of the answer
 -- Assumes nothing.
 use mathlib.Core.Path.{◌≡◌, refl, ap, ◌∙◌}

@@ -1,4 +1,4 @@
--- `join::try_partner` meets its contract, by `tried-early` before the key and `tried-walked` after it. Assumes nothing.
+-- `join::try_partner` meets its contract, by `tried_early` before the key and `tried_walked` after it. Assumes nothing.
 use mathlib.Core.Bool.{not}
 use mathlib.Core.Path.{ap, ◌∙◌}
 use Rattle.join.proofs.CallLaws.{tried_early, tried_walked}

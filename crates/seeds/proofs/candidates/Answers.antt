@@ -1,4 +1,4 @@
--- `seeds::candidates` meets its contract: `covers-walk` says why. Assumes nothing.
+-- `seeds::candidates` meets its contract: `covers_walk` says why. Assumes nothing.
 use mathlib.Core.Path.{refl, ◌∙◌}
 use native.Mathlib.Omega.{arith}
 use native.Mathlib.Nat.{pos_of_ne-zero}

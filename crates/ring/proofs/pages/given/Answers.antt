@@ -1,4 +1,4 @@
--- `ring::pages::given` meets its contract, by `page-given`: the maker's page is the list's, its count the walks'. Assumes nothing.
+-- `ring::pages::given` meets its contract, by `page_given_lem`: the maker's page is the list's, its count the walks'. Assumes nothing.
 use mathlib.Core.Path.{ap, ◌∙◌}
 use native.Mathlib.Omega.{arith}
 use Rattle.bits.specs.Set.{none}
