@@ -16,7 +16,14 @@ const WALKS: usize = 5;
 const RING_WALKS: usize = 6;
 
 // What is asked, on the words lent. A call that takes none leaves them as they are.
-fn answered(rt: &HostRuntime, tape: &mut Tape, kind: usize, p: &[i32], q: &[i32], bits: &mut [u64]) {
+fn answered(
+    rt: &HostRuntime,
+    tape: &mut Tape,
+    kind: usize,
+    p: &[i32],
+    q: &[i32],
+    bits: &mut [u64],
+) {
     if kind == WALKS {
         crate::walks::filter_case(rt, tape, p, q, bits);
     } else if kind == 7 {
@@ -39,7 +46,14 @@ fn answered(rt: &HostRuntime, tape: &mut Tape, kind: usize, p: &[i32], q: &[i32]
 }
 
 // Of many pairs at once, and of how many a list has.
-fn many_answered(rt: &HostRuntime, tape: &mut Tape, kind: usize, p: &[i32], q: &[i32], bits: &mut [u64]) {
+fn many_answered(
+    rt: &HostRuntime,
+    tape: &mut Tape,
+    kind: usize,
+    p: &[i32],
+    q: &[i32],
+    bits: &mut [u64],
+) {
     if kind == 15 {
         crate::lists::pairs_case(rt, tape, p, q, bits);
     } else if kind == 16 {
@@ -54,7 +68,14 @@ fn many_answered(rt: &HostRuntime, tape: &mut Tape, kind: usize, p: &[i32], q: &
 }
 
 // Of the first rows of a list in an order.
-fn ranked_answered(rt: &HostRuntime, tape: &mut Tape, kind: usize, p: &[i32], q: &[i32], bits: &mut [u64]) {
+fn ranked_answered(
+    rt: &HostRuntime,
+    tape: &mut Tape,
+    kind: usize,
+    p: &[i32],
+    q: &[i32],
+    bits: &mut [u64],
+) {
     if kind == 19 {
         crate::ranks::busiest_case(rt, tape, p, q, bits);
     } else if kind == 20 {
@@ -65,7 +86,15 @@ fn ranked_answered(rt: &HostRuntime, tape: &mut Tape, kind: usize, p: &[i32], q:
 }
 
 // The same on the first n words.
-fn lent_to(rt: &HostRuntime, tape: &mut Tape, kind: usize, p: &[i32], q: &[i32], n: usize, words: &mut [u64])
+fn lent_to(
+    rt: &HostRuntime,
+    tape: &mut Tape,
+    kind: usize,
+    p: &[i32],
+    q: &[i32],
+    n: usize,
+    words: &mut [u64],
+)
     requires { n ≤ length words.old }
 {
     answered(rt, tape, kind, p, q, &mut words[..n]);
@@ -112,7 +141,15 @@ fn ring_walks(tape: &mut Tape, kind: usize) -> usize {
     0
 }
 
-fn all(rt: &HostRuntime, tape: &mut Tape, kind: usize, p: &[i32], q: &[i32], count: usize, rings: usize) {
+fn all(
+    rt: &HostRuntime,
+    tape: &mut Tape,
+    kind: usize,
+    p: &[i32],
+    q: &[i32],
+    count: usize,
+    rings: usize,
+) {
     requests(rt, tape, kind, p, q, count);
     requests(rt, tape, RING_WALKS, p, q, rings);
 }

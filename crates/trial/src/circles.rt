@@ -1,6 +1,6 @@
 // The shortest circles of two sheets.
-use crate::tape::Tape;
 use crate::say;
+use crate::tape::Tape;
 
 // How many pairs are asked for, and the pairs.
 pub fn shortest_case(rt: &HostRuntime, tape: &mut Tape, p: &[i32], q: &[i32], bits: &mut [u64]) {

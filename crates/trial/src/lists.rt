@@ -81,7 +81,8 @@ fn print_wanted(rt: &HostRuntime, wanted: Wanted, bytes: usize, n: usize) {
     let key = wanted.key;
     say::say(rt, b"pairs");
     pages::print_key(rt, key);
-    print_which(rt, 
+    print_which(
+        rt,
         wanted.largest,
         wanted.threshold,
         wanted.grid,
@@ -92,7 +93,14 @@ fn print_wanted(rt: &HostRuntime, wanted: Wanted, bytes: usize, n: usize) {
     say::say(rt, b":");
 }
 
-fn print_which(rt: &HostRuntime, largest: u64, threshold: u32, grid: bool, contractor: u32, bytes: usize) {
+fn print_which(
+    rt: &HostRuntime,
+    largest: u64,
+    threshold: u32,
+    grid: bool,
+    contractor: u32,
+    bytes: usize,
+) {
     say::number(rt, largest);
     say::number(rt, threshold as u64);
     pages::print_mark(rt, grid);
@@ -100,7 +108,15 @@ fn print_which(rt: &HostRuntime, largest: u64, threshold: u32, grid: bool, contr
     say::number(rt, bytes as u64);
 }
 
-fn pairs_asked(rt: &HostRuntime, p: &[i32], q: &[i32], owners: &[u8], wanted: Wanted, n: usize, bits: &mut [u64]) {
+fn pairs_asked(
+    rt: &HostRuntime,
+    p: &[i32],
+    q: &[i32],
+    owners: &[u8],
+    wanted: Wanted,
+    n: usize,
+    bits: &mut [u64],
+) {
     print_wanted(rt, wanted, owners.len(), n);
     print_lot(rt, found(p, q, owners, wanted, leaves::marked(), n, bits));
 }
@@ -142,7 +158,10 @@ pub fn own_pairs_case(rt: &HostRuntime, tape: &mut Tape, s: &[i32], bits: &mut [
     pages::print_mark(rt, grid);
     say::number(rt, n as u64);
     say::say(rt, b":");
-    print_lot(rt, own_found(s, key, largest, grid, leaves::marked(), n, bits));
+    print_lot(
+        rt,
+        own_found(s, key, largest, grid, leaves::marked(), n, bits),
+    );
 }
 
 fn print_counted(rt: &HostRuntime, r: Counted) {

@@ -37,7 +37,15 @@ fn found(p: &[i32], q: &[i32], id: u32, size: usize, n: usize, numbers: &mut [u6
     nearest::nearest(p, q, id, size, &mut numbers[..n])
 }
 
-fn nearest_case(rt: &HostRuntime, p: &[i32], q: &[i32], id: u32, size: usize, n: usize, numbers: &mut [u64])
+fn nearest_case(
+    rt: &HostRuntime,
+    p: &[i32],
+    q: &[i32],
+    id: u32,
+    size: usize,
+    n: usize,
+    numbers: &mut [u64],
+)
     requires { n ≤ length numbers.old }
 {
     say::say(rt, b"nearest");
@@ -59,7 +67,15 @@ fn kept(p: &[i32], q: &[i32], id: u32, n: usize, numbers: &mut [u64], bits: &mut
     nearest::near_filter(p, q, id, &mut numbers[..n], bits)
 }
 
-fn filter_case(rt: &HostRuntime, p: &[i32], q: &[i32], id: u32, n: usize, numbers: &mut [u64], bits: &mut [u64])
+fn filter_case(
+    rt: &HostRuntime,
+    p: &[i32],
+    q: &[i32],
+    id: u32,
+    n: usize,
+    numbers: &mut [u64],
+    bits: &mut [u64],
+)
     requires { n ≤ length numbers.old }
 {
     say::say(rt, b"filter");

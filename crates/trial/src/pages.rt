@@ -36,7 +36,14 @@ fn print_page(rt: &HostRuntime, page: list::Page) {
 }
 
 // A request, the number of its owner bytes, and the page that it asks for.
-fn paged(rt: &HostRuntime, p: &[i32], q: &[i32], owners: &[u8], request: Request, bits: &mut [u64]) {
+fn paged(
+    rt: &HostRuntime,
+    p: &[i32],
+    q: &[i32],
+    owners: &[u8],
+    request: Request,
+    bits: &mut [u64],
+) {
     let key = request.key;
     say::say(rt, b"page");
     print_key(rt, key);

@@ -71,7 +71,14 @@ fn print_urgent(rt: &HostRuntime, r: Urgent) {
     print_visits(rt, rows);
 }
 
-fn busiest_asked(rt: &HostRuntime, p: &[i32], q: &[i32], owners: &[u8], asked: Question, bits: &mut [u64]) {
+fn busiest_asked(
+    rt: &HostRuntime,
+    p: &[i32],
+    q: &[i32],
+    owners: &[u8],
+    asked: Question,
+    bits: &mut [u64],
+) {
     say::say(rt, b"busiest");
     print_question(rt, asked, owners.len());
     print_busy(rt, ranked::busiest::busiest(p, q, owners, asked, bits));
@@ -93,7 +100,10 @@ pub fn pumps_case(rt: &HostRuntime, tape: &mut Tape, p: &[i32], q: &[i32], bits:
     let grid = tape::next_mark(tape);
     say::say(rt, b"busiest pumps");
     print_asked(rt, k, largest, grid);
-    print_busy(rt, ranked::busiest::busiest_pumps(p, q, k, largest, grid, bits));
+    print_busy(
+        rt,
+        ranked::busiest::busiest_pumps(p, q, k, largest, grid, bits),
+    );
 }
 
 // The same as the busiest, with scores.
@@ -111,11 +121,22 @@ fn urgent_asked(
     print_question(rt, asked, owners.len());
     say::number(rt, p_scores.len() as u64);
     say::number(rt, q_scores.len() as u64);
-    print_urgent(rt, ranked::visits::urgent(p, q, owners, p_scores, q_scores, asked, bits));
+    print_urgent(
+        rt,
+        ranked::visits::urgent(p, q, owners, p_scores, q_scores, asked, bits),
+    );
 }
 
 // How many scores of P there are, and these, then the same of Q.
-fn scored(rt: &HostRuntime, tape: &mut Tape, p: &[i32], q: &[i32], owners: &[u8], asked: Question, bits: &mut [u64]) {
+fn scored(
+    rt: &HostRuntime,
+    tape: &mut Tape,
+    p: &[i32],
+    q: &[i32],
+    owners: &[u8],
+    asked: Question,
+    bits: &mut [u64],
+) {
     let np = tape::next_up_to(tape, SCORES);
     let mut of_p = [0u32; SCORES];
     tape::fill_numbers(tape, &mut of_p, np);

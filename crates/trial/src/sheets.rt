@@ -87,7 +87,15 @@ fn print_packed(rt: &HostRuntime, number: u32, out: &[i32]) {
     say::end_line(rt);
 }
 
-fn packed(rt: &HostRuntime, form: u32, n: usize, points: &[i32], order: &[i32], edition: u32, out: &mut [i32]) {
+fn packed(
+    rt: &HostRuntime,
+    form: u32,
+    n: usize,
+    points: &[i32],
+    order: &[i32],
+    edition: u32,
+    out: &mut [i32],
+) {
     let number = pack::pack(form, n, points, order, edition, out);
     print_packed(rt, number, out);
 }
@@ -113,7 +121,8 @@ pub fn pack_case(rt: &HostRuntime, tape: &mut Tape) {
     let mut out = [MARK; MOST];
     tape::fill(tape, &mut points, np);
     tape::fill(tape, &mut order, no);
-    packed(rt, 
+    packed(
+        rt,
         form,
         n,
         &points[..np],

@@ -225,7 +225,10 @@ fn ask_near(
     size: usize,
 ) {
     let mut waiting: [u64; 4] = [7, 8, 9, 10];
-    show_found(rt, nearest_through(p, np, mp, q, nq, mq, id, size, &mut waiting));
+    show_found(
+        rt,
+        nearest_through(p, np, mp, q, nq, mq, id, size, &mut waiting),
+    );
     show_waiting(rt, waiting);
 }
 
@@ -242,7 +245,10 @@ fn ask_short(
     size: usize,
 ) {
     let mut waiting: [u64; 4] = [7, 8, 9, 10];
-    show_found(rt, nearest_through(p, np, mp, q, nq, mq, id, size, &mut waiting[..2]));
+    show_found(
+        rt,
+        nearest_through(p, np, mp, q, nq, mq, id, size, &mut waiting[..2]),
+    );
     show_waiting(rt, waiting);
 }
 
@@ -272,7 +278,10 @@ fn ask_page(
         contractor: contractor,
         grid: grid,
     };
-    show_page(rt, page_through(p, np, mp, q, nq, mq, &owners[..n], request, bits));
+    show_page(
+        rt,
+        page_through(p, np, mp, q, nq, mq, &owners[..n], request, bits),
+    );
 }
 
 // Which call, the counts that the views of P and of Q claim, two positions or ids, a size, and a profile. A call that does not take one of these reads it all the same.
@@ -293,9 +302,15 @@ pub fn view_case(rt: &HostRuntime, tape: &mut Tape, p: &[i32], q: &[i32], bits: 
     } else if call == 3 {
         show_point(rt, point_through(p, np, mp, a as usize));
     } else if call == 4 {
-        show_filter(rt, filter_walk_through(p, np, mp, q, nq, mq, a as usize, bits));
+        show_filter(
+            rt,
+            filter_walk_through(p, np, mp, q, nq, mq, a as usize, bits),
+        );
     } else if call == 5 {
-        show_walk(rt, ring_walk_through(p, np, mp, q, nq, mq, a as usize, b as usize, grid));
+        show_walk(
+            rt,
+            ring_walk_through(p, np, mp, q, nq, mq, a as usize, b as usize, grid),
+        );
     } else if call == 6 {
         let key = Key { q: a, p: b };
         ask_page(rt, tape, p, np, mp, q, nq, mq, key, size, grid, bits);

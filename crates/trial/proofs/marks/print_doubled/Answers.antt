@@ -1,0 +1,12 @@
+-- `trial::marks::print_doubled` is safe. Assumes nothing.
+use Rattle.std.proofs.Common.{T, sym, subst}
+use lib.Ieee.{of_bits, neg}
+use Rattle.trial.proofs.marks.print_doubled.Goals as goal
+
+pub truncating_f64_to_i64-requires-clause-lower_bound : goal.truncating_f64_to_i64-requires-clause-lower_bound
+unfolding of_bits neg
+truncating_f64_to_i64-requires-clause-lower_bound c = subst T (sym c.if-d.true) tt
+
+pub truncating_f64_to_i64-requires-clause-upper_bound : goal.truncating_f64_to_i64-requires-clause-upper_bound
+unfolding of_bits neg
+truncating_f64_to_i64-requires-clause-upper_bound c = subst T (sym c.if-d-2.true) tt
