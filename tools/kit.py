@@ -193,20 +193,27 @@ def alone():
 
 
 def proved(crate, name, word):
-    """What `rt` makes of a crate by this word in its `out/`, proved and built where it is not there or a crate has changed since."""
+    """What `rt` makes of a crate by this word in its `out/`, proved and built where it is not there, a crate has changed since, or its build was cut off."""
     home()
     crates, made = below(crate), os.path.join(TOP, "crates", crate, "out", name)
-    shown = os.path.relpath(made, TOP)
-    if os.path.exists(made) and not changed_since(made, crates):
+    shown, unfinished = os.path.relpath(made, TOP), kept("unfinished", name)
+
+    def stands():
+        return os.path.exists(made) and not os.path.exists(unfinished) and not changed_since(made, crates)
+    if stands():
         remember()
         return made
     with alone():
-        missing = not os.path.exists(made)
-        if not missing and not changed_since(made, crates):
+        if stands():
             return made
-        say("proving and building %s: this takes some minutes the first time" % shown if missing else "proving again what has changed below %s" % shown)
+        # a build that was cut off, by a kill too, may have left half a program
+        if os.path.exists(unfinished):
+            with contextlib.suppress(FileNotFoundError):
+                os.remove(made)
+        say("proving again what has changed below %s" % shown if os.path.exists(made) else "proving and building %s: this takes some minutes the first time" % shown)
         remember()
-        # what fails leaves what was made before: it is older than what it is asked for, and so does not count
+        os.makedirs(os.path.dirname(unfinished), exist_ok=True)
+        open(unfinished, "w").close()
         begun, log = time.time(), os.path.join("target", "%s.log" % crate)
         with open(os.path.join(TOP, log), "wb") as said:
             status = worked([word], crate, Progress(crates), said)
@@ -217,8 +224,9 @@ def proved(crate, name, word):
         if (status and not ran) or not os.path.exists(made):
             sys.stderr.write("".join(lines[-20:]))
             raise Fault("%s is not built: see above, and %s for the whole" % (shown, log))
-        if os.path.getmtime(made) < begun:
-            os.utime(made)
+        # it is of the sources as they were when the build began: what was changed meanwhile is newer
+        os.utime(made, (begun, begun))
+        os.remove(unfinished)
     return made
 
 

@@ -27,6 +27,8 @@ echo "crate low: modules loaded=0 checked=40"
 echo "logic=proved functions=1"
 [ ! -e "$KIT/fails" ] || { echo "the prover's own words"; exit 1; }
 mkdir -p out
+[ ! -e "$KIT/half" ] || { echo "#!/bin/sh" > out/listing; chmod 755 out/listing; kill -9 $PPID; exit 1; }
+[ ! -e "$KIT/edits" ] || { rm "$KIT/edits"; sleep 0.05; echo "// changed" > ../low/src/lib.rt; sleep 0.05; }
 cp "$KIT/listing" out/listing
 echo "crate listing: modules loaded=0 checked=40"
 echo "logic=proved functions=1"
@@ -201,6 +203,24 @@ class Building(House):
         open(path, "w").close()
         os.utime(path, (later, later))
         self.assertIn("proving again what has changed", self.list(*SHEETS)[2])
+        self.assertEqual(self.asked(), ["run of listing"] * 2)
+
+    def test_half_a_program_is_not_used(self):
+        self.mark("half")
+        done = subprocess.run([os.path.join(self.top, "list")] + SHEETS, stdin=subprocess.DEVNULL, stdout=subprocess.PIPE, stderr=subprocess.PIPE, env=self.environment(), timeout=120)
+        self.assertEqual((done.returncode, done.stdout), (-signal.SIGKILL, b""))
+        self.assertTrue(os.path.exists(os.path.join(self.top, "crates", "listing", "out", "listing")))
+        os.remove(os.path.join(self.kit, "half"))
+        status, printed, said = self.list(*SHEETS)
+        self.assertEqual((status, printed), (0, LISTED))
+        self.assertIn("proving and building", said)
+        self.assertEqual(self.list(*SHEETS), (0, LISTED, ""))
+
+    def test_a_source_that_changes_while_it_builds_is_built_again(self):
+        self.mark("edits")
+        self.assertEqual(self.list(*SHEETS)[:2], (0, LISTED))
+        self.assertIn("proving again what has changed", self.list(*SHEETS)[2])
+        self.assertEqual(self.list(*SHEETS), (0, LISTED, ""))
         self.assertEqual(self.asked(), ["run of listing"] * 2)
 
     def test_that_it_goes_on_is_said(self):
