@@ -1,16 +1,17 @@
 -- What the functions of the book find: laws over plain values.
 -- Assumes nothing.
 use mathlib.Core.Path.{◌≡◌, refl, sym, ap, ap₂, ◌∙◌}
-use mathlib.Core.Bool.{Bool, true, false, not, ◌&&◌, ◌||◌, and-false}
-use mathlib.Core.Logic.{⊎_elim}
+use mathlib.Core.Bool.{Bool, true, false, not, ◌&&◌, ◌||◌, and-false, true≢false}
 use mathlib.Core.List.{List, [], ◌∷◌, ◌++◌}
 use Prim.Native.Nat.{ℕ, zero, suc, ◌+◌, ◌-◌, ◌≤◌, ◌<◌}
 use native.Mathlib.Omega.{arith}
 use native.Mathlib.Numerals.{add-one}
-use lib.Dec.{eqb}
-use lib.ListN.{length, take, drop, get_or}
+use lib.Dec.{eqb, ltb}
+use lib.ListN.{length, take, drop, get_or, drop_of_length-le}
 use lib.Seq.{drop-cons, paste}
-use borrow.Author.Tests.{lt-ltb, le-ltb, not-true, not-false}
+use borrow.Rule.Slice.PartMut.{put_mid, Post-is}
+use borrow.Author.Tests.{ne_eqb, ltb-true, lt-ltb, le-ltb, not-true, not-false}
+use Rattle.std.proofs.Common.{Ok, Err, append_assoc}
 use Rattle.words.specs.Range.{edition_ok}
 use Rattle.words.specs.First.{given, first, answer}
 use Rattle.words.proofs.FirstLaws.{first_passes, first_stops, first_last, given_no, answer_given, answer_refused}
@@ -18,16 +19,15 @@ use Rattle.list.specs.declared.Key.{Key}
 use Rattle.list.specs.declared.Pair.{Pair}
 use Rattle.list.specs.declared.Source.{Source}
 use Rattle.list.specs.declared.Page.{Page}
-use Rattle.list.specs.Pairs.{none, key_of, follows, ascends}
+use Rattle.list.specs.Pairs.{start, none, key_of, follows, ascends}
 use Rattle.list.specs.Pages.{threshold_no, contractor_no, source_no, page_pairs}
 use Rattle.list.specs.Lent.{lent_of}
 use Rattle.book.specs.declared.Book.{Book}
 use Rattle.book.specs.declared.Decided.{Decided}
 use Rattle.book.specs.declared.Taken.{Taken}
 use Rattle.book.specs.declared.TakenArray.{TakenArray}
-use Rattle.book.specs.declared.Begun.TheVariants as begun
-use Rattle.book.specs.Rules.{one_sheet, own_with_t, begin_no, begun_book, begun_for, last_key, last_slot, pair_ok, pairs_ok, same_key, page_most, page_bad, take_no_at, take_no, accepted, refused, decided_at, decided, taken, taken_slots, asked_at, asked, with_slots, taken_array}
-use Rattle.book.proofs.TakeLaws.{no_refusal_at, decided_yes, decided_no, same_key_lem, book_passed, or_zero}
+use Rattle.book.specs.Rules.{one_sheet, own_with_t, begin_no, begun_book, begun_for, last_key, pair_ok, pairs_ok, same_key, page_most, page_bad, take_no_at, take_no, accepted, refused, decided_at, decided, taken, taken_slots, with_slots, taken_array}
+use Rattle.book.proofs.TakeLaws.{no_refusal_at, decided_yes, same_key_lem, book_passed, book_take_no, refused_slots}
 
 -- ---- begin
 
@@ -35,12 +35,12 @@ module _ (s : Source) (a b : Bool) (ea : a ≡ edition_ok s.p_edition) (eb : b �
   both : not (edition_ok s.p_edition && edition_ok s.q_edition && one_sheet s) ≡ not (a && b && one_sheet s)
   both = sym (ap₂ (λ (x y : Bool). not (x && y && one_sheet s)) ea eb)
 
-  pub begin_3 : not (a && b && one_sheet s) ≡ true → begun.Refused 3 ≡ begun_for s
+  pub begin_3 : not (a && b && one_sheet s) ≡ true → Err 3 ≡ begun_for s
   unfolding begun_for begin_no first given answer
   begin_3 e = rw (both ∙ e)
 
   module _ (e : not (a && b && one_sheet s) ≡ false) where
-    pub begin_own : own_with_t s ≡ true → begun.Refused 21 ≡ begun_for s
+    pub begin_own : own_with_t s ≡ true → Err 21 ≡ begun_for s
     unfolding begun_for begin_no first given answer
     begin_own f = rw (both ∙ e, f)
 
@@ -49,21 +49,21 @@ module _ (s : Source) (a b : Bool) (ea : a ≡ edition_ok s.p_edition) (eb : b �
       unfolding begin_no
       number_is = first_passes _ _ (given_no 3 (both ∙ e)) ∙ first_passes _ _ (given_no 21 f) ∙ ap (λ (k : ℕ). first (k ∷ contractor_no s.terms.own s.terms.contractor ∷ [])) (sym d)
 
-      pub begin_21 : (n ≡ 0 → ⊥) → begun.Refused n ≡ begun_for s
+      pub begin_21 : (n ≡ 0 → ⊥) → Err n ≡ begun_for s
       unfolding begun_for
-      begin_21 ne = sym (answer_refused (begun.Open (begun_book s)) begun.Refused _ n (number_is ∙ first_stops n _ ne) ne)
+      begin_21 ne = sym (answer_refused (Ok (begun_book s)) Err _ n (number_is ∙ first_stops n _ ne) ne)
 
       module _ (z : n ≡ 0) (m : ℕ) (g : m ≡ contractor_no s.terms.own s.terms.contractor) where
         whose_is : begin_no s ≡ m
         whose_is = number_is ∙ first_passes n _ z ∙ first_last _ ∙ sym g
 
-        pub begin_27 : (m ≡ 0 → ⊥) → begun.Refused m ≡ begun_for s
+        pub begin_27 : (m ≡ 0 → ⊥) → Err m ≡ begun_for s
         unfolding begun_for
-        begin_27 ne = sym (answer_refused (begun.Open (begun_book s)) begun.Refused _ m whose_is ne)
+        begin_27 ne = sym (answer_refused (Ok (begun_book s)) Err _ m whose_is ne)
 
-        pub begin_0 : m ≡ 0 → begun.Open (begun_book s) ≡ begun_for s
+        pub begin_0 : m ≡ 0 → Ok (begun_book s) ≡ begun_for s
         unfolding begun_for
-        begin_0 y = sym (answer_given (begun.Open (begun_book s)) begun.Refused _ (whose_is ∙ y))
+        begin_0 y = sym (answer_given (Ok (begun_book s)) Err _ (whose_is ∙ y))
 
 -- ---- the loop over a page's pairs
 
@@ -80,79 +80,48 @@ rises_cons : (o : Bool) (k : Key) (v : Pair) (l : List Pair) → rises o k (v �
 unfolding pairs_ok ascends
 rises_cons o k v l = swapped (pair_ok o v) (pairs_ok o l) (follows k (key_of v)) (ascends (key_of v) l)
 
-left_cons : (l : List Pair) (n k : ℕ) → k < n → n ≤ length l → take (n - k) (drop k l) ≡ get_or l k none ∷ take (n - (k + 1)) (drop (k + 1) l)
-left_cons l n k h g =
-    let e : n - k ≡ suc (n - (k + 1)) = omega arith in
-    ap₂ (λ (a : ℕ) (b : List Pair). take a b) e (drop-cons l k none (omega arith))
-    ∙ ap (λ (a : ℕ). get_or l k none ∷ take (n - (k + 1)) (drop a l)) (sym (add-one k))
+-- what is left to test, of these pairs
+pub record Testing (o : Bool) (key : Key) (l : List Pair) (last : Key) (k : ℕ) : Type 0 where
+  pub left : rises o last (drop k l) ≡ rises o key l
 
--- what is left to test, of the first n pairs
-pub record Testing (o : Bool) (key : Key) (l : List Pair) (n : ℕ) (last : Key) (k : ℕ) : Type 0 where
-  pub most : k ≤ n
-  pub left : rises o last (take (n - k) (drop k l)) ≡ rises o key (take n l)
-
-pub testing_start : (o : Bool) (key : Key) (l : List Pair) (n : ℕ) → Testing o key l n key 0
-testing_start o key l n = let z : n - 0 ≡ n = omega arith in record { most = omega arith; left = ap (λ (a : ℕ). rises o key (take a l)) z }
-
-module _ (o : Bool) (key : Key) (l : List Pair) (n : ℕ) (last : Key) (k : ℕ) (h : k < n) (few : n ≤ 16) (long : length l ≡ 16) (t : Testing o key l n last k) (v : Key)
+module _ (o : Bool) (key : Key) (l : List Pair) (last : Key) (k : ℕ) (h : k < length l) (t : Testing o key l last k) (v : Key)
     (ev : v ≡ key_of (get_or l k none)) (a f : Bool) (ea : a ≡ pair_ok o (get_or l k none)) (ef : f ≡ follows last v) where
-  one_more : ((a && f) && rises o v (take (n - (k + 1)) (drop (k + 1) l))) ≡ rises o key (take n l)
+  one_more : ((a && f) && rises o v (drop (k + 1) l)) ≡ rises o key l
   one_more =
-      (rw (ea, ef, ev))
-      ∙ sym (ap (rises o last) (left_cons l n k h (omega arith)) ∙ rises_cons o last (get_or l k none) (take (n - (k + 1)) (drop (k + 1) l)))
+      (rw (ea, ef, ev, add-one k))
+      ∙ sym (ap (rises o last) (drop-cons l k none h) ∙ rises_cons o last (get_or l k none) (drop (suc k) l))
       ∙ t.left
 
-  pub testing_stop : not (a && f) ≡ true → false ≡ rises o key (take n l)
-  testing_stop e = sym (ap (λ (x : Bool). x && rises o v (take (n - (k + 1)) (drop (k + 1) l))) (not-true (a && f) e)) ∙ one_more
+  pub testing_stop : not (a && f) ≡ true → false ≡ rises o key l
+  testing_stop e = sym (ap (λ (x : Bool). x && rises o v (drop (k + 1) l)) (not-true (a && f) e)) ∙ one_more
 
-  pub testing_on : not (a && f) ≡ false → Testing o key l n v (k + 1)
-  testing_on e =
-      record {
-        most = omega arith;
-        left = sym (ap (λ (x : Bool). x && rises o v (take (n - (k + 1)) (drop (k + 1) l))) (not-false (a && f) e)) ∙ one_more;
-      }
+  pub testing_on : not (a && f) ≡ false → Testing o key l v (k + 1)
+  testing_on e = record { left = sym (ap (λ (x : Bool). x && rises o v (drop (k + 1) l)) (not-false (a && f) e)) ∙ one_more }
 
-pub testing_end : (o : Bool) (key : Key) (l : List Pair) (n : ℕ) (last : Key) (k : ℕ) → n ≤ k → Testing o key l n last k → true ≡ rises o key (take n l)
+pub testing_end : (o : Bool) (key : Key) (l : List Pair) (last : Key) (k : ℕ) → length l ≤ k → Testing o key l last k → true ≡ rises o key l
 unfolding pairs_ok ascends
-testing_end o key l n last k h t = let z : n - k ≡ 0 = omega arith in sym (ap (λ (a : ℕ). rises o last (take a (drop k l))) z) ∙ t.left
+testing_end o key l last k h t = sym (ap (rises o last) (drop_of_length-le l h)) ∙ t.left
 
 -- ---- the last held slot
 
-pub no_slot : (h len : ℕ) → h ≡ 0 → len ≡ last_slot h len
-unfolding last_slot
-no_slot h len e = sym (ap (λ (m : ℕ). last_slot m len) e)
+no_slot : (l : List Pair) (at : ℕ) → length l ≤ at → start ≡ key_of (get_or l at none)
+no_slot [] at h = refl
+no_slot (v ∷ l) zero h = absurd (omega arith)
+no_slot (v ∷ l) (suc at) h = no_slot l at (omega arith)
 
-pub a_slot : (h len : ℕ) → (h ≡ 0 → ⊥) → h - 1 ≡ last_slot h len
-unfolding last_slot
-a_slot zero len e = absurd (e refl)
-a_slot (suc n) len e = omega arith
+-- where nothing is held or the last held one has no slot, and else
+pub no_key : (h : ℕ) (l : List Pair) → (eqb h 0 || ltb (length l) h) ≡ true → start ≡ last_key h l
+unfolding last_key
+no_key zero l e = refl
+no_key (suc n) l e =
+    let f : eqb (suc n) 0 ≡ false = ne_eqb (suc n) 0 (λ z. omega arith) in
+    let g : length l < suc n = ltb-true (length l) (suc n) (rw f at e) in
+    no_slot l n (omega arith)
 
-past_end : (l : List Pair) → get_or l (length l) none ≡ none
-past_end [] = refl
-past_end (v ∷ l) = past_end l
-
--- what is read there is the next key
-pub last_read : (h : ℕ) (l : List Pair) → key_of (get_or l (last_slot h (length l)) none) ≡ last_key h l
-unfolding last_slot last_key
-last_read zero l = ap key_of (past_end l)
-last_read (suc n) l = refl
-
-pub slot_or_none : (l : List Pair) (at : ℕ) → length l ≤ at → none ≡ get_or l at none
-slot_or_none [] at h = refl
-slot_or_none (v ∷ l) zero h = absurd (omega arith)
-slot_or_none (v ∷ l) (suc at) h = slot_or_none l at (omega arith)
-
-key_read : (h : ℕ) (l : List Pair) (at : ℕ) (v : Pair) → at ≡ last_slot h (length l) → v ≡ get_or l at none → key_of v ≡ last_key h l
-key_read h l at v e f = ap key_of f ∙ ap (λ (m : ℕ). key_of (get_or l m none)) e ∙ last_read h l
-
--- so what is asked and decided with it is asked and decided of the slice
-pub asked_read : (b : Book) (l : List Pair) (at : ℕ) (v : Pair) → at ≡ last_slot b.held (length l) → v ≡ get_or l at none → asked_at b (length l) (key_of v) ≡ asked b l
-unfolding asked
-asked_read b l at v e f = ap (asked_at b (length l)) (key_read b.held l at v e f)
-
-pub decided_read : (b : Book) (l : List Pair) (g : Page) (at : ℕ) (v : Pair) → at ≡ last_slot b.held (length l) → v ≡ get_or l at none → decided_at b (length l) (key_of v) g ≡ decided b l g
-unfolding decided_at decided take_no
-decided_read b l g at v e f = ap (λ (k : Key). decided_at b (length l) k g) (key_read b.held l at v e f)
+pub a_key : (h : ℕ) (l : List Pair) → (eqb h 0 || ltb (length l) h) ≡ false → key_of (get_or l (h - 1) none) ≡ last_key h l
+unfolding last_key
+a_key zero l e = absurd (true≢false e)
+a_key (suc n) l e = let z : suc n - 1 ≡ n = omega arith in rw z
 
 -- ---- 15
 
@@ -219,27 +188,41 @@ pub accepted_at : (b : Book) (len : ℕ) (k : Key) (g : Page) → take_no_at b l
 unfolding decided_at
 accepted_at b len k g e = sym (answer_given (accepted b g) (refused b) _ e)
 
--- ---- what the loop of stores rests on
+-- ---- of a slice
 
--- each pair that is appended is one of the sixteen, and has its slot
-pub fits_each : (b : Book) (s : List Pair) (g : Page) (k : ℕ) → k < (decided b s g).n → (k < 16) × (b.held + k < length s)
-unfolding accepted refused
-fits_each b s g k h =
-    ⊎_elim
-    (λ (e : take_no b s g ≡ 0).
-    let p = book_passed b s g e in
-    let l : k < g.count = rw (decided_yes b s g e) at h in
-    (omega (arith, p.few), omega (arith, p.fits)))
-    (λ (e : take_no b s g ≡ 0 → ⊥). let l : k < 0 = rw (decided_no b s g e) at h in absurd (omega arith))
-    (or_zero (take_no b s g))
+module _ (b : Book) (s : List Pair) (g : Page) (k : Key) (ek : k ≡ last_key b.held s) where
+  module _ (d : Decided) (e : d ≡ decided_at b (length s) k g) where
+    decided_is : d ≡ decided b s g
+    unfolding decided_at decided take_no
+    decided_is = e ∙ ap (λ (x : Key). decided_at b (length s) x g) ek
 
-pub answer_is : (b : Book) (s : List Pair) (g : Page) (d : Decided) → d ≡ decided b s g → d.taken ≡ taken b s g
-unfolding taken
-answer_is b s g d e = ap (λ (x : Decided). x.taken) e
+    number_no : d.taken.number ≡ take_no b s g
+    unfolding taken
+    number_no = ap (λ (x : Decided). x.taken.number) decided_is ∙ book_take_no b s g
 
-pub slots_are : (b : Book) (s : List Pair) (g : Page) (d : Decided) → d ≡ decided b s g → paste s b.held g.pairs d.n ≡ taken_slots b s g
-unfolding taken_slots
-slots_are b s g d e = ap (λ (x : Decided). paste s b.held g.pairs x.n) e
+    -- a page that is taken has its slots, and is one of at most sixteen pairs
+    pub take_fits : d.taken.number ≡ 0 → (d.n ≤ 16) × (b.held + d.n ≤ length s)
+    unfolding accepted
+    take_fits z =
+        let y = sym number_no ∙ z in
+        let p = book_passed b s g y in
+        let n : d.n ≡ g.count = ap (λ (x : Decided). x.n) (decided_is ∙ decided_yes b s g y) in
+        (omega (arith, p.few), omega (arith, p.fits))
+
+    pub answer_is : d.taken ≡ taken b s g
+    unfolding taken
+    answer_is = ap (λ (x : Decided). x.taken) decided_is
+
+    pub slots_are : paste s b.held g.pairs d.n ≡ taken_slots b s g
+    unfolding taken_slots
+    slots_are = ap (λ (x : Decided). paste s b.held g.pairs x.n) decided_is
+
+    pub slots_left : (d.taken.number ≡ 0 → ⊥) → s ≡ taken_slots b s g
+    slots_left ne = sym (refused_slots b s g (λ z. ne (number_no ∙ z)))
+
+-- the first n pairs of a page, copied into the slots from h on
+pub copied : (s : List Pair) (h n : ℕ) (ps part : List Pair) → part ≡ take n ps → put_mid h ((h + n) - h) s part ≡ paste s h ps n
+copied s h n ps part e = let z = Post-is h (h + n) s (omega arith) in (λ i. take h s ++ (e i ++ z i)) ∙ sym (append_assoc (take h s) (take n ps) (drop (h + n) s))
 
 -- ---- a part of an array, lent
 

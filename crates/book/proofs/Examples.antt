@@ -5,6 +5,7 @@ use mathlib.Core.Bool.{Bool, true, false}
 use mathlib.Core.List.{List, [], ◌∷◌, ◌++◌}
 use Prim.Native.Nat.{ℕ}
 use lib.ListN.{length, replicate}
+use Rattle.std.specs.Prelude.{Ok, Err}
 use Rattle.list.specs.declared.Pair.{Pair}
 use Rattle.list.specs.declared.Source.{Source}
 use Rattle.list.specs.declared.Page.{Page}
@@ -14,8 +15,6 @@ use Rattle.words.specs.Range.{id_ok, edition_ok}
 use Rattle.plane.specs.Profile.{size_ok}
 use Rattle.words.specs.First.{given, first, answer}
 use Rattle.book.specs.declared.Book.{Book}
-use Rattle.book.specs.declared.Begun.TheVariants as begun
-use Rattle.book.specs.declared.Next.TheVariants as next
 use Rattle.book.specs.Rules.{begin_no, begun_book, begun_for, last_key, next_no, asked_at, asked, pair_ok, pairs_ok, same_key, page_bad, take_no_at, take_no, advanced, accepted, decided, taken, taken_slots}
 
 -- editions 7 and 9, whose list is (5, 1), (5, 2), (6, 2)
@@ -75,66 +74,66 @@ two = at 5 1 ∷ at 5 2 ∷ []
 abbrev slots : List Pair
 slots = at 5 1 ∷ at 5 2 ∷ at 1 1 ∷ at 1 2 ∷ []
 
-begins : begun_for ours ≡ begun.Open (book 0 false)
+begins : begun_for ours ≡ Ok (book 0 false)
 unfolding begun_for begin_no first given answer begun_book edition_ok threshold_no contractor_no
 begins = refl
 
-no_edition : begun_for (record { p_edition = 7; q_edition = 0; terms = record { threshold = 60001; contractor = 2; own = false; grid = false } }) ≡ begun.Refused 3
+no_edition : begun_for (record { p_edition = 7; q_edition = 0; terms = record { threshold = 60001; contractor = 2; own = false; grid = false } }) ≡ Err 3
 unfolding begun_for begin_no first given answer edition_ok
 no_edition = refl
 
-no_threshold : begun_for (record { p_edition = 7; q_edition = 9; terms = record { threshold = 60001; contractor = 2; own = false; grid = false } }) ≡ begun.Refused 21
+no_threshold : begun_for (record { p_edition = 7; q_edition = 9; terms = record { threshold = 60001; contractor = 2; own = false; grid = false } }) ≡ Err 21
 unfolding begun_for begin_no first given answer edition_ok threshold_no
 no_threshold = refl
 
 -- of the street grid, of two sheets and of one: the profile has no number of its own
-begins_streets : begun_for streets ≡ begun.Open (street_book 0 false)
+begins_streets : begun_for streets ≡ Ok (street_book 0 false)
 unfolding begun_for begin_no first given answer begun_book edition_ok threshold_no contractor_no
 begins_streets = refl
 
-begins_alone_streets : begun_for alone_streets ≡ begun.Open (record { held = 0; closed = false; source = alone_streets })
+begins_alone_streets : begun_for alone_streets ≡ Ok (record { held = 0; closed = false; source = alone_streets })
 unfolding begun_for begin_no first given answer begun_book edition_ok threshold_no contractor_no
 begins_alone_streets = refl
 
 -- a self join: of one edition; of two; with a t
-begins_own : begun_for alone ≡ begun.Open (record { held = 0; closed = false; source = alone })
+begins_own : begun_for alone ≡ Ok (record { held = 0; closed = false; source = alone })
 unfolding begun_for begin_no first given answer begun_book edition_ok threshold_no contractor_no
 begins_own = refl
 
-no_two : begun_for (record { p_edition = 7; q_edition = 9; terms = record { threshold = 2; contractor = 2; own = true; grid = false } }) ≡ begun.Refused 3
+no_two : begun_for (record { p_edition = 7; q_edition = 9; terms = record { threshold = 2; contractor = 2; own = true; grid = false } }) ≡ Err 3
 unfolding begun_for begin_no first given answer edition_ok
 no_two = refl
 
-no_t : begun_for (record { p_edition = 7; q_edition = 7; terms = record { threshold = 2; contractor = 2; own = true; grid = false } }) ≡ begun.Refused 21
+no_t : begun_for (record { p_edition = 7; q_edition = 7; terms = record { threshold = 2; contractor = 2; own = true; grid = false } }) ≡ Err 21
 unfolding begun_for begin_no first given answer edition_ok
 no_t = refl
 
 -- of a contractor; of none; a self join of one; no t before it
-begins_first : begun_for first_own ≡ begun.Open (record { held = 0; closed = false; source = first_own })
+begins_first : begun_for first_own ≡ Ok (record { held = 0; closed = false; source = first_own })
 unfolding begun_for begin_no first given answer begun_book edition_ok threshold_no contractor_no
 begins_first = refl
 
-no_contractor : begun_for (record { p_edition = 7; q_edition = 9; terms = record { threshold = 0; contractor = 3; own = false; grid = false } }) ≡ begun.Refused 27
+no_contractor : begun_for (record { p_edition = 7; q_edition = 9; terms = record { threshold = 0; contractor = 3; own = false; grid = false } }) ≡ Err 27
 unfolding begun_for begin_no first given answer edition_ok threshold_no contractor_no
 no_contractor = refl
 
-no_own_contractor : begun_for first_alone ≡ begun.Refused 27
+no_own_contractor : begun_for first_alone ≡ Err 27
 unfolding begun_for begin_no first given answer edition_ok threshold_no contractor_no
 no_own_contractor = refl
 
-t_before_contractor : begun_for (record { p_edition = 7; q_edition = 7; terms = record { threshold = 2; contractor = 0; own = true; grid = false } }) ≡ begun.Refused 21
+t_before_contractor : begun_for (record { p_edition = 7; q_edition = 7; terms = record { threshold = 2; contractor = 0; own = true; grid = false } }) ≡ Err 21
 unfolding begun_for begin_no first given answer edition_ok threshold_no
 t_before_contractor = refl
 
-asks_first : asked (book 0 false) slots ≡ record { next = next.After start; book = book 0 false }
+asks_first : asked (book 0 false) slots ≡ record { next = Ok start; book = book 0 false }
 unfolding asked asked_at next_no given answer last_key
 asks_first = refl
 
-asks_last : asked (book 2 false) slots ≡ record { next = next.After (key_of (at 5 2)); book = book 2 false }
+asks_last : asked (book 2 false) slots ≡ record { next = Ok (key_of (at 5 2)); book = book 2 false }
 unfolding asked asked_at next_no given answer last_key
 asks_last = refl
 
-asks_too_far : asked (book 5 false) slots ≡ record { next = next.Refused 11; book = book 5 false }
+asks_too_far : asked (book 5 false) slots ≡ record { next = Err 11; book = book 5 false }
 unfolding asked asked_at next_no given answer last_key
 asks_too_far = refl
 

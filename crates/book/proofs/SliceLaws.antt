@@ -10,6 +10,7 @@ use lib.ListN.{length, take}
 use lib.Seq.{paste, paste-zero}
 use lib.Dec.{ltb}
 use borrow.Author.Tests.{ltb-false, lt-ltb, le-ltb}
+use Rattle.std.specs.Prelude.{Ok, Err}
 use Rattle.words.specs.First.{given, answer}
 use Rattle.words.proofs.FirstLaws.{first_skips, given_no, given_other, given_failed, given_held, answer_given}
 use Rattle.list.specs.declared.Key.{Key}
@@ -20,7 +21,6 @@ use Rattle.list.specs.Pages.{page_pairs}
 use Rattle.list.proofs.Order.{last_at}
 use Rattle.list.proofs.SourceLaws.{source_same, source_other}
 use Rattle.book.specs.declared.Book.{Book}
-use Rattle.book.specs.declared.Next.TheVariants as next
 use Rattle.book.specs.declared.Decided.{Decided}
 use Rattle.book.specs.Rules.{last_key, next_no, asked_at, asked, pairs_ok, same_key, page_bad, take_no_at, take_no, advanced, accepted, refused, taken, taken_slots}
 use Rattle.book.proofs.TakeLaws.{same_key_lem, decided_yes, decided_no, refused_slots, taken_slots_lem, no_refusal_at, no_refusal}
@@ -34,16 +34,16 @@ unfolding last_key last_or
 last_held zero s e = refl
 last_held (suc n) s e = sym (last_at start s n (omega arith))
 
-pub next_after : (b : Book) (s : List Pair) → b.held ≤ length s → (asked b s).next ≡ next.After (last_key b.held s)
+pub next_after : (b : Book) (s : List Pair) → b.held ≤ length s → (asked b s).next ≡ Ok (last_key b.held s)
 unfolding asked asked_at next_no
-next_after b s h = answer_given _ next.Refused _ (given_no 11 (le-ltb (length s) b.held h))
+next_after b s h = answer_given _ Err _ (given_no 11 (le-ltb (length s) b.held h))
 
-pub book_next_is_last : (b : Book) (s : List Pair) → b.held ≤ length s → (asked b s).next ≡ next.After (last_or start (take b.held s))
-book_next_is_last b s h = next_after b s h ∙ ap next.After (last_held b.held s h)
+pub book_next_is_last : (b : Book) (s : List Pair) → b.held ≤ length s → (asked b s).next ≡ Ok (last_or start (take b.held s))
+book_next_is_last b s h = next_after b s h ∙ ap Ok (last_held b.held s h)
 
 -- ---- a slice that is too short: 11, and nothing changes
 
-pub short_next : (b : Book) (s : List Pair) → length s < b.held → asked b s ≡ record { next = next.Refused 11; book = b }
+pub short_next : (b : Book) (s : List Pair) → length s < b.held → asked b s ≡ record { next = Err 11; book = b }
 unfolding asked asked_at next_no given answer
 short_next b s h = rw (lt-ltb (length s) b.held h)
 

@@ -11,6 +11,7 @@ use lib.ListN.{length, take, drop, length-take, length-drop, take-append-drop}
 use lib.Seq.{paste, take-paste, take-add, take-length, length-paste}
 use lib.Dec.{eqb, ltb}
 use borrow.Author.Tests.{leb-true, ltb-true, ltb-false, le-ltb, ne_eqb, eqb-true, not-true, not-false}
+use Rattle.std.specs.Prelude.{Ok, Err}
 use Rattle.integers.proofs.Bools.{decide, and_left, and_right, and_both, or_both_false}
 use Rattle.plane.specs.Profile.{profile_of, size_ok}
 use Rattle.plane.specs.Point.{Point}
@@ -33,7 +34,6 @@ use Rattle.list.proofs.SourceLaws.{source_same}
 use Rattle.list.proofs.ContractorLaws.{contractor_most, contractor_two, undivided_any}
 use Rattle.list.proofs.TermsLaws.{for_ascends, for_ids, for_sizes}
 use Rattle.book.specs.declared.Book.{Book}
-use Rattle.book.specs.declared.Begun.TheVariants as begun
 use Rattle.book.specs.Rules.{one_sheet, begin_no, begun_book, begun_for, last_key, pair_ok, pairs_ok, page_most, page_bad, take_no, advanced, taken, taken_slots}
 use Rattle.book.specs.World.{World, pumps_of, chambers_of, list_of, InReach, Honest, Reached, began, took, lent, own_page, served}
 use Rattle.book.proofs.TakeLaws.{Passed, book_passed, taken_book, taken_slots_lem, refused_book, refused_slots, or_zero, no_refusal, same_length, closed_no, same_book_source}
@@ -235,12 +235,12 @@ module _ (l : List Pair) (asc : ascends start l ≡ true) where
 -- ---- the story of a book
 
 -- a book that `begin` gives was not refused
-by_begun : (n : ℕ) (b c : Book) → answer n (begun.Open b) begun.Refused ≡ begun.Open c → (n ≡ 0) × (b ≡ c)
+by_begun : (n : ℕ) (b c : Book) → answer n (Ok b) Err ≡ Ok c → (n ≡ 0) × (b ≡ c)
 unfolding answer
 by_begun zero b c e = (refl, cc)
 by_begun (suc n) b c e = let z : ◌≡◌ {A = ℕ} 0 1 = cc in absurd (omega arith)
 
-begun_is : (s : Source) (b : Book) → begun_for s ≡ begun.Open b → begun_book s ≡ b
+begun_is : (s : Source) (b : Book) → begun_for s ≡ Ok b → begun_book s ≡ b
 unfolding begun_for
 begun_is s b e = (by_begun (begin_no s) (begun_book s) b e).1
 
@@ -252,7 +252,7 @@ pub record Beginnable (s : Source) : Type 0 where
   pub whose : s.terms.contractor ≤ 2
   pub own_undivided : s.terms.own ≡ true → s.terms.contractor ≡ 2
 
-begun_in : (s : Source) (b : Book) → begun_for s ≡ begun.Open b → Beginnable s
+begun_in : (s : Source) (b : Book) → begun_for s ≡ Ok b → Beginnable s
 unfolding begun_for begin_no threshold_no
 begun_in s b e =
     let both = edition_ok s.p_edition && edition_ok s.q_edition in

@@ -1,5 +1,5 @@
 -- The order book: begin, the next key, and what taking a page decides, stores and hands back.
-use Rattle.std.specs.Prelude.{Bool, true, false, not, ◌&&◌, ◌||◌, List, [], ◌∷◌, ◌++◌, ℕ, zero, suc, ◌+◌, ◌-◌, eqb, ltb, length, take, drop, get_or}
+use Rattle.std.specs.Prelude.{Bool, true, false, not, ◌&&◌, ◌||◌, List, [], ◌∷◌, ◌++◌, ℕ, zero, suc, ◌+◌, ◌-◌, eqb, ltb, length, take, drop, get_or, Result, Ok, Err}
 use Rattle.std.proofs.Math.Seq.{paste}
 use Rattle.words.specs.Range.{id_ok, edition_ok}
 use Rattle.words.specs.First.{given, first, answer}
@@ -12,10 +12,6 @@ use Rattle.list.specs.Pairs.{start, none, key_of, ascends}
 use Rattle.list.specs.Pages.{threshold_no, contractor_no, source_no, page_pairs}
 use Rattle.list.specs.Lent.{lent_of}
 use Rattle.book.specs.declared.Book.{Book}
-use Rattle.book.specs.declared.Begun.{Begun}
-use Rattle.book.specs.declared.Begun.TheVariants as begun
-use Rattle.book.specs.declared.Next.{Next}
-use Rattle.book.specs.declared.Next.TheVariants as next
 use Rattle.book.specs.declared.Asked.{Asked}
 use Rattle.book.specs.declared.Taken.{Taken}
 use Rattle.book.specs.declared.Decided.{Decided}
@@ -48,13 +44,13 @@ unfoldable pub begun_book : Source → Book
 begun_book s = record { held = 0; closed = false; source = s }
 
 -- the document's number for each case of the answer [F10]
-unfoldable pub begun_no : Begun → ℕ
-begun_no (begun.Open b) = 0
-begun_no (begun.Refused n) = n
+unfoldable pub begun_no : Result Book ℕ → ℕ
+begun_no (Ok b) = 0
+begun_no (Err n) = n
 
 -- the answer of begin: 0 goes with the book, "Every refusal gives only its number" [K1, K8]
-unfoldable pub begun_for : Source → Begun
-begun_for s = answer (begin_no s) (begun.Open (begun_book s)) begun.Refused
+unfoldable pub begun_for : Source → Result Book ℕ
+begun_for s = answer (begin_no s) (Ok (begun_book s)) Err
 
 -- ---- the next key
 
@@ -63,23 +59,18 @@ unfoldable pub last_key : ℕ → List Pair → Key
 last_key zero slots = start
 last_key (suc n) slots = key_of (get_or slots n none)
 
--- the slot of the last of `held` pairs, and `len` where nothing is held
-unfoldable pub last_slot : ℕ → ℕ → ℕ
-last_slot zero len = len
-last_slot (suc n) len = n
-
 -- 11: held exceeds the slice's length. "Asking the next key refuses only by 11." [N25, N26]
 unfoldable pub next_no : Book → ℕ → ℕ
 next_no b len = given (ltb len b.held) 11
 
 -- the document's number for each case of the answer [F10]
-unfoldable pub next_case_no : Next → ℕ
-next_case_no (next.After k) = 0
-next_case_no (next.Refused n) = n
+unfoldable pub next_case_no : Result Key ℕ → ℕ
+next_case_no (Ok k) = 0
+next_case_no (Err n) = n
 
 -- the answer of next key, for a slice of `len` slots of which the last held one has the key k
 unfoldable pub asked_at : Book → ℕ → Key → Asked
-asked_at b len k = record { next = answer (next_no b len) (next.After k) next.Refused; book = b }
+asked_at b len k = record { next = answer (next_no b len) (Ok k) Err; book = b }
 
 -- the answer of next key [K2]
 unfoldable pub asked : Book → List Pair → Asked

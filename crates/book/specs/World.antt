@@ -1,5 +1,5 @@
 -- The world of demand 3: sheets with one edition number hold the same points, and chambers have the same owners; pages are not altered or invented; one book, begun empty.
-use Rattle.std.specs.Prelude.{◌≡◌, cond, List, ℕ, zero, suc, ◌≤◌, ◌<◌, length, take}
+use Rattle.std.specs.Prelude.{◌≡◌, cond, List, ℕ, zero, suc, ◌≤◌, ◌<◌, length, take, Ok}
 use Rattle.plane.specs.Point.{Point}
 use Rattle.list.specs.declared.Key.{Key}
 use Rattle.list.specs.declared.Pair.{Pair}
@@ -10,7 +10,6 @@ use Rattle.list.specs.RingList.{Sound}
 use Rattle.list.specs.RingList as ring_list
 use Rattle.list.specs.Terms.{profile_for, list_for}
 use Rattle.book.specs.declared.Book.{Book}
-use Rattle.book.specs.declared.Begun.TheVariants as begun
 use Rattle.book.specs.Rules.{begun_for, last_key, taken, taken_slots}
 
 -- each edition number has one list of points for P, one for Q and one for self joins ("all sheets given to self joins under one edition number hold the same
@@ -57,7 +56,7 @@ module _ (w : World) where
   -- that it refuses too; lent another slice that holds the same pairs. (Asking the next key changes nothing, and a slice that is too short is
   -- refused by 11 with nothing changed: neither is a step.) [K9, D4, D5]
   pub data Reached : Book → List Pair → Type 0 where
-    began : (s : Source) (b : Book) (slots : List Pair) → begun_for s ≡ begun.Open b → Reached b slots
+    began : (s : Source) (b : Book) (slots : List Pair) → begun_for s ≡ Ok b → Reached b slots
     took : {b : Book} {slots : List Pair} (g : Page) → Reached b slots → Honest g → Reached (taken b slots g).book (taken_slots b slots g)
     lent : {b : Book} {slots : List Pair} (other : List Pair) → Reached b slots → b.held ≤ length other → take b.held other ≡ take b.held slots → Reached b other
 

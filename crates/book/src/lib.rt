@@ -1,10 +1,10 @@
 // The order book: its state by value, and what a page does to it. Its pairs are records in a slice that the caller lends.
 #![tactic(auto)]
 
-ghost use Rattle.std.specs.Prelude.{◌≡◌, ◌&&◌, ◌≤◌, ◌<◌, get_or, take as taking};
-ghost use Rattle.list.specs.Pairs.{none, key_of, ascends};
+ghost use Rattle.std.specs.Prelude.{◌≡◌, ◌≢◌, ◌&&◌, take as taking, MatchResult};
+ghost use Rattle.list.specs.Pairs.{ascends};
 ghost use Rattle.list.specs.Lent.{lent_of};
-ghost use Rattle.book.specs.Rules.{begun_for, asked_at, asked, last_slot, pair_ok, pairs_ok, same_key, page_bad, take_no_at, decided_at, taken, taken_slots, with_slots, taken_array};
+ghost use Rattle.book.specs.Rules.{begun_for, last_key, asked, pair_ok, pairs_ok, page_bad, take_no_at, decided_at, taken, taken_slots, taken_array};
 
 use list::{Key, Page, Pair, Source};
 
@@ -17,28 +17,15 @@ pub struct Book {
     pub source: Source,
 }
 
-// The answer of `begin`: an open book, or the number of refusal.
-#[derive(Clone, Copy)]
-pub enum Begun {
-    Open(Book),
-    Refused(u32),
-}
-
-// The key to ask for next, or the number of refusal.
-#[derive(Clone, Copy)]
-pub enum Next {
-    After(Key),
-    Refused(u32),
-}
-
-// The answer of `next_key`: the book comes back as it went in.
+// The answer of `next_key`: the key to ask for next, or the number of refusal, and the book as it went in.
 #[derive(Clone, Copy)]
 pub struct Asked {
-    pub next: Next,
+    pub next: Result<Key, u32>,
     pub book: Book,
 }
 
 // The answer of `take`: the number of refusal, 0 where the page was taken, and the book from now on.
+// Kept: the number beside the book, which `ring_book_take` of crate ffi hands to C as it stands.
 #[repr(C)]
 #[derive(Clone, Copy)]
 pub struct Taken {
@@ -53,12 +40,6 @@ pub struct Decided {
     pub taken: Taken,
 }
 
-fn is_same(a: Key, b: Key) -> bool
-    ensures { result ≡ same_key a b }
-{
-    (a.q == b.q) & (a.p == b.p)
-}
-
 // Whether the ids and the size of a pair are in range, of the circle or of the street grid.
 fn is_pair(grid: bool, v: Pair) -> bool
     ensures { result ≡ pair_ok grid v }
@@ -66,21 +47,17 @@ fn is_pair(grid: bool, v: Pair) -> bool
     words::is_id(v.q) & words::is_id(v.p) & plane::profile::is_size(grid, v.size)
 }
 
-// Whether the first n pairs of a page have ids and sizes in range, by the page's own profile, and ascend strictly after a key.
-fn pairs_rise(key: Key, g: Page, n: usize) -> bool
-    requires { n ≤ 16 }
-    ensures { result ≡ (pairs_ok g.source.terms.grid (taking n g.pairs) && ascends key (taking n g.pairs)) }
+// Whether these pairs have ids and sizes in range, of the circle or of the street grid, and ascend strictly after a key.
+fn pairs_rise(grid: bool, key: Key, pairs: &[Pair]) -> bool
+    ensures { result ≡ (pairs_ok grid pairs.now && ascends key pairs.now) }
 {
     let mut last = key;
-    let mut k: usize = 0;
-    while k < n {
-        let v = g.pairs[k];
-        let at = list::key_of(v);
-        if !(is_pair(g.source.terms.grid, v) & list::is_after(last, at)) {
+    for v in pairs {
+        let at = list::key_of(*v);
+        if !(is_pair(grid, *v) & list::is_after(last, at)) {
             return false;
         }
         last = at;
-        k += 1;
     }
     true
 }
@@ -93,172 +70,121 @@ fn is_bad(g: Page) -> bool
     if 16 < n {
         return true;
     }
-    let key = g.key;
-    !pairs_rise(key, g, n) | ((n == 0) & !g.end)
+    !pairs_rise(g.source.terms.grid, g.key, &g.pairs[..n]) | ((n == 0) & !g.end)
 }
 
-// The number of refusal, 0 where the page is taken, for a slice of `len` slots of which `last` is the last held one.
-fn take_number(b: Book, len: usize, last: Pair, g: Page) -> u32
-    ensures { result ≡ take_no_at b len (key_of last) g }
+// The number of refusal, 0 where the page is taken, for a slice of `len` slots of which the last held one has this key.
+fn take_number(b: Book, len: usize, key: Key, g: Page) -> u32
+    ensures { result ≡ take_no_at b len key g }
 {
-    let held = b.held;
-    if len < held {
+    if len < b.held {
         return 11;
     }
     if b.closed {
         return 12;
     }
-    let own = b.source;
-    let other = g.source;
-    let no = list::source_no(own, other);
+    let no = list::source_no(b.source, g.source);
     if no != 0 {
         return no;
     }
-    let asked = g.key;
-    if !is_same(asked, list::key_of(last)) {
+    if g.key != key {
         return 14;
     }
     if is_bad(g) {
         return 15;
     }
-    if len - held < g.count {
+    if len - b.held < g.count {
         return 16;
     }
     0
 }
 
-// The core of `take`, on plain values: all that is decided of a page, for a slice of `len` slots of which `last` is the last held one. [F8]
-fn decide(b: Book, len: usize, last: Pair, g: Page) -> Decided
-    ensures { result ≡ decided_at b len (key_of last) g }
+// The core of `take`, on plain values: all that is decided of a page, for a slice of `len` slots of which the last held one has this key. [F8]
+fn decide(b: Book, len: usize, key: Key, g: Page) -> Decided
+    ensures { result ≡ decided_at b len key g }
 {
-    let number = take_number(b, len, last, g);
+    let number = take_number(b, len, key, g);
     if number != 0 {
         return Decided {
             n: 0,
-            taken: Taken {
-                number: number,
-                book: b,
-            },
+            taken: Taken { number, book: b },
         };
     }
-    let source = b.source;
+    let book = Book {
+        held: b.held + g.count,
+        closed: g.end,
+        source: b.source,
+    };
     Decided {
         n: g.count,
-        taken: Taken {
-            number: 0,
-            book: Book {
-                held: b.held + g.count,
-                closed: g.end,
-                source: source,
-            },
-        },
+        taken: Taken { number: 0, book },
     }
 }
 
-// The core of `next_key`, on plain values.
-fn ask(b: Book, len: usize, last: Pair) -> Asked
-    ensures { result ≡ asked_at b len (key_of last) }
+// The key of the last of `held` pairs; (0, 0) where nothing is held, and where it has no slot.
+fn last_key(held: usize, slots: &[Pair]) -> Key
+    ensures { result ≡ last_key held slots.now }
 {
-    if len < b.held {
-        return Asked {
-            next: Next::Refused(11),
-            book: b,
-        };
+    if (held == 0) | (slots.len() < held) {
+        return Key { q: 0, p: 0 };
     }
-    let key = list::key_of(last);
-    Asked {
-        next: Next::After(key),
-        book: b,
-    }
+    list::key_of(slots[held - 1])
 }
 
-// The slot of the last of `held` pairs; `len`, which is no slot, where nothing is held.
-fn last_slot(held: usize, len: usize) -> usize
-    ensures { result ≡ last_slot held len }
+// Passes 0, and refuses by any other number.
+fn pass(no: u32) -> Result<(), u32>
+    ensures { MatchResult result (λ _. no ≡ 0) (λ n. (n ≡ no) × (no ≢ 0)) }
 {
-    if held == 0 {
-        return len;
+    if no == 0 {
+        return Ok(());
     }
-    held - 1
-}
-
-// The k-th pair of a page.
-fn pair_of(g: Page, k: usize) -> Pair
-    requires { k < 16 }
-    ensures { result ≡ get_or g.pairs k none }
-{
-    g.pairs[k]
+    Err(no)
 }
 
 impl Book {
     // A book of a list, with nothing held; 3 where an edition is out of range or a self join is of two, then 21 where the threshold is, or a self join has one, then 27 where the
     // contractor is, or a self join's is not 2.
-    pub fn begin(source: Source) -> Begun
+    pub fn begin(source: Source) -> Result<Book, u32>
         ensures { result ≡ begun_for source }
     {
         if !(words::is_edition(source.p_edition)
             & words::is_edition(source.q_edition)
             & (!source.terms.own | (source.p_edition == source.q_edition)))
         {
-            return Begun::Refused(3);
+            return Err(3);
         }
-        if source.terms.own & !(source.terms.threshold == 0) {
-            return Begun::Refused(21);
+        if source.terms.own & (source.terms.threshold != 0) {
+            return Err(21);
         }
-        let no = list::threshold_no(source.terms.threshold);
-        if no != 0 {
-            return Begun::Refused(no);
-        }
-        let whose = list::contractor_no(source.terms.own, source.terms.contractor);
-        if whose != 0 {
-            return Begun::Refused(whose);
-        }
-        let b = Book {
+        pass(list::threshold_no(source.terms.threshold))?;
+        pass(list::contractor_no(source.terms.own, source.terms.contractor))?;
+        Ok(Book {
             held: 0,
             closed: false,
-            source: source,
-        };
-        Begun::Open(b)
+            source,
+        })
     }
 
     // The key to ask for next: that of the last held pair, read from its slot, and (0, 0) where nothing is held; 11 where more is held than there are slots.
     pub fn next_key(self, slots: &[Pair]) -> Asked
         ensures { result ≡ asked self slots.now }
     {
-        let len = slots.len();
-        let at = last_slot(self.held, len);
-        let mut last = Pair {
-            q: 0,
-            p: 0,
-            size: 0,
+        let key = last_key(self.held, slots);
+        let next = if slots.len() < self.held {
+            Err(11)
+        } else {
+            Ok(key)
         };
-        if at < len {
-            last = slots[at];
-        }
-        ask(self, len, last)
+        Asked { next, book: self }
     }
 
     // The page's pairs are appended in the slots and the book goes on, or the page is refused and nothing changes: no slot, and no part of the book. [F8]
     pub fn take(self, slots: &mut [Pair], page: Page) -> Taken
         ensures { (result ≡ taken self slots.old page) × (slots.new ≡ taken_slots self slots.old page) }
     {
-        let len = slots.len();
-        let last_at = last_slot(self.held, len);
-        let mut last = Pair {
-            q: 0,
-            p: 0,
-            size: 0,
-        };
-        if last_at < len {
-            last = slots[last_at];
-        }
-        let d = decide(self, len, last, page);
-        let mut k: usize = 0;
-        while k < d.n {
-            let v = pair_of(page, k);
-            let at = self.held + k;
-            slots[at] = v;
-            k = k + 1;
+        let d = decide(self, slots.len(), last_key(self.held, slots), page);
+        if d.taken.number == 0 {
+            words::copy(&page.pairs[..d.n], &mut slots[self.held..self.held + d.n]);
         }
         d.taken
     }
@@ -271,36 +197,20 @@ pub struct TakenArray {
     pub taken: Taken,
 }
 
-// How many of 64 slots are lent.
-fn lent_of(len: usize) -> usize
-    ensures { result ≡ lent_of 64 len }
-{
-    list::lent_of(64, len)
-}
-
-fn with_slots(slots: [Pair; 64], taken: Taken) -> TakenArray
-    ensures { result ≡ with_slots slots taken }
-{
-    TakenArray {
-        slots: slots,
-        taken: taken,
-    }
-}
-
 // `Book::take` on the first `len` of 64 slots, which are lent for the call and come back; on all 64 where `len` exceeds that. For callers that keep their slots by value.
 pub fn take_array(slots: [Pair; 64], len: usize, b: Book, page: Page) -> TakenArray
     ensures { result ≡ taken_array slots len b page }
 {
     let mut own = slots;
-    let n = lent_of(len);
+    let n = list::lent_of(64, len);
     let taken = b.take(&mut own[..n], page);
-    with_slots(own, taken)
+    TakenArray { slots: own, taken }
 }
 
 // `Book::next_key` on the first `len` of 64 slots, which are lent for the call; on all 64 where `len` exceeds that.
 pub fn next_array(slots: [Pair; 64], len: usize, b: Book) -> Asked
     ensures { result ≡ asked b (taking (lent_of 64 len) slots) }
 {
-    let n = lent_of(len);
+    let n = list::lent_of(64, len);
     b.next_key(&slots[..n])
 }

@@ -1,36 +1,44 @@
 -- Laws of clipped words and of distances. Assumes nothing.
 use mathlib.Core.Path.{◌≡◌, refl, sym, ap, ◌∙◌}
-use mathlib.Core.Bool.{Bool, true, false, cond}
+use mathlib.Core.Bool.{Bool, true, false, cond, ◌&&◌, true≢false}
+use Rattle.std.proofs.Common.{max}
 use Prim.Native.Nat.{ℕ, ◌+◌, ◌*◌, ◌-◌, ◌≤◌, ◌<◌, ◌^◌}
 use native.Mathlib.Nat.{mul-le-mul}
 use native.Mathlib.Omega.{arith}
-use lib.Dec.{leb}
+use lib.Dec.{leb, ltb}
 use lib.IntN.{ℤ, pos, negsuc, nat_abs, ◌-ℤ◌}
-use lib.Signed.{le_z, lt_z, mag}
+use lib.Signed.{le_z, mag}
 use mir.Syntax.{w32, w64}
 use mir.Val.{to_z, of_z}
 use mir.Facts.{to_z-of_z}
-use borrow.Author.Tests.{le-leb, lt-leb, leb-true, lt-ltb, le-ltb}
+use borrow.Author.Tests.{le-leb, lt-leb, leb-true, ltb-true, ltb-false}
 use Rattle.integers.proofs.Bools.{test_iff}
 use Rattle.integers.specs.Bounds.{Within}
-use Rattle.integers.proofs.Order.{in_lit, sfits_in, abs_of, le_z_not, le_true}
+use Rattle.integers.proofs.Order.{in_lit, sfits_in, abs_of, le_true}
 use Rattle.integers.proofs.Cast.{result_is}
+use Rattle.words.specs.Word.{within}
 use Rattle.brute.specs.declared.Place.{Place}
 use Rattle.brute.specs.Brute.{clip, across, apart, covers, larger, most}
 
 -- ---- clipped words
 
-pub clip_low : (z : ℤ) → lt_z z (negsuc 999999999) ≡ true → pos 0 ≡ clip z
-unfolding clip
-clip_low z e = rw (le_z_not (negsuc 999999999) z, e)
+pub clip_is : (z : ℤ) → within (negsuc 999999999) (pos 1000000000) z ≡ true → z ≡ clip z
+unfolding within clip
+clip_is z e = go (le_z (negsuc 999999999) z) (le_z z (pos 1000000000)) e
+  where
+    go : (s t : Bool) → (s && t) ≡ true → z ≡ cond s (cond t z (pos 0)) (pos 0)
+    go true true e = refl
+    go true false e = absurd (true≢false (sym e))
+    go false t e = absurd (true≢false (sym e))
 
-pub clip_high : (z : ℤ) → lt_z z (negsuc 999999999) ≡ false → lt_z (pos 1000000000) z ≡ true → pos 0 ≡ clip z
-unfolding clip
-clip_high z e f = rw (le_z_not (negsuc 999999999) z, e, le_z_not z (pos 1000000000), f)
-
-pub clip_is : (z : ℤ) → lt_z z (negsuc 999999999) ≡ false → lt_z (pos 1000000000) z ≡ false → z ≡ clip z
-unfolding clip
-clip_is z e f = rw (le_z_not (negsuc 999999999) z, e, le_z_not z (pos 1000000000), f)
+pub clip_out : (z : ℤ) → within (negsuc 999999999) (pos 1000000000) z ≡ false → pos 0 ≡ clip z
+unfolding within clip
+clip_out z e = go (le_z (negsuc 999999999) z) (le_z z (pos 1000000000)) e
+  where
+    go : (s t : Bool) → (s && t) ≡ false → pos 0 ≡ cond s (cond t z (pos 0)) (pos 0)
+    go true true e = absurd (true≢false e)
+    go true false e = refl
+    go false t e = refl
 
 pub clip_in : (z : ℤ) → Within 1000000000 (clip z)
 unfolding clip
@@ -74,10 +82,10 @@ module _ (a b z : Place) {e f x y : ℕ} (ex : e ≡ across a.x b.x) (ey : f ≡
 
 -- ---- the greater of two distances
 module _ (a b : Place) {u v : ℕ} (eu : u ≡ nat_abs (a.x -ℤ b.x)) (ev : v ≡ nat_abs (a.y -ℤ b.y)) where
-  pub most_second : u < v → v ≡ most a b
+  pub most_is : max u v ≡ most a b
   unfolding most larger
-  most_second h = rw (sym eu, sym ev, lt-ltb u v h)
-
-  pub most_first : v ≤ u → u ≡ most a b
-  unfolding most larger
-  most_first h = rw (sym eu, sym ev, le-ltb u v h)
+  most_is = rw (sym eu, sym ev) (go (ltb u v) refl)
+    where
+      go : (t : Bool) → ltb u v ≡ t → max u v ≡ cond t v u
+      go true e = omega (arith, ltb-true u v e)
+      go false e = omega (arith, ltb-false u v e)

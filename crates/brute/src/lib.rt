@@ -6,14 +6,14 @@ ghost use Rattle.std.specs.Prelude.{◌≡◌, false, ◌≤◌, ◌<◌, nat_ab
 ghost use Rattle.integers.specs.Bounds.{Within};
 ghost use Rattle.brute.specs.Brute.{clip, place_at, covers, fences, holds, together, clear, empty, pairs, size_of, FirstOf, Next};
 
-#[derive(Clone, Copy)]
+#[derive(Clone, Copy, Debug, PartialEq, Eq)]
 pub struct Place {
     pub x: i64,
     pub y: i64,
 }
 
 // A pair by its positions: q's in Q, p's in P. Where there is none, q is past all of Q.
-#[derive(Clone, Copy)]
+#[derive(Clone, Copy, Debug, PartialEq, Eq)]
 pub struct Found {
     pub q: usize,
     pub p: usize,
@@ -23,13 +23,11 @@ pub struct Found {
 fn clipped(w: i32) -> i64
     ensures { (result ≡ clip w) × Within 1000000000 (clip w) }
 {
-    if w < -1000000000 {
-        return 0;
+    if (-1000000000..=1000000000).contains(&w) {
+        i64::from(w)
+    } else {
+        0
     }
-    if 1000000000 < w {
-        return 0;
-    }
-    w as i64
 }
 
 // Where the point at position k stands.
@@ -49,10 +47,7 @@ fn gap(a: i64, b: i64) -> u64
     requires { Within 4000000000 a × Within 4000000000 b }
     ensures { result ≡ nat_abs (a -ℤ b) }
 {
-    if a < b {
-        return (b - a) as u64;
-    }
-    (a - b) as u64
+    a.abs_diff(b)
 }
 
 // The square of it.
@@ -91,10 +86,7 @@ fn is_covered(a: Place, b: Place, z: Place) -> bool
     let d = across(a.x, b.x) + across(a.y, b.y);
     let x = apart(a.x, b.x, z.x);
     let y = apart(a.y, b.y, z.y);
-    if d < x {
-        return false;
-    }
-    y <= d - x
+    x <= d && y <= d - x
 }
 
 // A place on the map turned by an eighth.
@@ -115,12 +107,7 @@ fn most(a: Place, b: Place) -> u64
     requires within_2 { Within 2000000000 b.x × Within 2000000000 b.y }
     ensures { (result ≡ Rattle.brute.specs.Brute.most a b) × (result ≤ 4000000000) }
 {
-    let u = gap(a.x, b.x);
-    let v = gap(a.y, b.y);
-    if u < v {
-        return v;
-    }
-    u
+    gap(a.x, b.x).max(gap(a.y, b.y))
 }
 
 // Whether z is in the closed square around a, b, all on the turned map.
@@ -177,13 +164,10 @@ fn is_empty(grid: bool, s: &[i32], a: Place, b: Place) -> bool
     requires within_2 { Within 1000000000 b.x × Within 1000000000 b.y }
     ensures { result ≡ empty grid s.now a b }
 {
-    let n = s.len() / 3;
-    let mut k = 0;
-    while k < n {
+    for k in 0..s.len() / 3 {
         if !is_clear(grid, a, b, place_at(s, k)) {
             return false;
         }
-        k += 1;
     }
     true
 }
@@ -196,10 +180,7 @@ fn is_pair(grid: bool, p: &[i32], q: &[i32], j: usize, i: usize) -> bool
 {
     let a = place_at(q, j);
     let b = place_at(p, i);
-    if !is_empty(grid, q, a, b) {
-        return false;
-    }
-    is_empty(grid, p, a, b)
+    is_empty(grid, q, a, b) && is_empty(grid, p, a, b)
 }
 
 // The first position of P from `i` on that is a pair with position j of Q, or past all of P.
@@ -208,14 +189,12 @@ fn first_from(grid: bool, p: &[i32], q: &[i32], j: usize, i: usize) -> usize
     ensures { FirstOf grid p.now q.now j i result }
 {
     let n = p.len() / 3;
-    let mut k = i;
-    while k < n {
+    for k in i..n {
         if is_pair(grid, p, q, j, k) {
             return k;
         }
-        k += 1;
     }
-    k
+    n
 }
 
 // The squared distance of two places, by the air or by the streets.
@@ -252,15 +231,13 @@ pub fn next(grid: bool, p: &[i32], q: &[i32], j: usize, i: usize) -> Found
 {
     let np = p.len() / 3;
     let nq = q.len() / 3;
-    let mut row = j;
     let mut from = i;
-    while row < nq {
+    for row in j..nq {
         let at = first_from(grid, p, q, row, from);
         if at < np {
             return Found { q: row, p: at };
         }
-        row += 1;
         from = 0;
     }
-    Found { q: row, p: 0 }
+    Found { q: nq.max(j), p: 0 }
 }

@@ -8,7 +8,7 @@ ghost use Rattle.std.specs.Prelude.{◌<◌, ◌≤◌, length};
 
 use brute::Found;
 use chance::{drawn, line, mixed, one_more};
-use list::{Key, Page, Pair, Request, Source};
+use list::{Key, Pair, Request, Source, Terms};
 
 // Pairs of sets of 0 to 60 points.
 const SMALL: u64 = 1200;
@@ -42,6 +42,19 @@ struct Kinds {
     divided: bool,
 }
 
+// What is counted over so many draws: each has its number, and a state of the generator that is its own.
+fn over_draws<T: Copy, F: Fn(u64, u64, T) -> T>(count: u64, seed: u64, none: T, draw: F) -> T
+    requires { F.IsAlwaysCallable draw }
+{
+    let mut all = none;
+    let mut x = seed;
+    for k in 0..count {
+        x = mixed(x);
+        all = draw(k, x, all);
+    }
+    all
+}
+
 // ---- points
 
 // What the points of a set look like: how x, y and the ids are drawn; and the form of its sheet.
@@ -53,69 +66,44 @@ struct Kind {
     form: u32,
 }
 
-// A number of 32 bits as a signed word.
-fn signed(v: u32) -> i32 {
-    words::bytes::word_le(
-        (v % 256) as u8,
-        (v / 256 % 256) as u8,
-        (v / 65536 % 256) as u8,
-        (v / 16777216) as u8,
-    )
-}
-
 // A coordinate of form 2 alone: drawn from the whole range, from its ends and the middle, or always the same.
 fn wide(kind: usize, v: u64) -> i32 {
-    if kind == 6 {
-        return signed(std::num::wrapping_sub_u32((v % 2000000001) as u32, 1000000000));
+    match kind {
+        6 => (v % 2000000001) as i32 - 1000000000,
+        7 => 500000000 * (v % 5) as i32 - 1000000000,
+        _ => -1000000000,
     }
-    if kind == 7 {
-        return signed(std::num::wrapping_sub_u32(500000000 * (v % 5) as u32, 1000000000));
-    }
-    -1000000000
 }
 
 // A coordinate drawn from the whole range, from a small grid, from its ends and the middle, or always the same.
 fn coordinate(kind: usize, x: u64) -> i32 {
     let v = x >> 20;
-    if kind > 5 {
-        return wide(kind, v);
+    match kind {
+        0 => (v % 2000001) as i32 - 1000000,
+        1 => (v % 6) as i32,
+        2 => (v % 41) as i32 - 20,
+        3 => 500000 * (v % 5) as i32 - 1000000,
+        4 => (v % 1001) as i32,
+        5 => -1000000,
+        _ => wide(kind, v),
     }
-    if kind == 0 {
-        return signed(std::num::wrapping_sub_u32((v % 2000001) as u32, 1000000));
-    }
-    if kind == 1 {
-        return signed((v % 6) as u32);
-    }
-    if kind == 2 {
-        return signed(std::num::wrapping_sub_u32((v % 41) as u32, 20));
-    }
-    if kind == 3 {
-        return signed(std::num::wrapping_sub_u32(500000 * (v % 5) as u32, 1000000));
-    }
-    if kind == 4 {
-        return signed((v % 1001) as u32);
-    }
-    -1000000
 }
 
 // The id of position k of n: from 1 on, up to 2,000,000,000, from 1 in even steps and 2,000,000,000 the last, or anywhere.
 fn id_of(kind: usize, k: usize, n: usize, x: u64) -> i32 {
-    let at = (k % 1000) as u32;
-    let left = (std::num::wrapping_sub_usize(n, k) % 1001) as u32;
-    if kind == 0 {
-        return signed(at + 1);
+    let at = (k % 1000) as i32;
+    let left = (n.wrapping_sub(k) % 1001) as i32;
+    match kind {
+        0 => at + 1,
+        1 => 2000000001 - left,
+        _ if left == 1 => 2000000000,
+        2 => 1 + 1900000 * at,
+        _ => 1 + 1900000 * at + (x % 1900000) as i32,
     }
-    if (kind == 1) | (left == 1) {
-        return signed(2000000001 - left);
-    }
-    if kind == 2 {
-        return signed(1 + 1900000 * at);
-    }
-    signed(1 + 1900000 * at + (x % 1900000) as u32)
 }
 
-// Writes a word where there is a place for it.
-fn put(out: &mut [i32], i: usize, v: i32) {
+// Writes a value where there is a place for it.
+fn put<T: Copy>(out: &mut [T], i: usize, v: T) {
     if i < out.len() {
         out[i] = v;
     }
@@ -140,10 +128,8 @@ fn make_points(out: &mut [i32], n: usize, kind: Kind, seed: u64)
     requires { n ≤ 1000 }
 {
     let mut x = seed;
-    let mut k = 0;
-    while k < n {
+    for k in 0..n {
         x = put_point(out, k, n, kind, x);
-        k += 1;
     }
 }
 
@@ -151,29 +137,24 @@ fn make_points(out: &mut [i32], n: usize, kind: Kind, seed: u64)
 
 // The positions as they come, or from the last.
 fn put_positions(out: &mut [i32], n: usize, back: bool) {
-    let mut k = 0;
-    while k < n {
-        let left = n - 1 - k;
-        let at = if back { left } else { k };
+    for k in 0..n {
+        let at = if back { n - 1 - k } else { k };
         put(out, k, (at % 1000) as i32);
-        k += 1;
     }
 }
 
-fn exchange(out: &mut [i32], i: usize, j: usize) {
-    let a = words::at(out, i);
-    let b = words::at(out, j);
-    put(out, i, b);
-    put(out, j, a);
+// Two places exchange what they hold, where there are both.
+fn exchange<T>(out: &mut [T], i: usize, j: usize) {
+    if (i < out.len()) & (j < out.len()) {
+        out.swap(i, j);
+    }
 }
 
 fn shuffle(out: &mut [i32], n: usize, seed: u64) {
     let mut x = seed;
-    let mut k = 0;
-    while k < n {
+    for k in 0..n {
         x = mixed(x);
         exchange(out, k, drawn(x, n));
-        k += 1;
     }
 }
 
@@ -186,30 +167,11 @@ fn make_order(out: &mut [i32], n: usize, seed: u64) {
     }
 }
 
-// Nodes that cover n others.
-fn above(n: usize) -> usize
-    requires { n ≤ 1000 }
-    ensures { result ≤ 63 }
-{
-    (n + 15) / 16
-}
-
-// How many words a sheet of n points has.
+// How many words a sheet of n points has, of at most 1,000.
 fn sheet_len(n: usize) -> usize
-    requires { n ≤ 1000 }
     ensures { result ≤ 5482 }
 {
-    let mut len = 5 * n + 6;
-    let a = above(n);
-    len += 7 * a;
-    if a > 1 {
-        let b = above(a);
-        len += 7 * b;
-        if b > 1 {
-            len += 7;
-        }
-    }
-    if len < 5482 { len } else { 5482 }
+    pack::sheet_len(n).min(5482)
 }
 
 // Packs a set into the first words of `out`, and answers the packer's number.
@@ -224,31 +186,12 @@ fn packed(form: u32, points: &[i32], n: usize, edition: u32, seed: u64, out: &mu
 
 // ---- owners
 
-// Writes a byte where there is a place for it.
-fn put_byte(out: &mut [u8], i: usize, v: u8) {
-    if i < out.len() {
-        out[i] = v;
-    }
-}
-
-// The byte at i, 2 where there is none.
-fn byte_at(s: &[u8], i: usize) -> u8 {
-    if i < s.len() {
-        return s[i];
-    }
-    2
-}
-
-fn byte_of(contractor: u32) -> u8 {
-    if contractor == 0 {
-        return 0;
-    }
-    1
-}
-
 // Whether the chamber at position k is the contractor's, by its byte; for 2 all are.
 fn is_mine(owners: &[u8], contractor: u32, k: usize) -> bool {
-    (contractor == 2) | (byte_at(owners, k) == byte_of(contractor))
+    (contractor == 2)
+        | owners
+            .get(k)
+            .is_some_and(|b| *b == u8::from(contractor != 0))
 }
 
 // An owner: always the first contractor, always the second, or either.
@@ -266,11 +209,9 @@ fn some_owner(way: usize, x: u64) -> u8 {
 fn make_owners(out: &mut [u8], n: usize, seed: u64) {
     let way = drawn(seed, 10);
     let mut x = seed;
-    let mut k = 0;
-    while k < n {
+    for owner in out.iter_mut().take(n) {
         x = mixed(x);
-        put_byte(out, k, some_owner(way, x));
-        k += 1;
+        *owner = some_owner(way, x);
     }
 }
 
@@ -307,13 +248,11 @@ fn next_mine(
 ) -> Found {
     let n = q.len() / 3;
     let mut at = brute::next(grid, p, q, j, i);
-    let mut left = n;
-    while left > 0 {
+    for _ in 0..n {
         if (n <= at.q) | is_mine(owners, contractor, at.q) {
-            return at;
+            break;
         }
-        at = brute::next(grid, p, q, std::num::wrapping_add_usize(at.q, 1), 0);
-        left -= 1;
+        at = brute::next(grid, p, q, at.q.wrapping_add(1), 0);
     }
     at
 }
@@ -321,43 +260,44 @@ fn next_mine(
 // One of the sixteen pairs of a page: the next one of the second join, or three zeros where the page is full or the list has ended.
 fn paired(p: &[i32], q: &[i32], owners: &[u8], size: usize, t: Turn, shown: Pair) -> Turn {
     let at = t.at;
-    let mut u = t;
     if (t.count < size) & (at.q < q.len() / 3) {
-        let same = (shown.q == id_at(q, at.q))
-            & (shown.p == id_at(p, at.p))
-            & (shown.size == brute::size_of(t.grid, p, q, at));
-        let from = std::num::wrapping_add_usize(at.p, 1);
-        u.at = next_mine(t.grid, p, q, owners, t.contractor, at.q, from);
-        u.count = std::num::wrapping_add_usize(t.count, 1);
-        u.last = list::key_of(shown);
-        u.good = t.good & same;
-        return u;
+        let due = Pair {
+            q: id_at(q, at.q),
+            p: id_at(p, at.p),
+            size: brute::size_of(t.grid, p, q, at),
+        };
+        let from = at.p.wrapping_add(1);
+        return Turn {
+            at: next_mine(t.grid, p, q, owners, t.contractor, at.q, from),
+            count: t.count.wrapping_add(1),
+            last: list::key_of(shown),
+            good: t.good & (shown == due),
+            ..t
+        };
     }
-    u.good = t.good & (shown.q == 0) & (shown.p == 0) & (shown.size == 0);
-    u
-}
-
-fn turned(p: &[i32], q: &[i32], owners: &[u8], size: usize, t: Turn, pairs: [Pair; 16]) -> Turn {
-    let mut u = t;
-    let mut k = 0;
-    while k < 16 {
-        u = paired(p, q, owners, size, u, pairs[k]);
-        k += 1;
+    let none = Pair {
+        q: 0,
+        p: 0,
+        size: 0,
+    };
+    Turn {
+        good: t.good & (shown == none),
+        ..t
     }
-    u
 }
 
-fn is_source(s: Source, contractor: u32, grid: bool) -> bool {
-    (s.p_edition == 7)
-        & (s.q_edition == 9)
-        & (s.terms.threshold == 0)
-        & (s.terms.contractor == contractor)
-        & !s.terms.own
-        & !(s.terms.grid ^ grid)
-}
-
-fn is_key(a: Key, b: Key) -> bool {
-    (a.q == b.q) & (a.p == b.p)
+// What list the pages are of: P's sheet has edition 7, and Q's has 9.
+fn source_of(contractor: u32, grid: bool) -> Source {
+    Source {
+        p_edition: 7,
+        q_edition: 9,
+        terms: Terms {
+            threshold: 0,
+            contractor,
+            own: false,
+            grid,
+        },
+    }
 }
 
 // ---- a list
@@ -379,12 +319,10 @@ struct Listing {
 
 // The next page, of a size from 1 to 16, and all that is held to the second join. Sixteen words hold the kept bits of a thousand points.
 fn next_page(p: &[i32], q: &[i32], owners: &[u8], ps: &[i32], qs: &[i32], l: Listing) -> Listing {
-    let size = std::num::wrapping_add_usize(drawn(l.seed, 16), 1);
-    let key = l.key;
-    let at = l.at;
+    let size = drawn(l.seed, 16) + 1;
     let request = Request {
-        key: key,
-        size: size,
+        key: l.key,
+        size,
         threshold: 0,
         contractor: l.contractor,
         grid: l.grid,
@@ -392,35 +330,31 @@ fn next_page(p: &[i32], q: &[i32], owners: &[u8], ps: &[i32], qs: &[i32], l: Lis
     let mut bits = [0u64; 16];
     let r = ring::pages::page(ps, qs, owners, request, &mut bits);
     let page = r.page;
-    let shown = page.key;
-    let source = page.source;
     let none = Turn {
         grid: l.grid,
         contractor: l.contractor,
-        at: at,
+        at: l.at,
         count: 0,
-        last: key,
+        last: l.key,
         good: r.number == 0,
     };
-    let pairs = page.pairs;
-    let t = turned(p, q, owners, size, none, pairs);
-    let next = t.at;
-    let last = t.last;
-    let end = q.len() / 3 <= next.q;
-    let told = is_source(source, l.contractor, l.grid)
-        & is_key(shown, key)
+    let t = page
+        .pairs
+        .iter()
+        .fold(none, |t, v| paired(p, q, owners, size, t, *v));
+    let told = (page.source == source_of(l.contractor, l.grid))
+        & (page.key == l.key)
         & (page.count == t.count);
     Listing {
-        grid: l.grid,
-        contractor: l.contractor,
-        at: next,
-        key: last,
+        at: t.at,
+        key: t.last,
         seed: mixed(l.seed),
         ended: page.end,
-        good: t.good & told & (page.end == end),
-        pairs: std::num::wrapping_add_u64(l.pairs, t.count as u64),
+        good: t.good & told & (page.end == (q.len() / 3 <= t.at.q)),
+        pairs: l.pairs.wrapping_add(t.count as u64),
         pages: one_more(l.pages),
         full: t.count == size,
+        ..l
     }
 }
 
@@ -436,40 +370,35 @@ fn listed(
     seed: u64,
 ) -> Listing {
     let mut l = Listing {
-        grid: grid,
-        contractor: contractor,
+        grid,
+        contractor,
         at: next_mine(grid, p, q, owners, contractor, 0, 0),
         key: Key { q: 0, p: 0 },
-        seed: seed,
+        seed,
         ended: false,
         good: true,
         pairs: 0,
         pages: 0,
         full: false,
     };
-    let mut left: u64 = 1000000;
-    while left > 0 {
+    for _ in 0..1000000 {
         if l.ended | !l.good {
-            return l;
+            break;
         }
         l = next_page(p, q, owners, ps, qs, l);
-        left -= 1;
     }
     l
 }
 
 fn plus_if(n: u64, more: bool) -> u64 {
-    if more {
-        return one_more(n);
-    }
-    n
+    n.wrapping_add(u64::from(more))
 }
 
 fn counted(t: Tally, l: Listing) -> Tally {
     Tally {
         none: plus_if(t.none, l.pairs == 0),
-        pairs: std::num::wrapping_add_u64(t.pairs, l.pairs),
-        pages: std::num::wrapping_add_u64(t.pages, l.pages),
+        pairs: t.pairs.wrapping_add(l.pairs),
+        pages: t.pages.wrapping_add(l.pages),
         full: plus_if(t.full, l.full),
         wrong: plus_if(t.wrong, !(l.ended & l.good)),
     }
@@ -519,12 +448,13 @@ fn compared(
     let mut qs = [0i32; 5482];
     let a = packed(p_form, p, np, 7, seed, &mut ps);
     let b = packed(q_form, q, nq, 9, mixed(seed), &mut qs);
-    let mut u = t;
     if (a != 0) | (b != 0) {
-        u.wrong = one_more(t.wrong);
-        return u;
+        return Tally {
+            wrong: one_more(t.wrong),
+            ..t
+        };
     }
-    all_listed(kinds, p, q, nq, &ps[..lp], &qs[..lq], seed, u)
+    all_listed(kinds, p, q, nq, &ps[..lp], &qs[..lq], seed, t)
 }
 
 fn made(
@@ -557,8 +487,8 @@ fn small(kinds: Kinds, seed: u64, t: Tally) -> Tally {
     let x = drawn(a >> 7, 6);
     let y = drawn(b >> 7, 6);
     let p_kind = Kind {
-        x: x,
-        y: y,
+        x,
+        y,
         id: drawn(c >> 7, 4),
         form: 1,
     };
@@ -578,14 +508,14 @@ fn large(kinds: Kinds, number: u64, seed: u64, t: Tally) -> Tally {
     let x = if way < 3 { way * 2 } else { 0 };
     let y = if way == 6 { 5 } else { x };
     let p_kind = Kind {
-        x: x,
-        y: y,
+        x,
+        y,
         id: way % 4,
         form: 1,
     };
     let q_kind = Kind {
         x: if way == 5 { 4 } else { x },
-        y: y,
+        y,
         id: way / 2,
         form: 1,
     };
@@ -602,7 +532,7 @@ fn kind_of(form: u32, seed: u64) -> Kind {
         x: if second { drawn(a, 3) + 6 } else { drawn(a, 6) },
         y: if second { drawn(b, 3) + 6 } else { drawn(b, 6) },
         id: drawn(c, 4),
-        form: form,
+        form,
     }
 }
 
@@ -629,39 +559,15 @@ fn two_forms(number: u64, seed: u64, t: Tally) -> Tally {
 }
 
 fn all_small(kinds: Kinds, seed: u64, t: Tally) -> Tally {
-    let mut u = t;
-    let mut x = seed;
-    let mut k = 0;
-    while k < SMALL {
-        x = mixed(x);
-        u = small(kinds, x, u);
-        k += 1;
-    }
-    u
+    over_draws(SMALL, seed, t, |_, x, u| small(kinds, x, u))
 }
 
 fn all_large(kinds: Kinds, seed: u64, t: Tally) -> Tally {
-    let mut u = t;
-    let mut x = seed;
-    let mut k = 0;
-    while k < LARGE {
-        x = mixed(x);
-        u = large(kinds, k, x, u);
-        k += 1;
-    }
-    u
+    over_draws(LARGE, seed, t, |k, x, u| large(kinds, k, x, u))
 }
 
 fn all_wide(seed: u64, t: Tally) -> Tally {
-    let mut u = t;
-    let mut x = seed;
-    let mut k = 0;
-    while k < WIDE {
-        x = mixed(x);
-        u = two_forms(k, x, u);
-        k += 1;
-    }
-    u
+    over_draws(WIDE, seed, t, two_forms)
 }
 
 // ---- the blind test
@@ -680,40 +586,27 @@ struct Blind {
 
 // The position of the record with an id among the first n, or n.
 fn position_of(points: &[i32], n: usize, id: u32) -> usize {
-    let mut k = 0;
-    while k < n {
-        if id_at(points, k) == id {
-            return k;
-        }
-        k += 1;
-    }
-    n
+    (0..n).find(|&k| id_at(points, k) == id).unwrap_or(n)
 }
 
 // An id: near the lowest, near the highest, or anywhere.
 fn any_id(x: u64) -> u32 {
-    let way = drawn(x, 3);
     let v = x >> 20;
-    if way == 0 {
-        return 1 + (v % 130) as u32;
+    match drawn(x, 3) {
+        0 => 1 + (v % 130) as u32,
+        1 => 2000000000 - (v % 130) as u32,
+        _ => 1 + (v % 2000000000) as u32,
     }
-    if way == 1 {
-        return 2000000000 - (v % 130) as u32;
-    }
-    1 + (v % 2000000000) as u32
 }
 
 // A new id that no record has, or where two that were drawn are met, the old one.
 fn new_id(points: &[i32], n: usize, old: i32, x: u64) -> i32 {
-    let a = any_id(mixed(x));
-    if position_of(points, n, a) == n {
-        return signed(a);
-    }
-    let b = any_id(mixed(mixed(x)));
-    if position_of(points, n, b) == n {
-        return signed(b);
-    }
-    old
+    let first = any_id(mixed(x));
+    let second = any_id(mixed(mixed(x)));
+    [first, second]
+        .iter()
+        .find(|&id| position_of(points, n, *id) == n)
+        .map_or(old, |id| id.cast_signed())
 }
 
 // A new id for the chamber at position k, where it is not the contractor's.
@@ -732,11 +625,9 @@ fn rename_all(points: &mut [i32], owners: &[u8], n: usize, contractor: u32, seed
     requires { n ≤ 1000 }
 {
     let mut x = seed;
-    let mut k = 0;
-    while k < n {
+    for k in 0..n {
         x = mixed(x);
         rename(points, owners, n, contractor, k, x);
-        k += 1;
     }
 }
 
@@ -748,10 +639,7 @@ fn exchange_records(points: &mut [i32], owners: &mut [u8], k: usize)
     exchange(points, at, at + 3);
     exchange(points, at + 1, at + 4);
     exchange(points, at + 2, at + 5);
-    let a = byte_at(owners, k);
-    let b = byte_at(owners, k + 1);
-    put_byte(owners, k, b);
-    put_byte(owners, k + 1, a);
+    exchange(owners, k, k + 1);
 }
 
 // Two records that stand the wrong way round change places.
@@ -767,10 +655,8 @@ fn settle(points: &mut [i32], owners: &mut [u8], k: usize)
 fn sort_once(points: &mut [i32], owners: &mut [u8], n: usize)
     requires { n ≤ 1000 }
 {
-    let mut k = 1;
-    while k < n {
+    for k in 1..n {
         settle(points, owners, k - 1);
-        k += 1;
     }
 }
 
@@ -778,84 +664,29 @@ fn sort_once(points: &mut [i32], owners: &mut [u8], n: usize)
 fn sort(points: &mut [i32], owners: &mut [u8], n: usize)
     requires { n ≤ 1000 }
 {
-    let mut k = 0;
-    while k < n {
+    for _ in 0..n {
         sort_once(points, owners, n);
-        k += 1;
     }
-}
-
-// Whether one of the first n owners is another.
-fn is_moved(a: &[u8], b: &[u8], n: usize) -> bool {
-    let mut k = 0;
-    while k < n {
-        if byte_at(a, k) != byte_at(b, k) {
-            return true;
-        }
-        k += 1;
-    }
-    false
-}
-
-fn are_pairs(a: [Pair; 16], b: [Pair; 16]) -> bool {
-    let mut good = true;
-    let mut k = 0;
-    while k < 16 {
-        let v = a[k];
-        let w = b[k];
-        good = good & (v.q == w.q) & (v.p == w.p) & (v.size == w.size);
-        k += 1;
-    }
-    good
-}
-
-fn is_page(a: Page, b: Page) -> bool {
-    let s = a.source;
-    let t = b.source;
-    let key = a.key;
-    let other = b.key;
-    let pairs = a.pairs;
-    let others = b.pairs;
-    (s.p_edition == t.p_edition)
-        & (s.q_edition == t.q_edition)
-        & (s.terms.threshold == t.terms.threshold)
-        & (s.terms.contractor == t.terms.contractor)
-        & (s.terms.own == t.terms.own)
-        & (s.terms.grid == t.terms.grid)
-        & is_key(key, other)
-        & (a.count == b.count)
-        & (a.end == b.end)
-        & are_pairs(pairs, others)
 }
 
 // The chamber's id of a key: none, one of either run, one beside it, or anything up to one past the last.
 fn some_q(qs: &[i32], qt: &[i32], n: usize, x: u64) -> u32 {
-    let way = drawn(x, 8);
     let k = drawn(mixed(x), n);
-    if way < 2 {
-        return 0;
+    match drawn(x, 8) {
+        0 | 1 => 0,
+        2..=4 => id_at(qs, k),
+        5 => id_at(qt, k),
+        6 => (id_at(qs, k) % 2000000001) + 1,
+        _ => ((x >> 20) % 2000000002) as u32,
     }
-    if way < 5 {
-        return id_at(qs, k);
-    }
-    if way == 5 {
-        return id_at(qt, k);
-    }
-    if way == 6 {
-        return (id_at(qs, k) % 2000000001) + 1;
-    }
-    ((x >> 20) % 2000000002) as u32
 }
 
 fn some_threshold(x: u64) -> u32 {
-    let way = drawn(x, 16);
-    if way == 0 {
-        return 60001;
+    match drawn(x, 16) {
+        0 => 60001,
+        1..=7 => 0,
+        way => (way % 4) as u32,
     }
-    if way < 8 {
-        return 0;
-    }
-    (way % 4) as u32
 }
 
 fn some_request(
@@ -882,8 +713,8 @@ fn some_request(
         },
         size: if size < 18 { size } else { 16 },
         threshold: some_threshold(b >> 5),
-        contractor: contractor,
-        grid: grid,
+        contractor,
+        grid,
     }
 }
 
@@ -909,30 +740,22 @@ fn tried(
     seed: u64,
     b: Blind,
 ) -> Blind {
-    let key = request.key;
     let lent = some_lent(seed);
     let mut one = [seed; 2];
     let mut two = [seed; 2];
     let r = ring::pages::page(ps, qs, owners, request, &mut one[..lent]);
     let s = ring::pages::page(pt, qt, moved, request, &mut two[..lent]);
-    let page = r.page;
-    let other = s.page;
-    let good = (r.number == s.number)
-        & is_page(page, other)
-        & (one[0] == two[0])
-        & (one[1] == two[1]);
+    let good = (r.number == s.number) & (r.page == s.page) & (one == two);
     let n = owners.len();
-    let at = position_of(qs, n, key.q);
+    let at = position_of(qs, n, request.key.q);
     let mut c = b;
     let number = r.number as usize;
     if !good {
         c.wrong = one_more(b.wrong);
     } else if r.number == 0 {
         c.served = one_more(b.served);
-        c.pairs = std::num::wrapping_add_u64(b.pairs, page.count as u64);
-        if (at < n) & !is_mine(owners, request.contractor, at) {
-            c.named = one_more(b.named);
-        }
+        c.pairs = b.pairs.wrapping_add(r.page.count as u64);
+        c.named = plus_if(b.named, (at < n) & !is_mine(owners, request.contractor, at));
     } else if number < 32 {
         c.refused[number] = one_more(b.refused[number]);
     }
@@ -954,16 +777,11 @@ fn all_tried(
     b: Blind,
 ) -> Blind {
     let mut c = b;
-    c.moved = plus_if(b.moved, is_moved(owners, moved, owners.len()));
-    let mut x = seed;
-    let mut k = 0;
-    while k < REQUESTS {
-        x = mixed(x);
+    c.moved = plus_if(b.moved, owners != moved);
+    over_draws(REQUESTS, seed, c, |_, x, c| {
         let request = some_request(ps, np, qs, qt, owners.len(), contractor, grid, x);
-        c = tried(ps, qs, owners, pt, qt, moved, request, mixed(x ^ 7), c);
-        k += 1;
-    }
-    c
+        tried(ps, qs, owners, pt, qt, moved, request, mixed(x ^ 7), c)
+    })
 }
 
 // Both runs packed, each in an order of its own.
@@ -995,9 +813,10 @@ fn packed_twice(
     let second = packed(p_form, p, np, 7, mixed(seed ^ 3), &mut pt)
         | packed(q_form, r, nq, 9, mixed(seed ^ 9), &mut qt);
     if (first | second) != 0 {
-        let mut c = b;
-        c.wrong = one_more(b.wrong);
-        return c;
+        return Blind {
+            wrong: one_more(b.wrong),
+            ..b
+        };
     }
     all_tried(
         &ps[..lp],
@@ -1018,7 +837,7 @@ fn packed_twice(
 fn share_out(out: &mut [u8], n: usize, seed: u64) {
     make_owners(out, n, mixed(seed ^ 55));
     if drawn(seed, 24) == 0 {
-        put_byte(out, drawn(mixed(seed), n), 2);
+        put(out, drawn(mixed(seed), n), 2);
     }
 }
 
@@ -1135,7 +954,7 @@ fn some_runs(number: u64, seed: u64, b: Blind) -> Blind {
 }
 
 fn all_blind(seed: u64) -> Blind {
-    let mut b = Blind {
+    let none = Blind {
         served: 0,
         pairs: 0,
         named: 0,
@@ -1143,14 +962,7 @@ fn all_blind(seed: u64) -> Blind {
         moved: 0,
         wrong: 0,
     };
-    let mut x = seed;
-    let mut k = 0;
-    while k < BLIND {
-        x = mixed(x);
-        b = some_runs(k, x, b);
-        k += 1;
-    }
-    b
+    over_draws(BLIND, seed, none, some_runs)
 }
 
 // ---- what is written

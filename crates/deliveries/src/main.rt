@@ -5,7 +5,7 @@
 
 use book::Book;
 use chance::{drawn, line, mixed, one_more};
-use depot::{Depot, Form, Outcome};
+use depot::{Depot, Form, Receipt};
 use list::{Pair, Source, Terms};
 
 const HISTORIES: u64 = 500;
@@ -42,15 +42,19 @@ struct Game {
 // ---- the books' pairs
 
 fn pair_after(v: Pair, step: u32) -> Pair {
-    let mut w = v;
+    let size = v.size.wrapping_add(1000000000000000000) % 9000000000000000000;
     if v.p < step {
-        w.p = v.p + 1;
-    } else {
-        w.q = std::num::wrapping_add_u32(v.q, 3);
-        w.p = 1;
+        return Pair {
+            p: v.p + 1,
+            size,
+            ..v
+        };
     }
-    w.size = std::num::wrapping_add_u64(v.size, 1000000000000000000) % 9000000000000000000;
-    w
+    Pair {
+        q: v.q.wrapping_add(3),
+        p: 1,
+        size,
+    }
 }
 
 // 64 pairs, ascending, of at most `step` to a chamber.
@@ -65,11 +69,9 @@ fn made_pairs(step: u32) -> [Pair; 64] {
         p: 1,
         size: 0,
     };
-    let mut i: usize = 0;
-    while i < 64 {
-        l[i] = v;
+    for w in l.iter_mut() {
+        *w = v;
         v = pair_after(v, step);
-        i += 1;
     }
     l
 }
@@ -89,82 +91,55 @@ fn blank() -> Form {
 
 // ---- the key, read a second time
 
+// All but the size.
 fn is_key(a: Form, b: Form) -> bool {
-    !((a.p_edition != b.p_edition)
-        | (a.q_edition != b.q_edition)
-        | (a.own ^ b.own)
-        | (a.contractor != b.contractor)
-        | (a.grid ^ b.grid)
-        | (a.q != b.q)
-        | (a.p != b.p))
-}
-
-fn is_form(a: Form, b: Form) -> bool {
-    is_key(a, b) & (a.size == b.size)
+    a == (Form { size: a.size, ..b })
 }
 
 fn is_out(f: Form) -> bool {
-    (f.p_edition == 0)
-        | (1000000000 < f.p_edition)
-        | (f.q_edition == 0)
-        | (1000000000 < f.q_edition)
+    !(1..=1000000000).contains(&f.p_edition)
+        | !(1..=1000000000).contains(&f.q_edition)
         | (2 < f.contractor)
-        | (f.q == 0)
-        | (2000000000 < f.q)
-        | (f.p == 0)
-        | (2000000000 < f.p)
+        | !(1..=2000000000).contains(&f.q)
+        | !(1..=2000000000).contains(&f.p)
 }
 
 // Whether one of the first forms of a list has the key.
-fn has_key(l: [Form; 64], many: usize, f: Form) -> bool {
-    let mut found = false;
-    let mut i: usize = 0;
-    while i < 64 {
-        if i < many {
-            found = found | is_key(l[i], f);
-        }
-        i += 1;
-    }
-    found
+fn has_key(l: &[Form; 64], many: usize, f: Form) -> bool {
+    l.iter().take(many).any(|g| is_key(*g, f))
 }
 
 // Whether two rows of forms are the same from `from` up to `to`.
-fn is_same(old: [Form; 64], new: [Form; 64], from: usize, to: usize) -> bool {
-    let mut good = true;
-    let mut i: usize = 0;
-    while i < 64 {
-        if (from <= i) & (i < to) {
-            good = good & is_form(old[i], new[i]);
-        }
-        i += 1;
-    }
-    good
+fn is_same(old: &[Form; 64], new: &[Form; 64], from: usize, to: usize) -> bool {
+    old.iter()
+        .zip(new.iter())
+        .take(to)
+        .skip(from)
+        .all(|(a, b)| a == b)
 }
 
 // ---- making forms
 
-fn is_made(f: Form, s: Source, v: Pair) -> bool {
-    (f.p_edition == s.p_edition)
-        & (f.q_edition == s.q_edition)
-        & !(f.own ^ s.terms.own)
-        & (f.contractor == s.terms.contractor)
-        & !(f.grid ^ s.terms.grid)
-        & (f.q == v.q)
-        & (f.p == v.p)
-        & (f.size == v.size)
+// The form of a pair, read from the rules a second time.
+fn made_of(s: Source, v: Pair) -> Form {
+    Form {
+        p_edition: s.p_edition,
+        q_edition: s.q_edition,
+        own: s.terms.own,
+        contractor: s.terms.contractor,
+        grid: s.terms.grid,
+        q: v.q,
+        p: v.p,
+        size: v.size,
+    }
 }
 
 // Whether the first forms are those of the first pairs.
-fn are_made(l: [Form; 64], s: Source, pairs: [Pair; 64], many: usize) -> bool {
-    let mut good = true;
-    let mut i: usize = 0;
-    while i < 64 {
-        if i < many {
-            good = good & is_made(l[i], s, pairs[i]);
-        }
-        i += 1;
-    }
-    good
+fn are_made(l: &[Form; 64], s: Source, pairs: &[Pair; 64], many: usize) -> bool {
+    l.iter()
+        .zip(pairs.iter())
+        .take(many)
+        .all(|(f, v)| *f == made_of(s, *v))
 }
 
 fn unmade_no(held: usize, len: usize, room: usize) -> u32 {
@@ -177,17 +152,24 @@ fn unmade_no(held: usize, len: usize, room: usize) -> u32 {
     0
 }
 
+fn plus_if(n: u64, more: bool) -> u64 {
+    n.wrapping_add(u64::from(more))
+}
+
+// One more of a number of refusal, where there is a place for it.
+fn tell(refused: &mut [u64; 32], number: u32) {
+    if let Some(n) = refused.get_mut(number as usize) {
+        *n = one_more(*n);
+    }
+}
+
 fn with_made(t: Tally, number: u32, good: bool) -> Tally {
     let mut u = t;
-    let i = number as usize;
-    if number == 0 {
-        u.made = one_more(u.made);
-    } else if i < 32 {
-        u.unmade[i] = one_more(u.unmade[i]);
+    match number {
+        0 => u.made = one_more(u.made),
+        _ => tell(&mut u.unmade, number),
     }
-    if !good {
-        u.wrong = one_more(u.wrong);
-    }
+    u.wrong = plus_if(u.wrong, !good);
     u
 }
 
@@ -196,36 +178,27 @@ fn made_forms(b: Book, pairs: [Pair; 64], len: usize, room: usize, tally: Tally)
     let out = [blank(); 64];
     let r = depot::forms_array(pairs, len, out, room, b);
     let m = r.made;
-    let after = r.out;
-    let source = b.source;
     let number = unmade_no(b.held, len, room);
-    let mut count = b.held;
-    if number != 0 {
-        count = 0;
-    }
+    let count = if number == 0 { b.held } else { 0 };
     let good = (m.number == number)
         & (m.count == count)
-        & are_made(after, source, pairs, count)
-        & is_same(out, after, count, 64);
+        & are_made(&r.out, b.source, &pairs, count)
+        & is_same(&out, &r.out, count, 64);
     with_made(tally, m.number, good)
 }
 
 fn forms_of(b: Book, pairs: [Pair; 64]) -> [Form; 64] {
-    let out = [blank(); 64];
-    let r = depot::forms_array(pairs, 64, out, 64, b);
-    r.out
+    depot::forms_array(pairs, 64, [blank(); 64], 64, b).out
 }
 
 // ---- the books
 
 fn contractor_of(way: usize) -> u32 {
-    if way == 3 {
-        return 0;
+    match way {
+        3 => 0,
+        4 => 1,
+        _ => 2,
     }
-    if way == 4 {
-        return 1;
-    }
-    2
 }
 
 // The books by number: 0 undivided, 1 a self join, 2 undivided with a threshold, 3 and 4 a contractor's each, 5 undivided along the streets. All but the self join hold the same pairs
@@ -233,15 +206,15 @@ fn contractor_of(way: usize) -> u32 {
 fn book_of(way: usize, held: usize, closed: bool) -> Book {
     let own = way == 1;
     Book {
-        held: held,
-        closed: closed,
+        held,
+        closed,
         source: Source {
             p_edition: 7,
             q_edition: if own { 7 } else { 9 },
             terms: Terms {
                 threshold: if way == 2 { 3 } else { 0 },
                 contractor: contractor_of(way),
-                own: own,
+                own,
                 grid: way == 5,
             },
         },
@@ -249,29 +222,23 @@ fn book_of(way: usize, held: usize, closed: bool) -> Book {
 }
 
 fn pairs_of(way: usize) -> [Pair; 64] {
-    if way == 1 {
-        return made_pairs(2);
-    }
-    made_pairs(4)
+    made_pairs(if way == 1 { 2 } else { 4 })
 }
 
 // How many slots or places are lent to a book that holds n: just as many, all, or any number.
 fn some_len(n: usize, seed: u64) -> usize {
-    let way = drawn(seed, 3);
-    if way == 0 {
-        return n;
+    match drawn(seed, 3) {
+        0 => n,
+        1 => 64,
+        _ => drawn(mixed(seed), 65),
     }
-    if way == 1 {
-        return 64;
-    }
-    drawn(mixed(seed), 65)
 }
 
 // The forms of one of the books, of up to 30 pairs.
 fn made_some(way: usize, seed: u64, tally: Tally) -> Tally {
     let a = mixed(seed);
     let b = mixed(a);
-    let n = std::num::wrapping_add_usize(drawn(seed, 30), 1);
+    let n = drawn(seed, 30) + 1;
     made_forms(
         book_of(way, n, drawn(b, 2) == 0),
         pairs_of(way),
@@ -285,11 +252,9 @@ fn made_some(way: usize, seed: u64, tally: Tally) -> Tally {
 fn all_made(seed: u64, tally: Tally) -> Tally {
     let mut t = tally;
     let mut x = seed;
-    let mut way: usize = 0;
-    while way < BOOKS {
+    for way in 0..BOOKS {
         x = mixed(x);
         t = made_some(way, x, t);
-        way += 1;
     }
     t
 }
@@ -313,72 +278,50 @@ fn expected(held: usize, len: usize, known: bool, f: Form) -> u32 {
     0
 }
 
-fn said(o: Outcome) -> u32 {
+fn said(o: Result<Receipt, u32>) -> u32 {
     match o {
-        Outcome::Issued => 0,
-        Outcome::Known => 1,
-        Outcome::Refused(n) => n,
+        Ok(Receipt::Issued) => 0,
+        Ok(Receipt::Known) => 1,
+        Err(n) => n,
     }
 }
 
 fn counted(t: Tally, told: u32, good: bool) -> Tally {
     let mut u = t;
-    let i = told as usize;
-    if told == 0 {
-        u.issued = one_more(u.issued);
-    } else if told == 1 {
-        u.known = one_more(u.known);
-    } else if i < 32 {
-        u.refused[i] = one_more(u.refused[i]);
+    match told {
+        0 => u.issued = one_more(u.issued),
+        1 => u.known = one_more(u.known),
+        _ => tell(&mut u.refused, told),
     }
-    if !good {
-        u.wrong = one_more(u.wrong);
-    }
+    u.wrong = plus_if(u.wrong, !good);
     u
-}
-
-// The plain list with one form more.
-fn appended(l: [Form; 64], many: usize, f: Form) -> [Form; 64] {
-    let mut m = l;
-    if many < 64 {
-        m[many] = f;
-    }
-    m
 }
 
 // A form handed in with `lent` slots, and all that is then checked.
 fn called(g: Game, lent: usize, f: Form) -> Game {
-    let d = g.depot;
-    let slots = g.slots;
-    let plain = g.plain;
-    let many = g.many;
-    let due = expected(d.held, lent, has_key(plain, many, f), f);
-    let r = depot::take_array(slots, lent, d, f);
-    let s = r.stored;
-    let after = r.slots;
-    let outcome = s.outcome;
-    let told = said(outcome);
-    let e = s.depot;
-    let mut list = plain;
-    let mut more = many;
+    let due = expected(g.depot.held, lent, has_key(&g.plain, g.many, f), f);
+    let r = depot::take_array(g.slots, lent, g.depot, f);
+    let told = said(r.stored.outcome);
+    let mut plain = g.plain;
+    let mut many = g.many;
     if due == 0 {
-        list = appended(plain, many, f);
-        more = std::num::wrapping_add_usize(many, 1);
+        if let Some(place) = plain.get_mut(many) {
+            *place = f;
+        }
+        many = many.wrapping_add(1);
     }
     let good = (told == due)
-        & (e.held == more)
-        & is_same(after, list, 0, more)
-        & is_same(slots, after, more, 64);
-    let tally = counted(g.tally, told, good);
+        & (r.stored.depot.held == many)
+        & is_same(&r.slots, &plain, 0, many)
+        & is_same(&g.slots, &r.slots, many, 64);
     Game {
-        n: g.n,
-        slots: after,
-        len: g.len,
-        depot: e,
-        plain: list,
-        many: more,
+        slots: r.slots,
+        depot: r.stored.depot,
+        plain,
+        many,
         seed: mixed(g.seed),
-        tally: tally,
+        tally: counted(g.tally, told, good),
+        ..g
     }
 }
 
@@ -389,92 +332,69 @@ fn some_form(g: Game) -> Form {
     let i = drawn(g.seed, g.n);
     let way = drawn(mixed(g.seed), BOOKS);
     let forms = forms_of(book_of(way, g.n, true), pairs_of(way));
-    if 64 <= i {
-        return blank();
-    }
-    forms[i]
+    forms.get(i).copied().unwrap_or(blank())
 }
 
 // The form with one part of its key other, or its size.
 fn altered(f: Form, way: usize) -> Form {
-    let mut h = f;
-    if way == 0 {
-        h.p_edition = 8;
-    } else if way == 1 {
-        h.q_edition = 10;
-    } else if way == 2 {
-        h.own = !f.own;
-    } else if way == 3 {
-        h.contractor = 0;
-    } else if way == 4 {
-        h.contractor = 1;
-    } else if way == 5 {
-        h.grid = !f.grid;
-    } else if way == 6 {
-        h.size = 3;
-    } else {
-        h.q = f.p;
-        h.p = f.q;
+    match way {
+        0 => Form { p_edition: 8, ..f },
+        1 => Form { q_edition: 10, ..f },
+        2 => Form { own: !f.own, ..f },
+        3 => Form { contractor: 0, ..f },
+        4 => Form { contractor: 1, ..f },
+        5 => Form { grid: !f.grid, ..f },
+        6 => Form { size: 3, ..f },
+        _ => Form {
+            q: f.p,
+            p: f.q,
+            ..f
+        },
     }
-    h
 }
 
 // The form with one part of its key out of range.
 fn broken(f: Form, way: usize) -> Form {
-    let mut h = f;
-    if way == 0 {
-        h.p_edition = 0;
-    } else if way == 1 {
-        h.q_edition = 1000000001;
-    } else if way == 2 {
-        h.contractor = 3;
-    } else if way == 3 {
-        h.q = 0;
-    } else if way == 4 {
-        h.q = 2000000001;
-    } else if way == 5 {
-        h.p = 0;
-    } else if way == 6 {
-        h.p = 2000000001;
-    } else {
-        h.q_edition = 0;
+    match way {
+        0 => Form { p_edition: 0, ..f },
+        1 => Form {
+            q_edition: 1000000001,
+            ..f
+        },
+        2 => Form { contractor: 3, ..f },
+        3 => Form { q: 0, ..f },
+        4 => Form { q: 2000000001, ..f },
+        5 => Form { p: 0, ..f },
+        6 => Form { p: 2000000001, ..f },
+        _ => Form { q_edition: 0, ..f },
     }
-    h
 }
 
 fn form_of(g: Game, kind: usize) -> Form {
     let way = drawn(mixed(mixed(g.seed)), 8);
     let f = some_form(g);
-    if (kind == 8) | (kind == 9) {
-        return altered(f, way);
+    match kind {
+        8 | 9 => altered(f, way),
+        10 | 13 | 14 => broken(f, way),
+        _ => f,
     }
-    if (kind == 10) | (kind == 13) | (kind == 14) {
-        return broken(f, way);
-    }
-    f
 }
 
 // How many slots are lent: those of the history, just as many as are held, or fewer.
 fn lent_to(g: Game, kind: usize) -> usize {
-    let d = g.depot;
-    let held = d.held;
-    if (kind == 11) | (kind == 13) {
-        return held;
+    let held = g.depot.held;
+    match kind {
+        11 | 13 => held,
+        12 | 14 if 0 < held => drawn(g.seed, held),
+        _ => g.len,
     }
-    if ((kind == 12) | (kind == 14)) & (0 < held) {
-        return drawn(g.seed, held);
-    }
-    g.len
 }
 
 // A longer slice from now on, where the kind says so.
 fn grown(g: Game, kind: usize) -> Game {
     let mut h = g;
     if kind == 15 {
-        h.len = std::num::wrapping_add_usize(g.len, drawn(g.seed, 9));
-        if 64 < h.len {
-            h.len = 64;
-        }
+        h.len = g.len.wrapping_add(drawn(g.seed, 9)).min(64);
     }
     h
 }
@@ -490,11 +410,9 @@ fn stepped(g: Game) -> Game {
 fn opened(seed: u64, tally: Tally) -> Game {
     let d = Depot::begin();
     let mut t = all_made(seed, tally);
-    if d.held != 0 {
-        t.wrong = one_more(t.wrong);
-    }
+    t.wrong = plus_if(t.wrong, d.held != 0);
     Game {
-        n: std::num::wrapping_add_usize(drawn(seed, 12), 1),
+        n: drawn(seed, 12) + 1,
         slots: [blank(); 64],
         len: drawn(mixed(seed), 49),
         depot: d,
@@ -507,10 +425,8 @@ fn opened(seed: u64, tally: Tally) -> Game {
 
 fn played(seed: u64, tally: Tally) -> Game {
     let mut g = opened(seed, tally);
-    let mut i: u64 = 0;
-    while i < CALLS {
+    for _ in 0..CALLS {
         g = stepped(g);
-        i += 1;
     }
     g
 }
@@ -541,12 +457,10 @@ fn main(rt: HostRuntime) {
         wrong: 0,
     };
     let mut seed: u64 = 88172645463325252;
-    let mut i: u64 = 0;
-    while i < HISTORIES {
+    for _ in 0..HISTORIES {
         let g = played(seed, t);
         t = g.tally;
         seed = mixed(g.seed);
-        i += 1;
     }
     report(&rt, t);
 }

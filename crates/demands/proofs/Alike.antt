@@ -2,6 +2,7 @@
 -- "a view handed in included, its counts read anew from its words". So each theorem of Demand1, Demand2, Demand3, Lent, Shortest, Nearest and Many on an answer of
 -- these holds of theirs. And so for a book, the depot, and a run, whose slots are kept in an array.
 -- Assumes nothing. [S28]
+use Rattle.std.specs.Prelude.{Result}
 use mathlib.Core.Bool.{Bool}
 use mathlib.Core.Path.{◌≡◌, ap}
 use mathlib.Core.List.{List, [], ◌++◌}
@@ -14,9 +15,7 @@ use Rattle.list.specs.declared.Pair.{Pair}
 use Rattle.list.specs.declared.Request.{Request}
 use Rattle.list.specs.declared.Page.{Page}
 use Rattle.ring.specs.declared.Head.{Head}
-use Rattle.ring.specs.declared.Pointed.{Pointed}
 use Rattle.ring.specs.declared.Filtered.{Filtered}
-use Rattle.ring.specs.declared.Walked.{Walked}
 use Rattle.ring.specs.declared.Paged.{Paged}
 use Rattle.ring.specs.declared.Partnered.{Partnered}
 use Rattle.view.specs.declared.Sheet.{Sheet}
@@ -45,16 +44,18 @@ use Rattle.many.specs.declared.Wanted.{Wanted}
 use Rattle.many.specs.declared.Counted.{Counted}
 use Rattle.many.specs.declared.Many.{Many}
 use Rattle.demands.specs.Promises.{FormsAnswers, StoreAnswers, FormsArrayAnswers, StoreArrayAnswers, Place, HeadAnswers, PointAnswers, FilterAnswers, RingAnswers, PageAnswers, PartnersAnswers, ShortAnswers, NextAnswers, TakeAnswers, NextArrayAnswers, TakeArrayAnswers, RunAnswers, RunArrayAnswers, ViewPoints, ViewFilters, ViewRings, ViewPages, ViewPartners, ViewRuns, ViewShortest, OpenHead, PointOpened, OwnAnswers, ViewOwnPages, NearestAnswers, NearFilterAnswers, ViewNearest, ViewNearFilters, PairsAnswers, OwnPairsAnswers, CountAnswers, OwnCountAnswers, ViewMany, ViewOwnMany, ViewCounts, ViewOwnCounts, BusyAnswers, PumpAnswers, UrgentAnswers, ViewBusiest, ViewPumps, ViewUrgent}
+use Rattle.ring.specs.declared.Asset.{Asset}
+use Rattle.walk.specs.declared.Answer.{Answer}
 
 -- ---- through a view
 
 place : Bor (List ℤ) → Place
 place w = record { address = w.ref_ptr; name = 0 }
 
-pub view_point : (d : Sheet) (i : ℕ) (r : Pointed) → ViewPoints d i r → PointAnswers d.words.now i r
+pub view_point : (d : Sheet) (i : ℕ) (r : Result Asset ℕ) → ViewPoints d i r → PointAnswers d.words.now i r
 view_point d i r a = record { κs = ([], tt); w_at = place d.words; promised = a }
 
-pub view_ring : (p q : Sheet) (j i : ℕ) (g : Bool) (r : Walked) → ViewRings p q j i g r → RingAnswers p.words.now q.words.now j i g r
+pub view_ring : (p q : Sheet) (j i : ℕ) (g : Bool) (r : Result Answer ℕ) → ViewRings p q j i g r → RingAnswers p.words.now q.words.now j i g r
 view_ring p q j i g r a = record { κs = ([], ([], tt)); p_at = place p.words; q_at = place q.words; promised = a }
 
 -- what is lent stands at any place
@@ -109,7 +110,7 @@ pub open_head : (w : List ℤ) (h : Head) → OpenHead w h → HeadAnswers w h
 open_head w h a = record { κs = a.κs; w_at = a.w_at; promised = a.promised }
 
 -- of the words that the view covers which `open` gives: none, where they are no sheet
-pub point_opened : (w : Bor (List ℤ)) (i : ℕ) (r : Pointed) → PointOpened w i r → PointAnswers (open_of w).covers i r
+pub point_opened : (w : Bor (List ℤ)) (i : ℕ) (r : Result Asset ℕ) → PointOpened w i r → PointAnswers (open_of w).covers i r
 point_opened w i r a = record { κs = a.κs; w_at = place w; promised = a.promised }
 
 -- ---- slots kept in an array: the first so many are lent, the others are as they were

@@ -12,6 +12,7 @@
 --     country_visits     so of a country of which each chamber is kept by one province, each ring pair is in the pages of exactly one province, and nothing else is in any
 --     country_had        such a country and such a province can be had.  chamber_settled: and a chamber that is settled in it, though a pump house and a chamber stand outside
 -- Assumes nothing.
+use Rattle.std.specs.Prelude.{Result}
 use mathlib.Core.Path.{◌≡◌, refl, sym, ap, ap₂, subst, ◌∙◌}
 use mathlib.Core.Bool.{Bool, true, false}
 use mathlib.Core.Logic.{◌↔◌, inl, ⊎_elim}
@@ -51,10 +52,10 @@ use Rattle.ring.specs.Lent.{need}
 use Rattle.ring.specs.Numbers.{grid_no}
 use Rattle.ring.specs.Answers.{walked_clear}
 use Rattle.ring.specs.declared.Paged.{Paged}
-use Rattle.ring.specs.declared.Walked.{Walked}
 use Rattle.demands.specs.Promises.{RingAnswers, TermsAnswers}
 use Rattle.demands.proofs.Demand2.{WellFormed, Whose, pages_list, contractor_ring, clear_iff}
 use Rattle.demands.proofs.Worlds.{document_p, document_q, p_opens, q_opens}
+use Rattle.walk.specs.declared.Answer.{Answer}
 
 -- A country: its pump houses and its chambers, by ids that ascend, as many as there may be.
 pub record Country (pumps chambers : List Point) : Type 0 where
@@ -121,7 +122,7 @@ module _ (pumps chambers : List Point) (country : Country pumps chambers) (g : B
     -- The ring walk of the two records, at positions j' and i' of the province's sheets, is clear exactly if they are a ring pair of the country, where their circle lies in R.
     -- [Q1]
     pub border_walk : (j i j' i' : ℕ) → j' < points Q → i' < points P → point_at chambers j ≡ point_at (points_of Q) j' → point_at pumps i ≡ point_at (points_of P) i' → circle_in (profile_of g) r (spot_at chambers j) (spot_at pumps i) ≡ true
-        → grid_no g P Q ≡ 0 → (a : Walked) → RingAnswers P Q j' i' g a → walked_clear a ≡ ring_pair_by (profile_of g) pumps chambers j i
+        → grid_no g P Q ≡ 0 → (a : Result Answer ℕ) → RingAnswers P Q j' i' g a → walked_clear a ≡ ring_pair_by (profile_of g) pumps chambers j i
     border_walk j i j' i' j'-in i'-in same_q same_p c forms a x =
         clear_iff P Q province.p_opens province.q_opens j' j'-in i' i'-in g forms a x
         ∙ ap₂ (λ (s t : List Point). ring_pair_by (profile_of g) s t j' i') province.pumps_are province.chambers_are

@@ -18,6 +18,7 @@ use Prim.Native.Nat.{ℕ, ◌≤◌}
 use lib.IntN.{ℤ, pos}
 use lib.ListN.{length, take, drop, take-append-drop}
 use borrow.Author.Tests.{le-ltb}
+use Rattle.std.specs.Prelude.{Result, Ok, Err}
 use Rattle.words.specs.First.{given, first, answer}
 use Rattle.words.proofs.FirstLaws.{answer_refused, answer_number}
 use denote.Ref.{Bor}
@@ -40,11 +41,7 @@ use Rattle.ring.specs.Page.{page_no, page_refused, page_bits}
 use Rattle.ring.specs.Own.{own_no, own_bits}
 use Rattle.ring.specs.Partners.{partners_no, partners_refused, partners_bits}
 use Rattle.ring.specs.declared.Head.{Head}
-use Rattle.ring.specs.declared.Pointed.{Pointed}
-use Rattle.ring.specs.declared.Pointed.TheVariants as pointing
 use Rattle.ring.specs.declared.Filtered.{Filtered}
-use Rattle.ring.specs.declared.Walked.{Walked}
-use Rattle.ring.specs.declared.Walked.TheVariants as walking
 use Rattle.ring.specs.declared.Paged.{Paged}
 use Rattle.ring.specs.declared.Partnered.{Partnered}
 use Rattle.ring.proofs.HeadLaws.{head_number, head_shut}
@@ -63,10 +60,6 @@ use Rattle.view.proofs.Once as of-view
 use Rattle.pack.specs.Pack.{pack_no}
 use Rattle.pack.proofs.ReturnTrip.{refused_same}
 use Rattle.book.specs.declared.Book.{Book}
-use Rattle.book.specs.declared.Begun.{Begun}
-use Rattle.book.specs.declared.Begun.TheVariants as begun
-use Rattle.book.specs.declared.Next.{Next}
-use Rattle.book.specs.declared.Next.TheVariants as next
 use Rattle.book.specs.declared.Asked.{Asked}
 use Rattle.book.specs.declared.Taken.{Taken}
 use Rattle.book.specs.declared.TakenArray.{TakenArray}
@@ -76,7 +69,6 @@ use Rattle.book.proofs.Once as of_book
 use Rattle.depot.specs.declared.Form.{Form}
 use Rattle.depot.specs.declared.Made.{Made}
 use Rattle.depot.specs.declared.Depot.{Depot}
-use Rattle.depot.specs.declared.Outcome.TheVariants as outcome
 use Rattle.depot.specs.declared.Stored.{Stored}
 use Rattle.depot.specs.Forms.{forms_no}
 use Rattle.depot.specs.Depot.{store_no, outcome_no}
@@ -84,8 +76,6 @@ use Rattle.depot.proofs.TakeLaws as of-depot
 use Rattle.book.proofs.TakeLaws as of-take
 use Rattle.marker.specs.Mark.{mark_no, number_of, Middle, MiddleAt}
 use Rattle.marker.specs.declared.Marker.{Marker}
-use Rattle.marker.specs.declared.Marked.{Marked}
-use Rattle.marker.specs.declared.Marked.TheVariants as marking
 use Rattle.shortest.specs.declared.Shortlist.{Shortlist}
 use Rattle.shortest.specs.Answer.{short_no, short_refused}
 use Rattle.shortest.proofs.AnswerLaws as of-shortest
@@ -110,6 +100,8 @@ use Rattle.runs.proofs.Once as of-runs
 use Rattle.runs.proofs.Meaning as of-run
 use Rattle.demands.specs.Promises.{FormsAnswers, StoreAnswers, OpenAnswers, HeadAnswers, PointAnswers, FilterAnswers, RingAnswers, PageAnswers, ShortAnswers, PackAnswers, MarkAnswers, BeginAnswers, NextAnswers, TakeAnswers, TakeArrayAnswers, RunAnswers, RunArrayAnswers, ViewOpens, PartnersAnswers, NearestAnswers, NearFilterAnswers, OwnAnswers, PairsAnswers, OwnPairsAnswers, CountAnswers, OwnCountAnswers, BusyAnswers, PumpAnswers, UrgentAnswers}
 use Rattle.demands.proofs.Alike.{take_array, take_array_slots, run_array_lem, run_array_slots}
+use Rattle.ring.specs.declared.Asset.{Asset}
+use Rattle.walk.specs.declared.Answer.{Answer}
 
 -- the number k is one of refusal
 abbrev pub Refuses : ℕ → Type 0
@@ -163,8 +155,8 @@ pack_no_lem form n points order ed out r out' a = (a.promised.0, λ ne. refused_
 -- ---- the point reader, 1 to 8, then 9
 
 -- [F10]
-pub point_no_lem : (w : List ℤ) (i : ℕ) (r : Pointed) → PointAnswers w i r
-    → (pointed_no r ≡ point_no w i) × (Refuses (point_no w i) → r ≡ pointing.Refused (point_no w i))
+pub point_no_lem : (w : List ℤ) (i : ℕ) (r : Result Asset ℕ) → PointAnswers w i r
+    → (pointed_no r ≡ point_no w i) × (Refuses (point_no w i) → r ≡ Err (point_no w i))
 point_no_lem w i r a = (ap pointed_no a.promised ∙ of-ring.ring_point_no w i, λ ne. a.promised ∙ sym (point_refused w i (point_no w i) refl ne))
 
 -- ---- the filter walk, 1 to 8 for P, then for Q, then 9, then 24: refused, both counts are 0, and the lent words are as they were
@@ -182,8 +174,8 @@ filter_no_lem P Q j w r w' a = (
 -- ---- the ring walk, 1 to 8 for P, then for Q, then 9
 
 -- [A13, F10]
-pub ring_no_lem : (P Q : List ℤ) (j i : ℕ) (g : Bool) (r : Walked) → RingAnswers P Q j i g r
-    → (walked_no r ≡ ring_no P Q j i g) × (Refuses (ring_no P Q j i g) → r ≡ walking.Refused (ring_no P Q j i g))
+pub ring_no_lem : (P Q : List ℤ) (j i : ℕ) (g : Bool) (r : Result Answer ℕ) → RingAnswers P Q j i g r
+    → (walked_no r ≡ ring_no P Q j i g) × (Refuses (ring_no P Q j i g) → r ≡ Err (ring_no P Q j i g))
 ring_no_lem P Q j i g r a = (ap walked_no a.promised ∙ of-ring.ring_walk_no P Q j i g, λ ne. a.promised ∙ sym (ring_refused P Q j i g (ring_no P Q j i g) refl ne))
 
 -- ---- the page request, 1 to 8 for P, then for Q, then 27, then 26, then 29, then 9, then 10, then 21, then 24: refused, the page is all zero, and so is its count, and the lent words
@@ -334,27 +326,27 @@ urgent_no_lem P Q o ps qs ask w r w' a =
 
 -- ---- begin, 3, then 21
 
-only_begun : (k : ℕ) (r : Begun) → begun_no r ≡ k → Refuses k → r ≡ begun.Refused k
+only_begun : (k : ℕ) (r : Result Book ℕ) → begun_no r ≡ k → Refuses k → r ≡ Err k
 unfolding begun_no
-only_begun k (begun.Open b) e ne = absurd (ne (sym e))
-only_begun k (begun.Refused n) e ne = ap begun.Refused e
+only_begun k (Ok b) e ne = absurd (ne (sym e))
+only_begun k (Err n) e ne = ap Err e
 
 -- [N24, T9, T10, J12, J13, Y13, U13, F10]
-pub begin_no_lem : (s : Source) (r : Begun) → BeginAnswers s r → (begun_no r ≡ begin_no s) × (Refuses (begin_no s) → r ≡ begun.Refused (begin_no s))
+pub begin_no_lem : (s : Source) (r : Result Book ℕ) → BeginAnswers s r → (begun_no r ≡ begin_no s) × (Refuses (begin_no s) → r ≡ Err (begin_no s))
 begin_no_lem s r a =
     let e : begun_no r ≡ begin_no s = ap begun_no a.promised ∙ of_book.book_begin_no s in
     (e, λ ne. only_begun (begin_no s) r e ne)
 
 -- ---- the next key, 11: the book comes back as it went in
 
-only_next : (k : ℕ) (r : Next) → next_case_no r ≡ k → Refuses k → r ≡ next.Refused k
+only_next : (k : ℕ) (r : Result Key ℕ) → next_case_no r ≡ k → Refuses k → r ≡ Err k
 unfolding next_case_no
-only_next k (next.After key) e ne = absurd (ne (sym e))
-only_next k (next.Refused n) e ne = ap next.Refused e
+only_next k (Ok key) e ne = absurd (ne (sym e))
+only_next k (Err n) e ne = ap Err e
 
 -- [N25, N26, F10]
 pub next_no_lem : (b : Book) (slots : List Pair) (r : Asked) → NextAnswers b slots r
-    → (next_case_no r.next ≡ next_no b (length slots)) × (r.book ≡ b) × (Refuses (next_no b (length slots)) → r.next ≡ next.Refused (next_no b (length slots)))
+    → (next_case_no r.next ≡ next_no b (length slots)) × (r.book ≡ b) × (Refuses (next_no b (length slots)) → r.next ≡ Err (next_no b (length slots)))
 next_no_lem b slots r a =
     let e : next_case_no r.next ≡ next_no b (length slots) = ap (λ (x : Asked). next_case_no x.next) a ∙ of_book.book_next_no b slots in
     (e, ap (λ (x : Asked). x.book) a ∙ of_book.asked_book b slots, λ ne. only_next (next_no b (length slots)) r.next e ne)
@@ -391,7 +383,7 @@ make_no b slots out r out' a =
 
 -- [I14, I15]
 pub store_no_lem : (d : Depot) (slots : List Form) (f : Form) (r : Stored) (slots' : List Form) → StoreAnswers d slots f r slots'
-    → (outcome_no r.outcome ≡ store_no d slots f) × (Refuses (store_no d slots f) → (r.outcome ≡ outcome.Refused (store_no d slots f)) × (r.depot ≡ d) × (slots' ≡ slots))
+    → (outcome_no r.outcome ≡ store_no d slots f) × (Refuses (store_no d slots f) → (r.outcome ≡ Err (store_no d slots f)) × (r.depot ≡ d) × (slots' ≡ slots))
 store_no_lem d slots f r slots' a = (
   ap (λ (x : Stored). outcome_no x.outcome) a.0 ∙ of-depot.stored_no d slots f,
   λ ne. let z = of-depot.not_taken d slots f ne in (ap (λ (x : Stored). x.outcome) a.0 ∙ z.0, ap (λ (x : Stored). x.depot) a.0 ∙ z.1, a.1 ∙ z.2),
@@ -429,15 +421,15 @@ run_array_no P Q v slots len w r w' a =
 
 -- ---- the marker, 5
 
-only_marked : (k : ℕ) (r : Marked) → number_of r ≡ k → Refuses k → r ≡ marking.Refused k
-only_marked k (marking.Refused n) e ne = ap marking.Refused e
-only_marked k (marking.At m) e ne = absurd (ne (sym e))
+only_marked : (k : ℕ) (r : Result Marker ℕ) → number_of r ≡ k → Refuses k → r ≡ Err k
+only_marked k (Err n) e ne = ap Err e
+only_marked k (Ok m) e ne = absurd (ne (sym e))
 
 -- [N34, F10]
-pub mark_no_lem : (ax ay bx by : ℤ) (r : Marked) → MarkAnswers ax ay bx by r
-    → (number_of r ≡ mark_no ax ay bx by) × (Refuses (mark_no ax ay bx by) → r ≡ marking.Refused (mark_no ax ay bx by))
+pub mark_no_lem : (ax ay bx by : ℤ) (r : Result Marker ℕ) → MarkAnswers ax ay bx by r
+    → (number_of r ≡ mark_no ax ay bx by) × (Refuses (mark_no ax ay bx by) → r ≡ Err (mark_no ax ay bx by))
 mark_no_lem ax ay bx by r a = (a.promised.number, λ ne. only_marked (mark_no ax ay bx by) r a.promised.number ne)
 
 -- "doubled, each is exactly the sum of the two coordinates. A zero sum gives positive zero": a marker that is answered is the middle [M2, M3]
-pub mark_middle : (ax ay bx by : ℤ) (m : Marker) → MarkAnswers ax ay bx by (marking.At m) → Middle ax ay bx by m
-mark_middle ax ay bx by m a = subst (λ (k : ℕ). MiddleAt k ax ay bx by (marking.At m)) (sym a.promised.number) a.promised.marker
+pub mark_middle : (ax ay bx by : ℤ) (m : Marker) → MarkAnswers ax ay bx by (Ok m) → Middle ax ay bx by m
+mark_middle ax ay bx by m a = subst (λ (k : ℕ). MiddleAt k ax ay bx by (Ok m)) (sym a.promised.number) a.promised.marker

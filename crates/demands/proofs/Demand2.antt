@@ -27,6 +27,7 @@
 --     length_lent        where pack answers 0, it was lent exactly as many words as a caller is told of n points
 --     return_trip        pack, then open, gives the same points back, in the form that was asked for
 -- Assumes nothing. [O6]
+use Rattle.std.specs.Prelude.{Result, Ok}
 use Rattle.plane.proofs.ProfileLaws.{circle_lawful, profile_lawful}
 use Rattle.plane.specs.Profile.{circle, profile_of}
 use mathlib.Core.Path.{◌≡◌, refl, sym, ap, ap₂, subst, ◌∙◌}
@@ -91,11 +92,7 @@ use Rattle.ring.specs.Answers.{asset_of, kept_for, filtered_to, walked_clear}
 use Rattle.ring.specs.Page.{page_no, source_of, page_given}
 use Rattle.ring.specs.Own.{own_no}
 use Rattle.ring.specs.Partners.{partners_count, partners_given}
-use Rattle.ring.specs.declared.Pointed.{Pointed}
-use Rattle.ring.specs.declared.Pointed.TheVariants.{At}
 use Rattle.ring.specs.declared.Filtered.{Filtered}
-use Rattle.ring.specs.declared.Walked.{Walked}
-use Rattle.ring.specs.declared.Walked.TheVariants.{Done}
 use Rattle.ring.specs.declared.Paged.{Paged}
 use Rattle.pack.proofs.PackLaws as of-lent
 use Rattle.ring.specs.declared.Partnered.{Partnered}
@@ -125,6 +122,7 @@ use Rattle.demands.specs.Promises.{OpenAnswers, PointAnswers, FilterAnswers, Rin
 use Rattle.demands.proofs.Demand1.{filter_no_lem}
 use Rattle.demands.proofs.Lent.{walk_left, front_at, front_kept, front_card}
 use Rattle.demands.proofs.ByRow.{InTurn, in_turn}
+use Rattle.ring.specs.declared.Asset.{Asset}
 
 -- the words are a sheet: "every well-formed sheet"
 abbrev pub WellFormed : List ℤ → Type 0
@@ -199,32 +197,32 @@ module _ (P Q : List ℤ) (p_opens : WellFormed P) (q_opens : WellFormed Q) wher
 
     -- of either profile: of the street grid for sheets of form 1
     module _ (i : ℕ) (i_in : i < points P) (g : Bool) (forms : grid_no g P Q ≡ 0) where
-      ring_is : (r : Walked) → RingAnswers P Q j i g r → r ≡ Done (pair_walk_by (profile_of g) P Q j i)
+      ring_is : (r : Result Answer ℕ) → RingAnswers P Q j i g r → r ≡ Ok (pair_walk_by (profile_of g) P Q j i)
       unfolding ring_no
       ring_is r a =
           a.promised
           ∙ sym (ring_given P Q j i g (pair_walk_by (profile_of g) P Q j i) (sheets_open P Q _ sheets ∙ first_passes (grid_no g P Q) _ forms ∙ first_passes (position_no Q j) _ (ring_position_in Q j j_in) ∙ first_last _ ∙ ring_position_in P i i_in) refl)
 
-      answer : (s : Answer) → RingAnswers P Q j i g (Done s) → s ≡ pair_walk_by (profile_of g) P Q j i
-      answer s a = let z = ring_is (Done s) a in cc
+      answer : (s : Answer) → RingAnswers P Q j i g (Ok s) → s ≡ pair_walk_by (profile_of g) P Q j i
+      answer s a = let z = ring_is (Ok s) a in cc
 
       -- "(q, p) is a ring pair when no other record of P or Q blocks it": the ring walk is clear exactly then. [W16]
-      pub clear_iff : (r : Walked) → RingAnswers P Q j i g r → walked_clear r ≡ ring_pair_by (profile_of g) (points_of P) (points_of Q) j i
+      pub clear_iff : (r : Result Answer ℕ) → RingAnswers P Q j i g r → walked_clear r ≡ ring_pair_by (profile_of g) (points_of P) (points_of Q) j i
       clear_iff r a = ap walked_clear (ring_is r a) ∙ of-walk.pair_clear (profile_of g) (profile_lawful g) P Q (facts P p_opens) (facts Q q_opens) j i j_in i_in
 
       -- "blocked by a point (its set and position)": the record that it names blocks, and so stands at the place of neither end. [W16, E2]
-      pub point_blocks : (s : Answer) (x : Blocker) → RingAnswers P Q j i g (Done s) → s.hit ≡ PointHit x → BlocksPair (profile_of g) P Q j i x.set x.position
+      pub point_blocks : (s : Answer) (x : Blocker) → RingAnswers P Q j i g (Ok s) → s.hit ≡ PointHit x → BlocksPair (profile_of g) P Q j i x.set x.position
       point_blocks s x a e = of-walk.pair_point (profile_of g) (profile_lawful g) P Q (facts P p_opens) (facts Q q_opens) j i x (ap (λ (z : Answer). z.hit) (sym (answer s a)) ∙ e)
 
       -- "or by a box side (its set and node number)"; "Where a box side blocks, the answer shall also name the side, the first that qualifies of left, bottom, right,
       -- top": of the node's box that it names, both corners of the side that it names lie strictly inside, those of no side before it do, and on it stands such a record.
       -- [W14, E1, A5]
-      pub side_blocks : (s : Answer) (x : Edge) → RingAnswers P Q j i g (Done s) → s.hit ≡ Side x → BlocksPairBySide (profile_of g) P Q j i x.set x.node x.side
+      pub side_blocks : (s : Answer) (x : Edge) → RingAnswers P Q j i g (Ok s) → s.hit ≡ Side x → BlocksPairBySide (profile_of g) P Q j i x.set x.node x.side
       side_blocks s x a e = of-walk.pair_side (profile_of g) (profile_lawful g) P Q (facts P p_opens) (facts Q q_opens) j i x (ap (λ (z : Answer). z.hit) (sym (answer s a)) ∙ e)
 
       -- "Q is walked first, then P if Q is clear; the counts add up": each of the two opens at most the nodes of its sheet, and the answer's count is at most the nodes of both.
       -- [W22]
-      pub ring_opened_at_most_m : (s : Answer) → RingAnswers P Q j i g (Done s) → ((over_q (profile_of g) P Q j i).opened ≤ nodes Q) × ((over_p (profile_of g) P Q j i).opened ≤ nodes P) × (s.opened ≤ nodes P + nodes Q)
+      pub ring_opened_at_most_m : (s : Answer) → RingAnswers P Q j i g (Ok s) → ((over_q (profile_of g) P Q j i).opened ≤ nodes Q) × ((over_p (profile_of g) P Q j i).opened ≤ nodes P) × (s.opened ≤ nodes P + nodes Q)
       ring_opened_at_most_m s a =
           (of-walk.walk_ring_opened_at_most_m (profile_of g) (profile_lawful g) 1 Q (facts Q q_opens) (spot_of Q j) (spot_of P i), of-walk.walk_ring_opened_at_most_m (profile_of g) (profile_lawful g) 0 P (facts P p_opens) (spot_of Q j) (spot_of P i), subst (λ (x : Answer). x.opened ≤ nodes P + nodes Q) (sym (answer s a)) (of-walk.pair_opened (profile_of g) (profile_lawful g) P Q (facts P p_opens) (facts Q q_opens) j i))
 
@@ -234,7 +232,7 @@ module _ (P Q : List ℤ) (p_opens : WellFormed P) (q_opens : WellFormed Q) wher
     keeps_are i i_in w enough f w' a = sym (bits_are w enough f w' a i i_in)
 
     -- A ring pair of the circle is a kept position whose ring walk is clear, and no other is.
-    pub pair_exact : (i : ℕ) → i < points P → (w : List ℕ) → need P ≤ length w → (f : Filtered) (w' : List ℕ) (r : Walked) → FilterAnswers P Q j w f w' → RingAnswers P Q j i false r
+    pub pair_exact : (i : ℕ) → i < points P → (w : List ℕ) → need P ≤ length w → (f : Filtered) (w' : List ℕ) (r : Result Answer ℕ) → FilterAnswers P Q j w f w' → RingAnswers P Q j i false r
         → ring_pair (points_of P) (points_of Q) j i ≡ (kept w' i && walked_clear r)
     pair_exact i i_in w enough f w' r a b =
         of-walk.walk_pair_exact circle circle_lawful P Q (facts P p_opens) (facts Q q_opens) j i j_in i_in (need P) (words_enough (points P))
@@ -257,7 +255,7 @@ module _ (P Q : List ℤ) (p_opens : WellFormed P) (q_opens : WellFormed Q) wher
       ∙ ap₂ (λ (n m : ℕ). list_by (ring_pair (points_of P) (points_of Q)) (pair_at (points_of P) (points_of Q)) n m) (sym (length_points P)) (sym (length_points Q))
 
   -- of the filter walk, for each chamber j lent the words `w j`, which are `w' j` after it [W8]
-  pub filter_list : (w : ℕ → List ℕ) → ((j : ℕ) → need P ≤ length (w j)) → (f : ℕ → Filtered) (w' : ℕ → List ℕ) (r : ℕ → ℕ → Walked)
+  pub filter_list : (w : ℕ → List ℕ) → ((j : ℕ) → need P ≤ length (w j)) → (f : ℕ → Filtered) (w' : ℕ → List ℕ) (r : ℕ → ℕ → Result Answer ℕ)
       → ((j : ℕ) → j < points Q → FilterAnswers P Q j (w j) (f j) (w' j)) → ((j i : ℕ) → j < points Q → i < points P → RingAnswers P Q j i false (r j i))
       → list_by (λ j i. kept (w' j) i && walked_clear (r j i)) (pair_at (points_of P) (points_of Q)) (points P) (points Q) ≡ ring_list (points_of P) (points_of Q)
   filter_list w enough f w' r a b =
@@ -672,11 +670,11 @@ module _ (f n : ℕ) (p order : List ℤ) (ed : ℕ) (out : List ℤ) (out' : Li
   return_trip k a = (a.promised ∙ returned.opens, returned.same_form, returned.same_points, returned.same_number, returned.same_edition)
 
   -- So the point reader gives back each record that was handed to pack. [S25]
-  pub return_point : (i : ℕ) → i < n → (r : Pointed) → PointAnswers out' i r → r ≡ At (asset_of p i)
+  pub return_point : (i : ℕ) → i < n → (r : Result Asset ℕ) → PointAnswers out' i r → r ≡ Ok (asset_of p i)
   unfolding point_no points_in asset_of spot_of
   return_point i h r a =
       let inside : i < points out' = omega (arith, returned.same_number) in
       let same : point_of out' i ≡ point_of p i = sym (point_at_lem out' i inside) ∙ ap (λ (l : List Point). point_at l i) returned.same_points ∙ at_tab n (point_of p) _ i h in
       a.promised
       ∙ sym (point_given out' i (asset_of out' i) (first_passes (sheet_no out') _ returned.opens ∙ first_last _ ∙ ring_position_in out' i inside) refl)
-      ∙ ap (λ (x : Point). At record { id = x.id; x = x.spot.x; y = x.spot.y }) same
+      ∙ ap (λ (x : Point). Ok record { id = x.id; x = x.spot.x; y = x.spot.y }) same

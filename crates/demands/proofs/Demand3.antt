@@ -28,6 +28,7 @@ use lib.IntN.{ℤ}
 use lib.ListN.{length, take, drop, replicate, take-append-drop, length-replicate}
 use lib.Dec.{eqb}
 use borrow.Author.Tests.{eq-eqb, eqb-true}
+use Rattle.std.specs.Prelude.{Ok}
 use Rattle.integers.proofs.Bools.{decide, clash}
 use Rattle.words.specs.Range.{last_id}
 use Rattle.plane.specs.Point.{Point, id_at, spot_at}
@@ -57,7 +58,6 @@ use Rattle.ring.specs.Page.{source_of, page_given, page_answer, page_bits}
 use Rattle.ring.specs.Own.{own_answer, own_bits}
 use Rattle.ring.specs.declared.Paged.{Paged}
 use Rattle.book.specs.declared.Book.{Book}
-use Rattle.book.specs.declared.Next.TheVariants as next
 use Rattle.book.specs.declared.Asked.{Asked}
 use Rattle.book.specs.declared.Taken.{Taken}
 use Rattle.book.specs.Rules.{last_key, asked, take_no, taken, taken_slots}
@@ -196,7 +196,7 @@ module _ (w : Editions) where
   closed_all h e = of-story.book_closed_all world_of (reached h) e
 
   -- "Its next key is its last pair." [K4]
-  pub next_is_last : {b : Book} {s : List Pair} → History w b s → (r : Asked) → NextAnswers b s r → r.next ≡ next.After (last_or start (take b.held s))
+  pub next_is_last : {b : Book} {s : List Pair} → History w b s → (r : Asked) → NextAnswers b s r → r.next ≡ Ok (last_or start (take b.held s))
   next_is_last {b} {s} h r a = ap (λ (x : Asked). x.next) a ∙ of-slice.book_next_is_last b s (held_prefix h).0
 
   -- ---- a book's own page

@@ -9,6 +9,7 @@
 --     near_filter_pairs  a pump house is a ring partner of the chamber exactly if the lent words keep it and its ring walk is clear: these pairs are the list's
 --     near_opened        it opens at most the nodes of P
 -- Assumes nothing.
+use Rattle.std.specs.Prelude.{Result}
 use Rattle.ring.proofs.PageLaws.{circle_any_form}
 use Rattle.plane.proofs.ProfileLaws.{circle_lawful}
 use Rattle.plane.specs.Profile.{circle}
@@ -36,7 +37,6 @@ use Rattle.outward.specs.Claims.{NotAfter, times}
 use Rattle.outward.proofs.Meaning as of-near
 use Rattle.walk.proofs.Meaning as of-walk
 use Rattle.ring.specs.declared.Filtered.{Filtered}
-use Rattle.ring.specs.declared.Walked.{Walked}
 use Rattle.ring.specs.Lent.{need}
 use Rattle.ring.specs.Answers.{filtered_to, walked_clear}
 use Rattle.nearest.specs.declared.Found.{Found}
@@ -46,6 +46,7 @@ use Rattle.demands.specs.Promises.{RingAnswers, NearestAnswers, NearFilterAnswer
 use Rattle.demands.proofs.Demand1.{near_filter_no_lem}
 use Rattle.demands.proofs.Lent.{front_kept, near_left}
 use Rattle.demands.proofs.Demand2.{WellFormed, sheets, clear_iff, made_list}
+use Rattle.walk.specs.declared.Answer.{Answer}
 
 -- the order in which the pump houses stand for a place: by squared distance to it, on a tie by position
 module _ (P : List ℤ) (opens : WellFormed P) (q : Spot) where
@@ -123,7 +124,7 @@ module _ (P Q : List ℤ) (p_opens : WellFormed P) (q_opens : WellFormed Q) (id 
 
 -- "Pairs made with its kept set equal the list", as lists: of the filter that goes nearest first, asked for each chamber j with words `w j`, and the ring walk. [G5]
 pub near_filter_list : (P Q : List ℤ) (p_opens : WellFormed P) (q_opens : WellFormed Q) (ws : List ℕ) → points P + nodes P ≤ length ws → (w : ℕ → List ℕ) → ((j : ℕ) → need P ≤ length (w j))
-    → (f : ℕ → Filtered) (t w' : ℕ → List ℕ) (r : ℕ → ℕ → Walked)
+    → (f : ℕ → Filtered) (t w' : ℕ → List ℕ) (r : ℕ → ℕ → Result Answer ℕ)
     → ((j : ℕ) → j < points Q → NearFilterAnswers P Q (id_at (points_of Q) j) ws (w j) (f j) (t j) (w' j)) → ((j i : ℕ) → j < points Q → i < points P → RingAnswers P Q j i false (r j i))
     → list_by (λ j i. kept (w' j) i && walked_clear (r j i)) (pair_at (points_of P) (points_of Q)) (points P) (points Q) ≡ ring_list (points_of P) (points_of Q)
 near_filter_list P Q p_opens q_opens ws enough w words f t w' r a b =

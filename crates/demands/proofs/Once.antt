@@ -10,15 +10,14 @@ use Prim.Native.Nat.{ℕ}
 use lib.IntN.{ℤ}
 use lib.ListN.{length}
 use denote.Ref.{Bor}
+use Rattle.std.specs.Prelude.{Result}
 use Rattle.list.specs.declared.Key.{Key}
 use Rattle.list.specs.declared.Pair.{Pair}
 use Rattle.list.specs.declared.Request.{Request}
 use Rattle.list.specs.declared.Source.{Source}
 use Rattle.list.specs.declared.Page.{Page}
 use Rattle.ring.specs.declared.Head.{Head}
-use Rattle.ring.specs.declared.Pointed.{Pointed}
 use Rattle.ring.specs.declared.Filtered.{Filtered}
-use Rattle.ring.specs.declared.Walked.{Walked}
 use Rattle.ring.specs.declared.Paged.{Paged}
 use Rattle.ring.specs.declared.Partnered.{Partnered}
 use Rattle.ring.specs.declared.Placed.{Placed}
@@ -26,7 +25,6 @@ use Rattle.view.specs.declared.Sheet.{Sheet}
 use Rattle.view.specs.declared.Opened.{Opened}
 use Rattle.view.specs.Shown.{shown}
 use Rattle.book.specs.declared.Book.{Book}
-use Rattle.book.specs.declared.Begun.{Begun}
 use Rattle.book.specs.declared.Asked.{Asked}
 use Rattle.book.specs.declared.Taken.{Taken}
 use Rattle.book.specs.declared.TakenArray.{TakenArray}
@@ -36,7 +34,6 @@ use Rattle.depot.specs.declared.MadeArray.{MadeArray}
 use Rattle.depot.specs.declared.Depot.{Depot}
 use Rattle.depot.specs.declared.Stored.{Stored}
 use Rattle.depot.specs.declared.StoredArray.{StoredArray}
-use Rattle.marker.specs.declared.Marked.{Marked}
 use Rattle.shortest.specs.declared.Shortlist.{Shortlist}
 use Rattle.nearest.specs.declared.Found.{Found}
 use Rattle.runs.specs.declared.Run.{Run}
@@ -62,6 +59,9 @@ use Rattle.pack.proofs.Once as of-pack
 use Rattle.marker.proofs.Once as of-marker
 use Rattle.runs.proofs.Once as of-runs
 use Rattle.demands.specs.Promises.{LengthAnswers, PlaceAnswers, FormsAnswers, DepotBegins, StoreAnswers, FormsArrayAnswers, StoreArrayAnswers, OpenAnswers, HeadAnswers, PointAnswers, FilterAnswers, RingAnswers, PageAnswers, ShortAnswers, PackAnswers, MarkAnswers, BeginAnswers, NextAnswers, TakeAnswers, NextArrayAnswers, TakeArrayAnswers, RunAnswers, RunArrayAnswers, ViewOpens, ViewPoints, ViewFilters, ViewRings, ViewPages, OpenHead, PointOpened, PartnersAnswers, ViewPartners, NearestAnswers, NearFilterAnswers, OwnAnswers, ViewOwnPages, ViewRuns, ViewShortest, ViewNearest, ViewNearFilters, PairsAnswers, OwnPairsAnswers, CountAnswers, OwnCountAnswers, ViewMany, ViewOwnMany, ViewCounts, ViewOwnCounts, BusyAnswers, PumpAnswers, UrgentAnswers, ViewBusiest, ViewPumps, ViewUrgent}
+use Rattle.marker.specs.declared.Marker.{Marker}
+use Rattle.ring.specs.declared.Asset.{Asset}
+use Rattle.walk.specs.declared.Answer.{Answer}
 
 -- ---- ring
 
@@ -71,13 +71,13 @@ open_once w r r' a b = of-ring.ring_open_once w r r' a.promised b.promised
 pub head_once : (w : List ℤ) (r r' : Head) → HeadAnswers w r → HeadAnswers w r' → r ≡ r'
 head_once w r r' a b = of-ring.ring_head_once w r r' a.promised b.promised
 
-pub point_once : (w : List ℤ) (i : ℕ) (r r' : Pointed) → PointAnswers w i r → PointAnswers w i r' → r ≡ r'
+pub point_once : (w : List ℤ) (i : ℕ) (r r' : Result Asset ℕ) → PointAnswers w i r → PointAnswers w i r' → r ≡ r'
 point_once w i r r' a b = of-ring.ring_point_once w i r r' a.promised b.promised
 
 pub place_once : (w : List ℤ) (id : ℕ) (r r' : Placed) → PlaceAnswers w id r → PlaceAnswers w id r' → r ≡ r'
 place_once w id r r' a b = of-position.ring_place_once w id r r' a.promised b.promised
 
-pub ring_once : (P Q : List ℤ) (j i : ℕ) (g : Bool) (r r' : Walked) → RingAnswers P Q j i g r → RingAnswers P Q j i g r' → r ≡ r'
+pub ring_once : (P Q : List ℤ) (j i : ℕ) (g : Bool) (r r' : Result Answer ℕ) → RingAnswers P Q j i g r → RingAnswers P Q j i g r' → r ≡ r'
 ring_once P Q j i g r r' a b = of-ring.ring_walk_once P Q j i g r r' a.promised b.promised
 
 -- those that are lent words: one answer, and one final state of the words
@@ -118,13 +118,13 @@ length_once n r r' a b = of-pack.length_call_once n r r' a.promised b.promised
 -- ---- marker
 
 -- [M2]
-pub mark_once : (ax ay bx by : ℤ) (r r' : Marked) → MarkAnswers ax ay bx by r → MarkAnswers ax ay bx by r' → r ≡ r'
+pub mark_once : (ax ay bx by : ℤ) (r r' : Result Marker ℕ) → MarkAnswers ax ay bx by r → MarkAnswers ax ay bx by r' → r ≡ r'
 mark_once ax ay bx by r r' a b = of-marker.marker_call_once ax ay bx by r r' a.promised b.promised
 
 -- ---- book: one answer with the book handed back in it, and one final state of the slots
 
 -- [K8]
-pub begin_once : (s : Source) (r r' : Begun) → BeginAnswers s r → BeginAnswers s r' → r ≡ r'
+pub begin_once : (s : Source) (r r' : Result Book ℕ) → BeginAnswers s r → BeginAnswers s r' → r ≡ r'
 begin_once s r r' a b = of_book.book_begin_once s r r' a.promised b.promised
 
 pub next_once : (b : Book) (slots : List Pair) (r r' : Asked) → NextAnswers b slots r → NextAnswers b slots r' → r ≡ r'
@@ -194,13 +194,13 @@ urgent_once P Q o ps qs ask w r r' t t' a b = (a.promised.0 ∙ sym b.promised.0
 pub view_open_once : (w : Bor (List ℤ)) (r r' : Opened) → ViewOpens w r → ViewOpens w r' → shown r ≡ shown r'
 view_open_once w r r' x y = of-view.open_through_once w r r' x y
 
-pub view_point_once : (d : Sheet) (i : ℕ) (r r' : Pointed) → ViewPoints d i r → ViewPoints d i r' → r ≡ r'
+pub view_point_once : (d : Sheet) (i : ℕ) (r r' : Result Asset ℕ) → ViewPoints d i r → ViewPoints d i r' → r ≡ r'
 view_point_once d i r r' x y = of-view.point_through_once d d i r r' refl x y
 
 pub view_filter_once : (p q : Sheet) (j : ℕ) (w : List ℕ) (r r' : Filtered) (t t' : List ℕ) → ViewFilters p q j w r t → ViewFilters p q j w r' t' → (r ≡ r') × (t ≡ t')
 view_filter_once p q j w r r' t t' x y = of-view.filter_through_once p p q q j w r r' t t' refl refl x y
 
-pub view_ring_once : (p q : Sheet) (j i : ℕ) (g : Bool) (r r' : Walked) → ViewRings p q j i g r → ViewRings p q j i g r' → r ≡ r'
+pub view_ring_once : (p q : Sheet) (j i : ℕ) (g : Bool) (r r' : Result Answer ℕ) → ViewRings p q j i g r → ViewRings p q j i g r' → r ≡ r'
 view_ring_once p q j i g r r' x y = of-view.ring_through_once p p q q j i g r r' refl refl x y
 
 pub view_page_once : (p q : Sheet) (o : List ℕ) (ask : Request) (w : List ℕ) (r r' : Paged) (t t' : List ℕ) → ViewPages p q o ask w r t → ViewPages p q o ask w r' t' → (r ≡ r') × (t ≡ t')
@@ -250,5 +250,5 @@ view_urgent_once p q o ps qs ask w r r' t t' x y = (x.0 ∙ sym y.0, x.1 ∙ sym
 pub open_head_once : (w : List ℤ) (r r' : Head) → OpenHead w r → OpenHead w r' → r ≡ r'
 open_head_once w r r' a b = of-ring.ring_head_once w r r' a.promised b.promised
 
-pub point_opened_once : (w : Bor (List ℤ)) (i : ℕ) (r r' : Pointed) → PointOpened w i r → PointOpened w i r' → r ≡ r'
+pub point_opened_once : (w : Bor (List ℤ)) (i : ℕ) (r r' : Result Asset ℕ) → PointOpened w i r → PointOpened w i r' → r ≡ r'
 point_opened_once w i r r' a b = of-view.point_opened_through_once w i r r' a.promised b.promised

@@ -14,6 +14,7 @@ use prog.Routine.{Routine}
 use types.Logic.{Logic}
 use contract.Lifetimes.{Lfts}
 use contract.Monad.{Fun, fact}
+use Rattle.std.specs.Prelude.{Result, Ok, Err}
 use Rattle.words.specs.Word.{num}
 use Rattle.words.specs.First.{answer}
 use Rattle.words.proofs.FirstLaws.{answer_given, answer_number}
@@ -29,29 +30,21 @@ use Rattle.walk.specs.declared.Hit.TheVariants.{Clear, Point, Side}
 use Rattle.ring.specs.Numbers.{point_no, ring_no}
 use Rattle.ring.specs.Answers.{head_of, pointed, pointed_no, walked, walked_no}
 use Rattle.ring.specs.declared.Head.{Head}
-use Rattle.ring.specs.declared.Pointed.{Pointed}
-use Rattle.ring.specs.declared.Pointed.TheVariants as pointing
 use Rattle.ring.specs.declared.Filtered.{Filtered}
-use Rattle.ring.specs.declared.Walked.{Walked}
-use Rattle.ring.specs.declared.Walked.TheVariants as walking
 use Rattle.ring.specs.declared.Paged.{Paged}
 use Rattle.ring.specs.declared.Partnered.{Partnered}
 use Rattle.ring.specs.declared.Placed.{Placed}
 use Rattle.ring.proofs.Once as of-ring
 use Rattle.book.specs.declared.Book.{Book}
-use Rattle.book.specs.declared.Begun.{Begun}
-use Rattle.book.specs.declared.Begun.TheVariants as begun
-use Rattle.book.specs.declared.Next.{Next}
-use Rattle.book.specs.declared.Next.TheVariants as next
 use Rattle.book.specs.declared.Asked.{Asked}
 use Rattle.book.specs.declared.Taken.{Taken}
 use Rattle.book.specs.Rules.{begin_no, begun_no, begun_for, next_no, next_case_no, asked}
 use Rattle.book.proofs.Once as of_book
+use Rattle.depot.specs.declared.Receipt.{Receipt}
+use Rattle.depot.specs.declared.Receipt.TheVariants.{Issued, Known}
 use Rattle.depot.specs.declared.Form.{Form}
 use Rattle.depot.specs.declared.Made.{Made}
 use Rattle.depot.specs.declared.Depot.{Depot}
-use Rattle.depot.specs.declared.Outcome.{Outcome}
-use Rattle.depot.specs.declared.Outcome.TheVariants as outcome
 use Rattle.depot.specs.declared.Stored.{Stored}
 use Rattle.depot.specs.Depot.{store_no, outcome_no, stored}
 use Rattle.depot.proofs.TakeLaws as of-depot
@@ -66,8 +59,6 @@ use Rattle.many.specs.declared.Wanted.{Wanted}
 use Rattle.many.specs.declared.Counted.{Counted}
 use Rattle.many.specs.declared.Many.{Many}
 use Rattle.marker.specs.Mark.{mark_no, number_of}
-use Rattle.marker.specs.declared.Marked.{Marked}
-use Rattle.marker.specs.declared.Marked.TheVariants as marking
 use Rattle.ffi.specs.declared.HeadAnswer.{HeadAnswer}
 use Rattle.ffi.specs.declared.PointAnswer.{PointAnswer}
 use Rattle.ffi.specs.declared.WalkAnswer.{WalkAnswer}
@@ -108,6 +99,9 @@ use Rattle.ffi.specs.contracts.ring_own_pairs as own-pairs-c
 use Rattle.demands.specs.Promises.{LengthAnswers, PlaceAnswers, FormsAnswers, DepotBegins, StoreAnswers, Place, slice, mut_slice, HeadAnswers, PointAnswers, FilterAnswers, RingAnswers, PageAnswers, ShortAnswers, PackAnswers, MarkAnswers, BeginAnswers, NextAnswers, TakeAnswers, RunAnswers, PartnersAnswers, NearestAnswers, NearFilterAnswers, OwnAnswers, PairsAnswers, OwnPairsAnswers, CountAnswers, OwnCountAnswers, BusyAnswers, PumpAnswers, UrgentAnswers}
 use Rattle.demands.specs.OverC.{LengthC, PlaceC, DepotBeginC, StoreC, OpenC, PackC, PointC, FilterC, WalkC, PageC, ShortC, BeginC, MarkC, NextC, PartnersC, NearestC, NearFilterC, OwnC, CountC, OwnCountC, BusyC, PumpC, UrgentC}
 use Rattle.demands.proofs.Once as once
+use Rattle.marker.specs.declared.Marker.{Marker}
+use Rattle.ring.specs.declared.Asset.{Asset}
+use Rattle.walk.specs.declared.Answer.{Answer}
 
 -- ---- every input is taken
 
@@ -295,13 +289,13 @@ busiest_pumps_over P Q k big g w r w' a = record { κs = a.κs; p_at = a.p_at; q
 pub urgent_over : (P Q : List ℤ) (o ps qs : List ℕ) (ask : Question) (w : List ℕ) (r : Urgent) (w' : List ℕ) → UrgentC P Q o ps qs ask w r w' → UrgentAnswers P Q o ps qs ask w r w'
 urgent_over P Q o ps qs ask w r w' a = record { κs = a.κs; p_at = a.p_at; q_at = a.q_at; o_at = a.o_at; ps_at = a.ps_at; qs_at = a.qs_at; b_at = a.b_at; promised = a.promised }
 
-pub point_over_lem : (w : List ℤ) (i : ℕ) (c : PointAnswer) (r : Pointed) → PointC w i c → PointAnswers w i r → c ≡ point_over r
+pub point_over_lem : (w : List ℤ) (i : ℕ) (c : PointAnswer) (r : Result Asset ℕ) → PointC w i c → PointAnswers w i r → c ≡ point_over r
 point_over_lem w i c r a b = a.promised ∙ ap point_over (sym b.promised)
 
-pub walk_over_lem : (P Q : List ℤ) (j i : ℕ) (g : Bool) (c : WalkAnswer) (r : Walked) → WalkC P Q j i g c → RingAnswers P Q j i g r → c ≡ walk_over r
+pub walk_over_lem : (P Q : List ℤ) (j i : ℕ) (g : Bool) (c : WalkAnswer) (r : Result Answer ℕ) → WalkC P Q j i g c → RingAnswers P Q j i g r → c ≡ walk_over r
 walk_over_lem P Q j i g c r a b = a.promised ∙ ap walk_over (sym b.promised)
 
-pub begin_over : (s : Source) (c : BookAnswer) (r : Begun) → BeginC s c → BeginAnswers s r → c ≡ book_over r
+pub begin_over : (s : Source) (c : BookAnswer) (r : Result Book ℕ) → BeginC s c → BeginAnswers s r → c ≡ book_over r
 begin_over s c r a b = a.promised ∙ ap book_over (sym b.promised)
 
 pub next_over_lem : (b : Book) (slots : List Pair) (c : KeyAnswer) (r : Asked) → NextC b slots c → NextAnswers b slots r → c ≡ key_over r
@@ -314,43 +308,43 @@ pub store_over_lem : (d : Depot) (slots : List Form) (f : Form) (c : StoreAnswer
     → StoreC d slots f c slots' → StoreAnswers d slots f r t → (c ≡ store_over r) × (slots' ≡ t)
 store_over_lem d slots f c slots' r t x y = (x.0 ∙ ap store_over (sym y.0), x.1 ∙ sym y.1)
 
-pub mark_over_lem : (ax ay bx by : ℤ) (c : MarkAnswer) (r : Marked) → MarkC ax ay bx by c → MarkAnswers ax ay bx by r → c ≡ mark_over r
+pub mark_over_lem : (ax ay bx by : ℤ) (c : MarkAnswer) (r : Result Marker ℕ) → MarkC ax ay bx by c → MarkAnswers ax ay bx by r → c ≡ mark_over r
 mark_over_lem ax ay bx by c r a b = a.promised ∙ ap mark_over (sym (marked_is ax ay bx by r b.promised))
 
 -- ---- and its number is the defined one
 
-point_number : (r : Pointed) → (point_over r).number ≡ pointed_no r
-point_number (pointing.At a) = refl
-point_number (pointing.Refused k) = refl
+point_number : (r : Result Asset ℕ) → (point_over r).number ≡ pointed_no r
+point_number (Ok a) = refl
+point_number (Err k) = refl
 
 hit_number : (h : Hit) (c : ℕ) → (hit_over h c).number ≡ 0
 hit_number Clear c = refl
 hit_number (Point b) c = refl
 hit_number (Side x) c = refl
 
-walk_number : (r : Walked) → (walk_over r).number ≡ walked_no r
-walk_number (walking.Done a) = hit_number a.hit a.opened
-walk_number (walking.Refused k) = refl
+walk_number : (r : Result Answer ℕ) → (walk_over r).number ≡ walked_no r
+walk_number (Ok a) = hit_number a.hit a.opened
+walk_number (Err k) = refl
 
-book_number : (r : Begun) → (book_over r).number ≡ begun_no r
+book_number : (r : Result Book ℕ) → (book_over r).number ≡ begun_no r
 unfolding begun_no
-book_number (begun.Open b) = refl
-book_number (begun.Refused k) = refl
+book_number (Ok b) = refl
+book_number (Err k) = refl
 
-next_number : (r : Next) (b : Book) → (next_over r b).number ≡ next_case_no r
+next_number : (r : Result Key ℕ) (b : Book) → (next_over r b).number ≡ next_case_no r
 unfolding next_case_no
-next_number (next.After k) b = refl
-next_number (next.Refused n) b = refl
+next_number (Ok k) b = refl
+next_number (Err n) b = refl
 
-store_number : (o : Outcome) (d : Depot) → (outcome_over o d).number ≡ outcome_no o
+store_number : (o : Result Receipt ℕ) (d : Depot) → (outcome_over o d).number ≡ outcome_no o
 unfolding outcome_no
-store_number outcome.Issued d = refl
-store_number outcome.Known d = refl
-store_number (outcome.Refused n) d = refl
+store_number (Ok Issued) d = refl
+store_number (Ok Known) d = refl
+store_number (Err n) d = refl
 
-mark_number : (r : Marked) → (mark_over r).number ≡ number_of r
-mark_number (marking.At m) = refl
-mark_number (marking.Refused k) = refl
+mark_number : (r : Result Marker ℕ) → (mark_over r).number ≡ number_of r
+mark_number (Ok m) = refl
+mark_number (Err k) = refl
 
 pub open_c_no : (w : List ℤ) (c : HeadAnswer) → OpenC w c → c.number ≡ sheet_no w
 unfolding head_over

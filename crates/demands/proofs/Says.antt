@@ -1,6 +1,7 @@
 -- The promises of the calls over slices of records and over views, as specs/Promises states them, are the `ensures` of these calls, word for word: whoever changes
 -- one of these breaks its line here. A promise is a fact: `fact 𝓤 X` says X and nothing of memory.
 -- Assumes nothing.
+use Rattle.std.specs.Prelude.{Result}
 use mathlib.Core.Bool.{Bool}
 use mathlib.Core.Path.{◌≡◌, refl}
 use mathlib.Core.List.{List}
@@ -18,9 +19,7 @@ use Rattle.list.specs.declared.Key.{Key}
 use Rattle.list.specs.declared.Pair.{Pair}
 use Rattle.list.specs.declared.Request.{Request}
 use Rattle.list.specs.declared.Page.{Page}
-use Rattle.ring.specs.declared.Pointed.{Pointed}
 use Rattle.ring.specs.declared.Filtered.{Filtered}
-use Rattle.ring.specs.declared.Walked.{Walked}
 use Rattle.ring.specs.declared.Paged.{Paged}
 use Rattle.ring.specs.declared.Partnered.{Partnered}
 use Rattle.view.specs.declared.Sheet.{Sheet}
@@ -68,6 +67,8 @@ use Rattle.view.specs.contracts.busiest_at as view_busiest
 use Rattle.view.specs.contracts.busiest_pumps_at as view_busiest_pumps
 use Rattle.view.specs.contracts.urgent_at as view_urgent
 use Rattle.demands.specs.Promises.{Place, slice, mut_slice, NextAnswers, TakeAnswers, FormsAnswers, StoreAnswers, RunAnswers, ViewOpens, ViewPoints, ViewFilters, ViewRings, ViewPages, ViewPartners, ViewOwnPages, ViewRuns, ViewShortest, ViewNearest, ViewNearFilters, PairsAnswers, OwnPairsAnswers, ViewMany, ViewOwnMany, ViewCounts, ViewOwnCounts, ViewBusiest, ViewPumps, ViewUrgent}
+use Rattle.ring.specs.declared.Asset.{Asset}
+use Rattle.walk.specs.declared.Answer.{Answer}
 
 module _ {M : Type 1} {𝓤 : Ura M} (𝓛 : Logic 𝓤) (mem : Memory → SProp 𝓤) (run : Routine → Fun 𝓤) where
   pub next_key_says : (κs : Lfts 1) (l : Place) (b : Book) (s : List Pair) (r : Asked)
@@ -108,7 +109,7 @@ module _ {M : Type 1} {𝓤 : Ura M} (𝓛 : Logic 𝓤) (mem : Memory → SProp
       → view-open.ensures-1 𝓛 κs mem run w (record { entry = w; exit = w }) r ≡ fact 𝓤 (ViewOpens w r)
   view_open_says κs w r = refl
 
-  pub view_point_says : (κs : Lfts 1) (d : Sheet) (i : ℕ) (r : Pointed)
+  pub view_point_says : (κs : Lfts 1) (d : Sheet) (i : ℕ) (r : Result Asset ℕ)
       → view_point.ensures-1 𝓛 κs mem run d i (record { entry = d; exit = d }) (record { entry = i; exit = i }) r ≡ fact 𝓤 (ViewPoints d i r)
   view_point_says κs d i r = refl
 
@@ -117,7 +118,7 @@ module _ {M : Type 1} {𝓤 : Ura M} (𝓛 : Logic 𝓤) (mem : Memory → SProp
       ≡ fact 𝓤 (ViewFilters p q j w r w')
   view_filter_says κs l p q j w r w' = refl
 
-  pub view_ring_says : (κs : Lfts 2) (p q : Sheet) (j i : ℕ) (g : Bool) (r : Walked)
+  pub view_ring_says : (κs : Lfts 2) (p q : Sheet) (j i : ℕ) (g : Bool) (r : Result Answer ℕ)
       → view_ring.ensures-1 𝓛 κs mem run p q j i g (record { entry = p; exit = p }) (record { entry = q; exit = q }) (record { entry = j; exit = j }) (record { entry = i; exit = i }) (record { entry = g; exit = g }) r
       ≡ fact 𝓤 (ViewRings p q j i g r)
   view_ring_says κs p q j i g r = refl

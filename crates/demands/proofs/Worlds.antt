@@ -14,6 +14,7 @@ use Prim.Native.Nat.{ℕ, zero, suc, ◌≤◌, ◌<◌}
 use native.Mathlib.Omega.{arith}
 use lib.IntN.{ℤ, pos}
 use lib.ListN.{length, take, drop, get_or, replicate, length-replicate}
+use Rattle.std.specs.Prelude.{Ok}
 use Rattle.words.specs.Word.{eq_z, within, before, num, is_below, min_z, max_z}
 use Rattle.words.specs.Range.{id_word, edition_word, coord_word, edition_ok}
 use Rattle.words.specs.All.{all_b, tab}
@@ -45,7 +46,6 @@ use Rattle.ring.specs.Blind.{SameSeen}
 use Rattle.ring.specs.Numbers.{grid_no}
 use Rattle.ring.specs.Page.{source_of}
 use Rattle.ring.proofs.PageLaws.{circle_any_form}
-use Rattle.book.specs.declared.Begun.TheVariants as begun
 use Rattle.book.specs.Rules.{begin_no, begun_book, begun_for}
 use Rattle.demands.specs.Promises.{BeginAnswers}
 use Rattle.demands.specs.World.{Editions, Sheets, HandsIn, pumps_of, chambers_of, book_list, History, began}
@@ -110,7 +110,7 @@ ClosedWith w of pairs = (b : Book) × (s : List Pair) × History w b s × (b.clo
 
 -- With a slot for each pair of the list a book can ask and take until it is closed: in any world, of any terms, for two sheets of its editions, or the one of a self join.
 closes_with : (w : Editions) (a : Terms) (e f : ℕ) (P Q : List ℤ) → Sheets w a P Q → source_of P Q a ≡ source e f a → (a.own ≡ true → P ≡ Q) → grid_no a.grid P Q ≡ 0
-    → (o : List ℕ) → HandsIn w a Q o → owners_no a.contractor o (points Q) ≡ 0 → BeginAnswers (source e f a) (begun.Open (begun_book (source e f a)))
+    → (o : List ℕ) → HandsIn w a Q o → owners_no a.contractor o (points Q) ≡ 0 → BeginAnswers (source e f a) (Ok (begun_book (source e f a)))
     → (pairs : List Pair) → list_for a (w.owners f) (pumps_of w (source e f a)) (chambers_of w (source e f a)) ≡ pairs → ClosedWith w (source e f a) pairs
 unfolding begun_book
 closes_with w a e f P Q sheets of alike forms o handed bytes begun-for pairs list_is =
@@ -163,13 +163,13 @@ document_divided = (divided 0 (omega arith) (take 2 three_pairs) begun_0 first_i
     second_is : list_for (of_contractor 1 full) document_owners (points_of document_p) (points_of document_q) ≡ drop 2 three_pairs
     second_is = unfold list_for listed_for pair_for at_least list_by rows row ring_pair_by unblocked all_b same_spot blocks points_of spot_of tab num document_p document_q in refl
 
-    begun_0 : BeginAnswers (document_of 0) (begun.Open (begun_book (document_of 0)))
+    begun_0 : BeginAnswers (document_of 0) (Ok (begun_book (document_of 0)))
     begun_0 = unfold begun_for begin_no first given answer begun_book edition_ok threshold_no contractor_no in record { promised = refl }
 
-    begun_1 : BeginAnswers (document_of 1) (begun.Open (begun_book (document_of 1)))
+    begun_1 : BeginAnswers (document_of 1) (Ok (begun_book (document_of 1)))
     begun_1 = unfold begun_for begin_no first given answer begun_book edition_ok threshold_no contractor_no in record { promised = refl }
 
-    divided : (c : ℕ) → c < 2 → (pairs : List Pair) → BeginAnswers (document_of c) (begun.Open (begun_book (document_of c)))
+    divided : (c : ℕ) → c < 2 → (pairs : List Pair) → BeginAnswers (document_of c) (Ok (begun_book (document_of c)))
         → list_for (of_contractor c full) document_owners (points_of document_p) (points_of document_q) ≡ pairs → ClosedWith document_world (document_of c) pairs
     divided c h pairs begun-for list_is =
         closes_with document_world (of_contractor c full) 7 9 document_p document_q (document_sheets (of_contractor c full) refl) (source_is (of_contractor c full)) no_self (circle_any_form document_p document_q)

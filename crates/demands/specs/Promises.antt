@@ -5,7 +5,7 @@
 -- Words and slots that are lent are lists that stand at some place of memory, and no promise depends on the place.
 -- The calls over slices of records (`Book::next_key`, `Book::take`, `depot::forms`, `Depot::take`, `runs::leaf_run`, `many::pairs`, `many::own_pairs`) and over views (`view::open` and its readers) have no such reading.
 -- Theirs is stated here, and proofs/Says shows that it is their `ensures`, word for word.
-use Rattle.std.specs.Prelude.{◌≡◌, Bool, true, false, List, [], ℕ, ℤ, length}
+use Rattle.std.specs.Prelude.{◌≡◌, Bool, true, false, List, [], ℕ, ℤ, length, Result}
 use Rattle.std.specs.Borrow.{GName, Bor, MutBor}
 use contract.Lifetimes.{Lfts}
 use Rattle.list.specs.declared.Key.{Key}
@@ -20,9 +20,7 @@ use Rattle.ring.specs.Page.{page_answer, page_bits}
 use Rattle.ring.specs.Own.{own_answer, own_bits}
 use Rattle.ring.specs.Partners.{partners_answer, partners_bits}
 use Rattle.ring.specs.declared.Head.{Head}
-use Rattle.ring.specs.declared.Pointed.{Pointed}
 use Rattle.ring.specs.declared.Filtered.{Filtered}
-use Rattle.ring.specs.declared.Walked.{Walked}
 use Rattle.ring.specs.declared.Paged.{Paged}
 use Rattle.ring.specs.declared.Partnered.{Partnered}
 use Rattle.ring.specs.declared.Placed.{Placed}
@@ -30,7 +28,6 @@ use Rattle.view.specs.declared.Sheet.{Sheet}
 use Rattle.view.specs.declared.Opened.{Opened}
 use Rattle.view.specs.Shown.{shown, open_of}
 use Rattle.book.specs.declared.Book.{Book}
-use Rattle.book.specs.declared.Begun.{Begun}
 use Rattle.book.specs.declared.Asked.{Asked}
 use Rattle.book.specs.declared.Taken.{Taken}
 use Rattle.book.specs.declared.TakenArray.{TakenArray}
@@ -43,7 +40,6 @@ use Rattle.depot.specs.declared.Stored.{Stored}
 use Rattle.depot.specs.declared.StoredArray.{StoredArray}
 use Rattle.depot.specs.Forms.{forms_answer, forms_out}
 use Rattle.depot.specs.Depot.{stored, stored_slots}
-use Rattle.marker.specs.declared.Marked.{Marked}
 use Rattle.shortest.specs.declared.Shortlist.{Shortlist}
 use Rattle.shortest.specs.Answer.{short_answer, short_bits}
 use Rattle.nearest.specs.declared.Found.{Found}
@@ -90,6 +86,9 @@ use Rattle.ranked.proofs.busiest.busiest_pumps.Reads as busiest-pumps
 use Rattle.ranked.proofs.visits.urgent.Reads as urgent
 use Rattle.view.proofs.open_head.Reads as open_head
 use Rattle.view.proofs.point_opened.Reads as point_opened
+use Rattle.marker.specs.declared.Marker.{Marker}
+use Rattle.ring.specs.declared.Asset.{Asset}
+use Rattle.walk.specs.declared.Answer.{Answer}
 
 -- where something that is lent stands: its address, and the name by which its contents are followed
 pub record Place : Type 0 where
@@ -119,7 +118,7 @@ pub record HeadAnswers (w : List ℤ) (h : Head) : Type 0 where
   pub promised : head_of.Post κs (slice w_at w, tt) h (slice w_at w, tt)
 
 -- `ring::reader::point(w, position)` answers r [B1, D1, D7, D8]
-pub record PointAnswers (w : List ℤ) (position : ℕ) (r : Pointed) : Type 0 where
+pub record PointAnswers (w : List ℤ) (position : ℕ) (r : Result Asset ℕ) : Type 0 where
   pub κs : Lfts 1
   pub w_at : Place
   pub promised : point.Post κs (slice w_at w, (position, tt)) r (slice w_at w, (position, tt))
@@ -142,7 +141,7 @@ pub record FilterAnswers (P Q : List ℤ) (j : ℕ) (bits : List ℕ) (r : Filte
       (slice p_at P, (slice q_at Q, (j, (mut_slice b_at bits', tt))))
 
 -- `ring::ringwalk::ring_walk(P, Q, j, i, grid)` answers r [B1, D1, D7, D8]
-pub record RingAnswers (P Q : List ℤ) (j i : ℕ) (g : Bool) (r : Walked) : Type 0 where
+pub record RingAnswers (P Q : List ℤ) (j i : ℕ) (g : Bool) (r : Result Answer ℕ) : Type 0 where
   pub κs : Lfts 2
   pub p_at : Place
   pub q_at : Place
@@ -240,13 +239,13 @@ pub record PackAnswers (form n : ℕ) (points order : List ℤ) (edition : ℕ) 
       (form, (n, (slice p_at points, (slice o_at order, (edition, (mut_slice out_at out', tt))))))
 
 -- `marker::mark(ax, ay, bx, by)` answers r [B1, D8]
-pub record MarkAnswers (ax ay bx by : ℤ) (r : Marked) : Type 0 where
+pub record MarkAnswers (ax ay bx by : ℤ) (r : Result Marker ℕ) : Type 0 where
   pub promised : mark.Post tt (ax, (ay, (bx, (by, tt)))) r (ax, (ay, (bx, (by, tt))))
 
 -- ---- the book
 
 -- `Book::begin(source)` answers r [B1, D8]
-pub record BeginAnswers (source : Source) (r : Begun) : Type 0 where
+pub record BeginAnswers (source : Source) (r : Result Book ℕ) : Type 0 where
   pub promised : begin.Post tt (source, tt) r (source, tt)
 
 -- `b.next_key(slots)` answers r [B1, D8]
@@ -406,7 +405,7 @@ abbrev pub ViewOpens : Bor (List ℤ) → Opened → Type 0
 ViewOpens w r = shown r ≡ open_of w
 
 -- `view::point_at(sheet, position)` answers r [S28, N19, D8]
-abbrev pub ViewPoints : Sheet → ℕ → Pointed → Type 0
+abbrev pub ViewPoints : Sheet → ℕ → Result Asset ℕ → Type 0
 ViewPoints sheet position r = r ≡ pointed sheet.words.now position
 
 -- `view::filter_walk_at(p, q, j, bits)` answers r, and the lent words are `bits'` at its exit [S28, N19, D8]
@@ -414,7 +413,7 @@ abbrev pub ViewFilters : Sheet → Sheet → ℕ → List ℕ → Filtered → L
 ViewFilters p q j bits r bits' = (r ≡ filtered p.words.now q.words.now j (length bits)) × (bits' ≡ filtered_bits p.words.now q.words.now j bits)
 
 -- `view::ring_walk_at(p, q, j, i, grid)` answers r [S28, N19, D8]
-abbrev pub ViewRings : Sheet → Sheet → ℕ → ℕ → Bool → Walked → Type 0
+abbrev pub ViewRings : Sheet → Sheet → ℕ → ℕ → Bool → Result Answer ℕ → Type 0
 ViewRings p q j i g r = r ≡ walked p.words.now q.words.now j i g
 
 -- `view::page_at(p, q, o, ask, bits)` answers r, and the lent words are `bits'` at its exit [S28, N19, D8]
@@ -486,6 +485,6 @@ pub record OpenHead (w : List ℤ) (h : Head) : Type 0 where
   pub promised : open_head.Post κs (slice w_at w, tt) h (slice w_at w, tt)
 
 -- `view::point_opened(w, position)` answers r
-pub record PointOpened (w : Bor (List ℤ)) (position : ℕ) (r : Pointed) : Type 0 where
+pub record PointOpened (w : Bor (List ℤ)) (position : ℕ) (r : Result Asset ℕ) : Type 0 where
   pub κs : Lfts 1
   pub promised : point_opened.Post κs (w, (position, tt)) r (w, (position, tt))

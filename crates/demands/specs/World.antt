@@ -1,7 +1,7 @@
 -- The world of demand 3, told by what the shipped calls answer. "Pages may be lost, repeated, late or out of order, but not altered or invented; P sheets with one
 -- edition number hold the same points, and Q sheets likewise; nobody else writes the book or hands in an older state of it." For self joins the premise is
 -- "that all sheets given to self joins under one edition number hold the same points". For a contractor's list there is one more, "the owner bytes being the same under one chamber edition".
-use Rattle.std.specs.Prelude.{◌≡◌, Bool, true, false, cond, List, [], ℕ, zero, suc, ◌≤◌, ◌<◌, ℤ, length, take}
+use Rattle.std.specs.Prelude.{◌≡◌, Bool, true, false, cond, List, [], ℕ, zero, suc, ◌≤◌, ◌<◌, ℤ, length, take, Ok}
 use Rattle.words.specs.Word.{num}
 use Rattle.plane.specs.Point.{Point}
 use Rattle.sheet.specs.Layout.{edition, points}
@@ -19,8 +19,6 @@ use Rattle.ring.specs.Numbers.{grid_no}
 use Rattle.ring.specs.Page.{source_of}
 use Rattle.ring.specs.declared.Paged.{Paged}
 use Rattle.book.specs.declared.Book.{Book}
-use Rattle.book.specs.declared.Begun.TheVariants as begun
-use Rattle.book.specs.declared.Next.TheVariants as next
 use Rattle.book.specs.declared.Asked.{Asked}
 use Rattle.book.specs.declared.Taken.{Taken}
 use Rattle.demands.specs.Promises.{TermsAnswers, BeginAnswers, NextAnswers, TakeAnswers}
@@ -98,7 +96,7 @@ module _ (w : Editions) where
   -- lent another slice that holds the same pairs. Each step starts from what the step before left: "nobody else writes the book or hands in an older state of it".
   -- [K9, I8, D4, D5, D9]
   pub data History : Book → List Pair → Type 0 where
-    began : (s : Source) (b : Book) (slots : List Pair) → BeginAnswers s (begun.Open b) → History b slots
+    began : (s : Source) (b : Book) (slots : List Pair) → BeginAnswers s (Ok b) → History b slots
     took : {b : Book} {slots : List Pair} (g : Page) (r : Taken) (slots' : List Pair) → History b slots → Answered g → TakeAnswers b slots g r slots' → History r.book slots'
     lent : {b : Book} {slots : List Pair} (other : List Pair) → History b slots → b.held ≤ length other → take b.held other ≡ take b.held slots → History b other
 
@@ -125,7 +123,7 @@ module _ (w : Editions) where
     pub asked : Asked
     pub key : Key
     pub asks : NextAnswers b slots asked
-    pub next_is : asked.next ≡ next.After key
+    pub next_is : asked.next ≡ Ok key
     pub size : ℕ
     pub some : 1 ≤ size
     pub most : size ≤ 16

@@ -2,8 +2,9 @@
 use mathlib.Core.Path.{◌≡◌, refl, sym, ap, ap₂, ◌∙◌}
 use mathlib.Core.Bool.{Bool, true, false}
 use mathlib.Core.List.{List, [], ◌∷◌, ◌++◌, map}
-use Prim.Native.Nat.{ℕ, zero, suc, ◌≤◌, ◌<◌}
+use Prim.Native.Nat.{ℕ, zero, suc, ◌+◌, ◌≤◌, ◌<◌}
 use native.Mathlib.Omega.{arith}
+use native.Mathlib.Numerals.{add-one}
 use lib.Dec.{ltb}
 use lib.ListN.{length, take, drop, set, get_or, length-set, length-map}
 use lib.Seq.{take-suc, drop-cons, set_at, length-take-le, append_snoc}
@@ -47,6 +48,19 @@ filled out s ps (suc k) = set (filled out s ps k) k (form_of s (get_or ps k none
 pub filled_long : (out : List Form) (s : Source) (ps : List Pair) (k : ℕ) → length (filled out s ps k) ≡ length out
 filled_long out s ps zero = refl
 filled_long out s ps (suc k) = length-set (filled out s ps k) k (form_of s (get_or ps k none)) ∙ filled_long out s ps k
+
+-- one of the first n pairs, read at any default
+front_at : (ps : List Pair) (n k : ℕ) (d : Pair) → k < length (take n ps) → get_or (take n ps) k d ≡ get_or ps k none
+front_at ps zero k d h = absurd (omega arith)
+front_at [] (suc n) k d h = absurd (omega arith)
+front_at (v ∷ ps) (suc n) zero d h = refl
+front_at (v ∷ ps) (suc n) (suc k) d h = front_at ps n k d (omega arith)
+
+-- one more form is stored
+pub filled_more : (out : List Form) (s : Source) (ps : List Pair) (n k : ℕ) (d : Pair) (z : List Form) (f : Form) → z ≡ filled out s ps k → f ≡ form_of s (get_or (take n ps) k d)
+    → k < length (take n ps) → set z k f ≡ filled out s ps (k + 1)
+filled_more out s ps n k d z f e g h =
+    ap₂ (λ (x : List Form) (w : Form). set x k w) e (g ∙ ap (form_of s) (front_at ps n k d h)) ∙ ap (filled out s ps) (sym (add-one k))
 
 map_append : (f : Pair → Form) (a b : List Pair) → map f (a ++ b) ≡ map f a ++ map f b
 map_append f [] b = refl
@@ -92,11 +106,11 @@ module _ (b : Book) (ps : List Pair) (out : List Form) where
     unfolding forms_answer
     forms_are = (e, ap (λ (x : Made). filled out b.source ps x.count) e ∙ filled_out)
 
-    pub fits_both : (k : ℕ) → k < r.count → (k < length ps) × (k < length out)
-    fits_both k h =
+    pub fits_both : (length (take r.count ps) ≡ r.count) × (r.count ≤ length out)
+    fits_both =
         let m = made_room in
         let c : r.count ≡ (made_for b (length ps) (length out)).count = ap (λ (x : Made). x.count) e in
-        (omega arith, omega arith)
+        (length-take-le r.count ps (omega arith), omega arith)
 
 -- ---- a part of an array, lent
 

@@ -1,7 +1,7 @@
 -- Forms with one key: all parts but the size are the same. And which keys a list has.
 -- Assumes nothing.
 use mathlib.Core.Path.{◌≡◌, refl, sym, ap, ◌∙◌}
-use mathlib.Core.Bool.{Bool, true, false, ◌&&◌, ◌||◌}
+use mathlib.Core.Bool.{Bool, true, false, beq, ◌&&◌, ◌||◌}
 use mathlib.Core.Logic.{⊎_elim}
 use mathlib.Core.List.{List, [], ◌∷◌, Memᴰ}
 use lib.Dec.{eqb}
@@ -11,6 +11,13 @@ use Rattle.list.specs.Pages.{alike}
 use Rattle.list.proofs.SourceLaws.{alike_is, is_alike}
 use Rattle.depot.specs.declared.Form.{Form}
 use Rattle.depot.specs.Depot.{same_form, key_in}
+
+-- both or neither, as the code tests it
+pub beq_alike : (a b : Bool) → beq a b ≡ alike a b
+beq_alike true true = refl
+beq_alike true false = refl
+beq_alike false true = refl
+beq_alike false false = refl
 
 -- ---- one key
 

@@ -8,16 +8,18 @@
 --     depot_take_once, depot_forms_once, ..                  one input, one answer, one final state of what was lent
 -- Assumes nothing.
 use mathlib.Core.Path.{◌≡◌, refl, sym, ap, ◌∙◌}
-use mathlib.Core.Bool.{Bool, true, false, cond, not, ◌&&◌}
+use mathlib.Core.Bool.{Bool, true, false, cond, not, ◌&&◌, true≢false}
 use mathlib.Core.Logic.{◌↔◌}
 use mathlib.Core.List.{List, [], ◌∷◌, ◌++◌}
-use Prim.Native.Nat.{ℕ, suc, ◌≤◌, ◌<◌}
+use Prim.Native.Nat.{ℕ, suc, ◌+◌, ◌≤◌, ◌<◌}
 use native.Mathlib.Omega.{arith}
 use native.Mathlib.Numerals.{add-one}
-use lib.Dec.{ltb, leb}
+use lib.Dec.{eqb, ltb, leb}
 use lib.ListN.{length, take, drop, set, length-set}
 use lib.Seq.{take-suc-set}
 use borrow.Author.Tests.{ltb-true, ltb-false, lt-ltb, le-ltb, le-leb, leb-true, leb-false}
+use Rattle.std.specs.Prelude.{Result, Ok, Err}
+use Rattle.std.specs.Result.{result_eq}
 use Rattle.words.specs.First.{given, first}
 use Rattle.words.proofs.FirstLaws.{answer_number, answer_given, answer_refused}
 use Rattle.list.specs.declared.Pair.{Pair}
@@ -26,12 +28,12 @@ use Rattle.depot.specs.declared.Form.{Form}
 use Rattle.depot.specs.declared.Made.{Made}
 use Rattle.depot.specs.declared.MadeArray.{MadeArray}
 use Rattle.depot.specs.declared.Depot.{Depot}
-use Rattle.depot.specs.declared.Outcome.TheVariants.{Issued, Known, Refused}
+use Rattle.depot.specs.declared.Receipt.{Receipt}
+use Rattle.depot.specs.declared.Receipt.TheVariants.{Issued, Known}
 use Rattle.depot.specs.declared.Stored.{Stored}
 use Rattle.depot.specs.declared.StoredArray.{StoredArray}
-use Rattle.depot.specs.declared.Verdict.{Verdict}
 use Rattle.depot.specs.Forms.{forms_no, none_made, all_made, made_for, forms_answer, forms_of, forms_out, made_array}
-use Rattle.depot.specs.Depot.{form_ok, store_no_at, issues, knows, refuses, judged, is_known, store_no, verdict, stored, stored_slots, outcome_no, stored_array}
+use Rattle.depot.specs.Depot.{Verdict, form_ok, store_no_at, issues, knows, refuses, judged, is_known, store_no, verdict, stored, stored_slots, outcome_no, stored_array}
 
 -- ---- the number
 
@@ -122,7 +124,7 @@ module _ (d : Depot) (slots : List Form) (f : Form) where
   left v e = ap (λ (x : Verdict). cond x.stores (set slots d.held f) slots) e
 
   -- "`known` for a key it holds, changing nothing then"
-  pub known_same : (stored d slots f).outcome ≡ Known
+  pub known_same : (stored d slots f).outcome ≡ Ok Known
       → (is_known d slots f ≡ true) × (form_ok f ≡ true) × (d.held ≤ length slots) × ((stored d slots f).depot ≡ d) × (stored_slots d slots f ≡ slots)
   known_same e = go (judging d slots f)
     where
@@ -132,7 +134,7 @@ module _ (d : Depot) (slots : List Form) (f : Form) where
       go (no v n) = let z = ap (λ (x : Stored). x.outcome) (answered _ v) in let y : ◌≡◌ {A = ℕ} 0 1 = cc in absurd (omega arith)
 
   -- "answers `issued` for a new key": the form is the last of one more that are held, and those before it are as they were
-  pub issued_last : (stored d slots f).outcome ≡ Issued
+  pub issued_last : (stored d slots f).outcome ≡ Ok Issued
       → (is_known d slots f ≡ false) × (form_ok f ≡ true) × (d.held < length slots) × ((stored d slots f).depot.held ≡ suc d.held) × (stored_slots d slots f ≡ set slots d.held f)
       × (take (suc d.held) (stored_slots d slots f) ≡ take d.held slots ++ (f ∷ []))
   issued_last e = go (judging d slots f)
@@ -145,7 +147,7 @@ module _ (d : Depot) (slots : List Form) (f : Form) where
       go (no v n) = let z = ap (λ (x : Stored). x.outcome) (answered _ v) in let y : ◌≡◌ {A = ℕ} 0 1 = cc in absurd (omega arith)
 
   -- a refusal has the number that is defined, and changes nothing
-  pub refused_leaves : (n : ℕ) → (stored d slots f).outcome ≡ Refused n → (n ≡ store_no d slots f) × ((stored d slots f).depot ≡ d) × (stored_slots d slots f ≡ slots)
+  pub refused_leaves : (n : ℕ) → (stored d slots f).outcome ≡ Err n → (n ≡ store_no d slots f) × ((stored d slots f).depot ≡ d) × (stored_slots d slots f ≡ slots)
   refused_leaves n e = go (judging d slots f)
     where
       go : Judged d slots f → (n ≡ store_no d slots f) × ((stored d slots f).depot ≡ d) × (stored_slots d slots f ≡ slots)
@@ -164,14 +166,27 @@ module _ (d : Depot) (slots : List Form) (f : Form) where
       zero_of false = refl
 
   -- where the number is not 0 the answer is its refusal, and nothing has changed
-  pub not_taken : (store_no d slots f ≡ 0 → ⊥) → ((stored d slots f).outcome ≡ Refused (store_no d slots f)) × ((stored d slots f).depot ≡ d) × (stored_slots d slots f ≡ slots)
+  pub not_taken : (store_no d slots f ≡ 0 → ⊥) → ((stored d slots f).outcome ≡ Err (store_no d slots f)) × ((stored d slots f).depot ≡ d) × (stored_slots d slots f ≡ slots)
   unfolding outcome_no
   not_taken ne = go (judging d slots f)
     where
-      go : Judged d slots f → ((stored d slots f).outcome ≡ Refused (store_no d slots f)) × ((stored d slots f).depot ≡ d) × (stored_slots d slots f ≡ slots)
+      go : Judged d slots f → ((stored d slots f).outcome ≡ Err (store_no d slots f)) × ((stored d slots f).depot ≡ d) × (stored_slots d slots f ≡ slots)
       go (new v h o k) = absurd (ne (sym stored_no ∙ ap (λ (x : Stored). outcome_no x.outcome) (answered _ v)))
       go (known v h o k) = absurd (ne (sym stored_no ∙ ap (λ (x : Stored). outcome_no x.outcome) (answered _ v)))
       go (no v m) = (ap (λ (x : Stored). x.outcome) (answered _ v), ap (λ (x : Stored). x.depot) (answered _ v), left _ v)
+
+  -- the answer and the slots where the form is not issued, and where it is
+  pub kept : (o : Result Receipt ℕ) → o ≡ (stored d slots f).outcome → (o ≡ Ok Issued → ⊥) → (record { outcome = o; depot = d } ≡ stored d slots f) × (slots ≡ stored_slots d slots f)
+  kept (Ok Issued) e ne = absurd (ne refl)
+  kept (Ok Known) e ne = let z = known_same (sym e) in (λ i. record { outcome = e i; depot = sym z.3 i }, sym z.4)
+  kept (Err n) e ne = let z = refused_leaves n (sym e) in (λ i. record { outcome = e i; depot = sym z.1 i }, sym z.2)
+
+  pub put : (o : Result Receipt ℕ) → o ≡ (stored d slots f).outcome → o ≡ Ok Issued
+      → (d.held < length slots) × (record { outcome = o; depot = record { held = d.held + 1 } } ≡ stored d slots f) × (set slots d.held f ≡ stored_slots d slots f)
+  put o e h =
+      let z = issued_last (sym e ∙ h) in
+      let more : d.held + 1 ≡ (stored d slots f).depot.held = add-one d.held ∙ sym z.3 in
+      (z.2, λ i. record { outcome = e i; depot = record { held = more i } }, sym z.4)
 
   -- no slot is made, and none lost
   pub stored_long : length (stored_slots d slots f) ≡ length slots
@@ -181,6 +196,15 @@ module _ (d : Depot) (slots : List Form) (f : Form) where
       go : (t : Bool) → length (cond t (set slots d.held f) slots) ≡ length slots
       go true = length-set slots d.held f
       go false = refl
+
+-- whether a form is issued, as the code tests it
+pub is_issued : (q : Receipt → Receipt → Bool) (o : Result Receipt ℕ) → q Known Issued ≡ false → true ≡ result_eq q eqb o (Ok Issued) → o ≡ Ok Issued
+is_issued q (Ok Issued) k e = refl
+is_issued q (Ok Known) k e = absurd (true≢false (e ∙ k))
+is_issued q (Err n) k e = absurd (true≢false e)
+
+pub not_issued : (q : Receipt → Receipt → Bool) (o : Result Receipt ℕ) → q Issued Issued ≡ true → false ≡ result_eq q eqb o (Ok Issued) → o ≡ Ok Issued → ⊥
+not_issued q o k e h = true≢false (sym k ∙ sym (e ∙ ap (λ (x : Result Receipt ℕ). result_eq q eqb x (Ok Issued)) h))
 
 -- ---- making forms
 

@@ -1,15 +1,14 @@
 -- The depot: "The depot takes forms into a lent slice and answers `issued` for a new key, `known` for a key it holds, changing nothing then."
-use Rattle.std.specs.Prelude.{Bool, true, false, cond, not, ◌&&◌, ◌||◌, List, [], ◌∷◌, ◌++◌, ℕ, ◌+◌, eqb, leb, ltb, length, take, drop, set}
+use Rattle.std.specs.Prelude.{Bool, true, false, cond, not, ◌&&◌, ◌||◌, List, [], ◌∷◌, ◌++◌, ℕ, ◌+◌, eqb, leb, ltb, length, take, drop, set, Result, Ok, Err}
 use Rattle.words.specs.Range.{id_ok, edition_ok}
 use Rattle.words.specs.First.{given, first, answer}
 use Rattle.list.specs.Lent.{lent_of}
 use Rattle.list.specs.Pages.{alike}
 use Rattle.depot.specs.declared.Form.{Form}
 use Rattle.depot.specs.declared.Depot.{Depot}
-use Rattle.depot.specs.declared.Outcome.{Outcome}
-use Rattle.depot.specs.declared.Outcome.TheVariants.{Issued, Known, Refused}
+use Rattle.depot.specs.declared.Receipt.{Receipt}
+use Rattle.depot.specs.declared.Receipt.TheVariants.{Issued, Known}
 use Rattle.depot.specs.declared.Stored.{Stored}
-use Rattle.depot.specs.declared.Verdict.{Verdict}
 use Rattle.depot.specs.declared.StoredArray.{StoredArray}
 
 -- ---- begin
@@ -56,20 +55,25 @@ store_no_at d len f known =
     ∷ given (not known && leb len d.held) 16
     ∷ [])
 
-abbrev pub decides : Bool → Outcome → Depot → Verdict
+-- whether the form is stored, and the answer
+pub record Verdict : Type 0 where
+  pub stores : Bool
+  pub stored : Stored
+
+abbrev pub decides : Bool → Result Receipt ℕ → Depot → Verdict
 decides stores outcome d = record { stores = stores; stored = record { outcome = outcome; depot = d } }
 
 -- a new key: the form is stored, and one more is held [I5]
 abbrev pub issues : Depot → Verdict
-issues d = decides true Issued (record { held = d.held + 1 })
+issues d = decides true (Ok Issued) (record { held = d.held + 1 })
 
 -- "`known` for a key it holds, changing nothing then" [I6]
 abbrev pub knows : Depot → Verdict
-knows d = decides false Known d
+knows d = decides false (Ok Known) d
 
 -- "Every refusal gives only its number", and changes nothing
 abbrev pub refuses : Depot → ℕ → Verdict
-refuses d n = decides false (Refused n) d
+refuses d n = decides false (Err n) d
 
 -- [I5, I6]
 unfoldable pub judged : Depot → ℕ → Form → Bool → Verdict
@@ -95,10 +99,9 @@ unfoldable pub stored_slots : Depot → List Form → Form → List Form
 stored_slots d slots f = cond (verdict d slots f).stores (set slots d.held f) slots
 
 -- the document's number for each outcome
-unfoldable pub outcome_no : Outcome → ℕ
-outcome_no Issued = 0
-outcome_no Known = 0
-outcome_no (Refused n) = n
+unfoldable pub outcome_no : Result Receipt ℕ → ℕ
+outcome_no (Ok r) = 0
+outcome_no (Err n) = n
 
 -- ---- a part of an array, lent
 

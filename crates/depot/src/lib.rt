@@ -1,18 +1,17 @@
 // The depot's forms: order forms made from a book, and a depot that takes each key once. Both stand in slices that the caller lends.
 #![tactic(auto)]
 
-ghost use Rattle.std.specs.Prelude.{◌≡◌, ◌||◌};
-ghost use Rattle.list.specs.Lent.{lent_of};
-ghost use Rattle.depot.specs.Forms.{form_of, made_for, forms_answer, forms_out, with_forms, made_array};
-ghost use Rattle.depot.specs.Depot.{begun_depot, form_ok, same_form, decides, judged, stored, stored_slots, with_slots, stored_array};
-ghost use Rattle.depot.specs.Looks.{looked_at};
+ghost use Rattle.std.specs.Prelude.{◌≡◌};
+ghost use Rattle.std.specs.List.{list_any};
+ghost use Rattle.depot.specs.Forms.{form_of, made_for, forms_answer, forms_out, made_array};
+ghost use Rattle.depot.specs.Depot.{begun_depot, form_ok, same_form, stored, stored_slots, stored_array};
 
 use book::Book;
 use list::{Pair, Source};
 
 // An order form. Its key is all but the size: both editions, kind, contractor, profile and the two ids.
 #[repr(C)]
-#[derive(Clone, Copy)]
+#[derive(Clone, Copy, PartialEq, Eq)]
 pub struct Form {
     pub p_edition: u32,
     pub q_edition: u32,
@@ -25,6 +24,7 @@ pub struct Form {
 }
 
 // What making forms answers: 0 and how many were made, or the number of refusal and 0.
+// Kept: the number beside the count, which `ring_forms` of crate ffi hands to C as it stands.
 #[repr(C)]
 #[derive(Clone, Copy)]
 pub struct Made {
@@ -74,16 +74,9 @@ fn decide(b: Book, len: usize, room: usize) -> Made
 pub fn forms(b: Book, slots: &[Pair], out: &mut [Form]) -> Made
     ensures { (result ≡ forms_answer b slots.now out.old) × (out.new ≡ forms_out b slots.now out.old) }
 {
-    let len = slots.len();
-    let room = out.len();
-    let made = decide(b, len, room);
-    let source = b.source;
-    let mut k: usize = 0;
-    while k < made.count {
-        let v = slots[k];
-        let f = form_of(source, v);
-        out[k] = f;
-        k = k + 1;
+    let made = decide(b, slots.len(), out.len());
+    for (k, v) in slots[..made.count].iter().enumerate() {
+        out[k] = form_of(b.source, *v);
     }
     made
 }
@@ -95,26 +88,18 @@ pub struct Depot {
     pub held: usize,
 }
 
-// What the depot says of a form.
-#[derive(Clone, Copy)]
-pub enum Outcome {
+// What the depot says of a form that it does not refuse.
+#[derive(Clone, Copy, Debug, PartialEq, Eq)]
+pub enum Receipt {
     Issued,
     Known,
-    Refused(u32),
 }
 
-// The answer of `take`: what is said, and the depot from now on.
+// The answer of `take`: what is said, or the number of refusal, and the depot from now on.
 #[derive(Clone, Copy)]
 pub struct Stored {
-    pub outcome: Outcome,
+    pub outcome: Result<Receipt, u32>,
     pub depot: Depot,
-}
-
-// What is decided of a form: whether it is stored, and the answer.
-#[derive(Clone, Copy)]
-pub struct Verdict {
-    pub stores: bool,
-    pub stored: Stored,
 }
 
 // Whether each part of a form's key is in range.
@@ -128,64 +113,43 @@ fn is_form(f: Form) -> bool
         & words::is_id(f.p)
 }
 
-// Whether the key was met before, or is that of f.
-fn is_met(known: bool, f: Form, form: Form) -> bool
-    ensures { result ≡ (known || same_form f form) }
+// Whether two forms have one key.
+fn is_met(f: Form, form: Form) -> bool
+    ensures { result ≡ same_form f form }
 {
-    known
-        | ((f.p_edition == form.p_edition)
-            & (f.q_edition == form.q_edition)
-            & ((f.own & form.own) | (!f.own & !form.own))
-            & (f.contractor == form.contractor)
-            & ((f.grid & form.grid) | (!f.grid & !form.grid))
-            & (f.q == form.q)
-            & (f.p == form.p))
+    (f.p_edition == form.p_edition)
+        & (f.q_edition == form.q_edition)
+        & (f.own == form.own)
+        & (f.contractor == form.contractor)
+        & (f.grid == form.grid)
+        & (f.q == form.q)
+        & (f.p == form.p)
 }
 
-// How many forms are looked at: none where the call is refused by 11 or 15.
-fn looked(d: Depot, len: usize, form: Form) -> usize
-    ensures { result ≡ looked_at d len form }
+// Whether one of these forms has the key of `form`.
+fn is_held(forms: &[Form], form: Form) -> bool
+    ensures { result ≡ list_any (λ g. same_form g form) forms.now }
 {
-    if len < d.held {
-        return 0;
+    forms.iter().any(|f| is_met(*f, form))
+}
+
+// All that is said of a form: it is known, new, or refused by 11, 15 or 16.
+fn judge(d: Depot, slots: &[Form], form: Form) -> Result<Receipt, u32>
+    ensures { result ≡ (stored d slots.now form).outcome }
+{
+    if slots.len() < d.held {
+        return Err(11);
     }
     if !is_form(form) {
-        return 0;
+        return Err(15);
     }
-    d.held
-}
-
-// What is decided: whether the form is stored, what is said of it, and the depot from now on.
-fn decided(stores: bool, outcome: Outcome, d: Depot) -> Verdict
-    ensures { result ≡ decides stores outcome d }
-{
-    Verdict {
-        stores: stores,
-        stored: Stored {
-            outcome: outcome,
-            depot: d,
-        },
+    if is_held(&slots[..d.held], form) {
+        return Ok(Receipt::Known);
     }
-}
-
-// All that is decided of a form whose key is held, or not.
-fn judge(d: Depot, len: usize, form: Form, known: bool) -> Verdict
-    ensures { result ≡ judged d len form known }
-{
-    if len < d.held {
-        return decided(false, Outcome::Refused(11), d);
+    if slots.len() <= d.held {
+        return Err(16);
     }
-    if !is_form(form) {
-        return decided(false, Outcome::Refused(15), d);
-    }
-    if known {
-        return decided(false, Outcome::Known, d);
-    }
-    if len <= d.held {
-        return decided(false, Outcome::Refused(16), d);
-    }
-    let more = Depot { held: d.held + 1 };
-    decided(true, Outcome::Issued, more)
+    Ok(Receipt::Issued)
 }
 
 impl Depot {
@@ -200,22 +164,18 @@ impl Depot {
     pub fn take(self, slots: &mut [Form], form: Form) -> Stored
         ensures { (result ≡ stored self slots.old form) × (slots.new ≡ stored_slots self slots.old form) }
     {
-        let len = slots.len();
-        let n = looked(self, len, form);
-        let mut known = false;
-        let mut k: usize = 0;
-        while k < n {
-            let f = slots[k];
-            let met = is_met(known, f, form);
-            known = met;
-            k = k + 1;
+        let outcome = judge(self, slots, form);
+        if outcome == Ok(Receipt::Issued) {
+            slots[self.held] = form;
+            let depot = Depot {
+                held: self.held + 1,
+            };
+            return Stored { outcome, depot };
         }
-        let v = judge(self, len, form, known);
-        let at = self.held;
-        if v.stores {
-            slots[at] = form;
+        Stored {
+            outcome,
+            depot: self,
         }
-        v.stored
     }
 }
 
@@ -233,31 +193,6 @@ pub struct StoredArray {
     pub stored: Stored,
 }
 
-// How many of 64 slots are lent.
-fn lent_of(len: usize) -> usize
-    ensures { result ≡ lent_of 64 len }
-{
-    list::lent_of(64, len)
-}
-
-fn with_forms(out: [Form; 64], made: Made) -> MadeArray
-    ensures { result ≡ with_forms out made }
-{
-    MadeArray {
-        out: out,
-        made: made,
-    }
-}
-
-fn with_slots(slots: [Form; 64], stored: Stored) -> StoredArray
-    ensures { result ≡ with_slots slots stored }
-{
-    StoredArray {
-        slots: slots,
-        stored: stored,
-    }
-}
-
 // `forms` on the first `len` of 64 slots and the first `room` of 64 places, which are lent for the call; on all 64 where one exceeds that. For callers that keep them by value.
 pub fn forms_array(
     slots: [Pair; 64],
@@ -269,10 +204,10 @@ pub fn forms_array(
     ensures { result ≡ made_array slots len out room b }
 {
     let mut own = out;
-    let n = lent_of(len);
-    let m = lent_of(room);
+    let n = list::lent_of(64, len);
+    let m = list::lent_of(64, room);
     let made = forms(b, &slots[..n], &mut own[..m]);
-    with_forms(own, made)
+    MadeArray { out: own, made }
 }
 
 // `Depot::take` on the first `len` of 64 slots, which are lent for the call and come back; on all 64 where `len` exceeds that. For callers that keep their slots by value.
@@ -280,7 +215,7 @@ pub fn take_array(slots: [Form; 64], len: usize, d: Depot, form: Form) -> Stored
     ensures { result ≡ stored_array slots len d form }
 {
     let mut own = slots;
-    let n = lent_of(len);
+    let n = list::lent_of(64, len);
     let stored = d.take(&mut own[..n], form);
-    with_slots(own, stored)
+    StoredArray { slots: own, stored }
 }

@@ -21,9 +21,10 @@ ghost use Rattle.nearest.specs.Nearest.{nearest_no, near_filter_no, nearest_answ
 ghost use Rattle.ffi.specs.Over.{head_over, point_over, hit_over, walk_over, book_over, next_over, key_over, outcome_over, store_over, mark_over, marked_at};
 
 use book::{Book, Taken};
-use depot::{Depot, Form, Made};
+use depot::{Depot, Form, Made, Receipt};
 use list::{Key, Page, Pair, Request, Source, Terms};
 use many::{Counted, Many, Wanted, Which};
+use marker::Marker;
 use nearest::Found;
 use ranked::{Busy, Question, Urgent};
 use ring::{Filtered, Paged, Partnered, Placed};
@@ -100,17 +101,17 @@ pub struct MarkAnswer {
     pub y: f64,
 }
 
-fn of_pointed(v: ring::Pointed) -> PointAnswer
+fn of_pointed(v: Result<ring::Asset, u32>) -> PointAnswer
     ensures { result ≡ point_over v }
 {
     match v {
-        ring::Pointed::At(a) => PointAnswer {
+        Ok(a) => PointAnswer {
             number: 0,
             id: a.id,
             x: a.x,
             y: a.y,
         },
-        ring::Pointed::Refused(k) => PointAnswer {
+        Err(k) => PointAnswer {
             number: k,
             id: 0,
             x: 0,
@@ -129,7 +130,7 @@ fn of_hit(h: walk::Hit, opened: u64) -> WalkAnswer
             set: 0,
             side: 0,
             at: 0,
-            opened: opened,
+            opened,
         },
         walk::Hit::Point(b) => WalkAnswer {
             number: 0,
@@ -137,7 +138,7 @@ fn of_hit(h: walk::Hit, opened: u64) -> WalkAnswer
             set: b.set,
             side: 0,
             at: b.position,
-            opened: opened,
+            opened,
         },
         walk::Hit::Side(e) => WalkAnswer {
             number: 0,
@@ -145,20 +146,20 @@ fn of_hit(h: walk::Hit, opened: u64) -> WalkAnswer
             set: e.set,
             side: e.side,
             at: e.node,
-            opened: opened,
+            opened,
         },
     }
 }
 
-fn of_walked(v: ring::Walked) -> WalkAnswer
+fn of_walked(v: Result<walk::Answer, u32>) -> WalkAnswer
     ensures { result ≡ walk_over v }
 {
     match v {
-        ring::Walked::Done(a) => {
+        Ok(a) => {
             let h = a.hit;
             of_hit(h, a.opened)
         }
-        ring::Walked::Refused(k) => WalkAnswer {
+        Err(k) => WalkAnswer {
             number: k,
             kind: 0,
             set: 0,
@@ -169,12 +170,12 @@ fn of_walked(v: ring::Walked) -> WalkAnswer
     }
 }
 
-fn of_begun(v: book::Begun) -> BookAnswer
+fn of_begun(v: Result<Book, u32>) -> BookAnswer
     ensures { result ≡ book_over v }
 {
     match v {
-        book::Begun::Open(b) => BookAnswer { number: 0, book: b },
-        book::Begun::Refused(k) => BookAnswer {
+        Ok(b) => BookAnswer { number: 0, book: b },
+        Err(k) => BookAnswer {
             number: k,
             book: Book {
                 held: 0,
@@ -194,16 +195,16 @@ fn of_begun(v: book::Begun) -> BookAnswer
     }
 }
 
-fn of_next(v: book::Next, b: Book) -> KeyAnswer
+fn of_next(v: Result<Key, u32>, b: Book) -> KeyAnswer
     ensures { result ≡ next_over v b }
 {
     match v {
-        book::Next::After(k) => KeyAnswer {
+        Ok(k) => KeyAnswer {
             number: 0,
             key: k,
             book: b,
         },
-        book::Next::Refused(n) => KeyAnswer {
+        Err(n) => KeyAnswer {
             number: n,
             key: Key { q: 0, p: 0 },
             book: b,
@@ -219,21 +220,21 @@ fn of_asked(a: book::Asked) -> KeyAnswer
     of_next(v, b)
 }
 
-fn of_outcome(v: depot::Outcome, d: Depot) -> StoreAnswer
+fn of_outcome(v: Result<Receipt, u32>, d: Depot) -> StoreAnswer
     ensures { result ≡ outcome_over v d }
 {
     match v {
-        depot::Outcome::Issued => StoreAnswer {
+        Ok(Receipt::Issued) => StoreAnswer {
             number: 0,
             issued: true,
             depot: d,
         },
-        depot::Outcome::Known => StoreAnswer {
+        Ok(Receipt::Known) => StoreAnswer {
             number: 0,
             issued: false,
             depot: d,
         },
-        depot::Outcome::Refused(n) => StoreAnswer {
+        Err(n) => StoreAnswer {
             number: n,
             issued: false,
             depot: d,
@@ -249,16 +250,16 @@ fn of_stored(a: depot::Stored) -> StoreAnswer
     of_outcome(v, d)
 }
 
-fn of_marked(v: marker::Marked) -> MarkAnswer
+fn of_marked(v: Result<Marker, u32>) -> MarkAnswer
     ensures { result ≡ mark_over v }
 {
     match v {
-        marker::Marked::At(m) => MarkAnswer {
+        Ok(m) => MarkAnswer {
             number: 0,
             x: m.x,
             y: m.y,
         },
-        marker::Marked::Refused(k) => MarkAnswer {
+        Err(k) => MarkAnswer {
             number: k,
             x: 0.0,
             y: 0.0,
@@ -285,7 +286,7 @@ pub extern "C" fn ring_open(words: &[i32]) -> HeadAnswer
     let len = words.len();
     HeadAnswer {
         number: 0,
-        len: len,
+        len,
         n: h.n,
         m: h.m,
         edition: words::num_at(words, len - 2) as u32,

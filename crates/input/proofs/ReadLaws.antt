@@ -8,13 +8,12 @@ use borrow.Rule.Slice.PartMut.{put_mid, post_of}
 use Rattle.std.specs.Io.{ReadsAtMost}
 use Rattle.std.specs.Io.KnownBytes.{Consumes, ReadConsumes}
 use Rattle.input.specs.Got.{told_by, ReadsSome}
-use Rattle.input.specs.declared.Got.TheVariants.{Bytes}
 
 -- one read, of which no more is believed than the room takes
 pub told_reads : {E : Type 0} (old new : Option (List ℕ)) (r : Result ℕ E) (room : List ℕ) → ReadsAtMost r room → ReadConsumes old new r room
     → ReadsSome old new (told_by r (length room)) room
 unfolding told_by
-told_reads old new (Ok n) room within took = subst (λ (k : ℕ). ReadsSome old new (Bytes k) room) (sym (min-eq_left within.0)) took
+told_reads old new (Ok n) room within took = subst (λ (k : ℕ). ReadsSome old new (Ok k) room) (sym (min-eq_left within.0)) took
 told_reads old new (Err e) room within took = took
 
 -- what was read after a bytes were

@@ -8,26 +8,23 @@ ghost use Rattle.input.specs.Got.{told_by, Within, ReadsSome, ReadsAll};
 use std::io;
 use std::io::Read;
 
-// What came of reading: so many bytes, up to the end of the input or of the room, or a read that failed.
-#[derive(Clone, Copy)]
-pub enum Got {
-    Bytes(usize),
-    Failed,
-}
+// A read failed. Why, nobody is told: a program only says that it did.
+#[derive(Clone, Copy, Debug, PartialEq, Eq)]
+pub struct ReadFailed;
 
-// What the answer of a read into `buf` says.
-fn told(got: io::Result<usize>, buf: &[u8]) -> Got
+// What the answer of a read into `buf` says: so many bytes, up to the end of the input or of the room, or that it failed.
+fn told(got: io::Result<usize>, buf: &[u8]) -> Result<usize, ReadFailed>
     ensures value { result ≡ told_by got (length buf.now) }
     ensures within { Within result buf.now }
 {
     match got {
-        Ok(n) => Got::Bytes(n.min(buf.len())),
-        Err(_) => Got::Failed,
+        Ok(n) => Ok(n.min(buf.len())),
+        Err(_) => Err(ReadFailed),
     }
 }
 
 // One read, to the start of `buf`: 0 bytes at the end of the input.
-fn read_some<R: Read>(from: &mut R, buf: &mut [u8]) -> Got
+fn read_some<R: Read>(from: &mut R, buf: &mut [u8]) -> Result<usize, ReadFailed>
     ensures within { Within result buf.new }
     ensures bytes { ReadsSome (R.remaining from.old) (R.remaining from.new) result buf.new }
 {
@@ -36,21 +33,18 @@ fn read_some<R: Read>(from: &mut R, buf: &mut [u8]) -> Got
 }
 
 // Reads until `buf` is full or the input ends; the bytes stand at the start of `buf`. The first read that fails is the last.
-pub fn read_all<R: Read>(from: &mut R, buf: &mut [u8]) -> Got
+pub fn read_all<R: Read>(from: &mut R, buf: &mut [u8]) -> Result<usize, ReadFailed>
     ensures within { Within result buf.new }
     ensures bytes { ReadsAll (R.remaining from.old) (R.remaining from.new) result buf.new }
 {
     let mut done: usize = 0;
+    // Kept: each step is as long as the read was: the loop counts no index.
     while done < buf.len() {
-        match read_some(from, &mut buf[done..]) {
-            Got::Failed => return Got::Failed,
-            Got::Bytes(n) => {
-                if n == 0 {
-                    return Got::Bytes(done);
-                }
-                done += n;
-            }
+        let n = read_some(from, &mut buf[done..])?;
+        if n == 0 {
+            return Ok(done);
         }
+        done += n;
     }
-    Got::Bytes(done)
+    Ok(done)
 }

@@ -3,7 +3,6 @@
 
 ghost use Rattle.std.specs.Prelude.{◌≡◌, ℕ, ◌+◌, ◌*◌, ◌≤◌, ◌<◌, length, false, ◌&&◌};
 ghost use Rattle.bits.specs.Set.{kept, Holds};
-ghost use Rattle.sheet.specs.Open.{Opens};
 ghost use Rattle.plane.specs.Point.{id_at};
 ghost use Rattle.sheet.specs.Places.{points_of};
 ghost use Rattle.walk.specs.RingWalk.{clear};
@@ -18,7 +17,7 @@ ghost use Rattle.join.specs.Threshold.{found_for, ring_opened, walks_for, on_wor
 ghost use Rattle.join.specs.Only.{page_walks};
 
 use list::{Key, Page, Pair, Source, Terms};
-use sheet::Size;
+use sheet::Sheet;
 use walk::Answer;
 use walk::filter::ROOM;
 
@@ -70,44 +69,44 @@ fn with_found(d: Draft, size: usize, v: Pair) -> Draft
 }
 
 // Whether the pair of position j of Q and position i of P is after the key.
-fn is_late(p: &[i32], hp: Size, q: &[i32], hq: Size, key: Key, j: usize, i: usize) -> bool
-    requires { Opens p.now hp.n hp.m × Opens q.now hq.n hq.m × (j < hq.n) × (i < hp.n) }
-    ensures { result ≡ follows key (key_of (pair_at (points_of p.now) (points_of q.now) j i)) }
+fn is_late(p: Sheet<'_>, q: Sheet<'_>, key: Key, j: usize, i: usize) -> bool
+    requires { (j < q.n) × (i < p.n) }
+    ensures { result ≡ follows key (key_of (pair_at (points_of p.entry.words.now) (points_of q.entry.words.now) j i)) }
 {
     let v = Key {
-        q: sheet::reads::id_at(q, hq.n, hq.m, j),
-        p: sheet::reads::id_at(p, hp.n, hp.m, i),
+        q: q.id_at(j),
+        p: p.id_at(i),
     };
     list::is_after(key, v)
 }
 
 // The ring walk of position j of Q and position i of P: over both sheets, or of a self join once over the one.
-fn walked(p: &[i32], hp: Size, q: &[i32], hq: Size, terms: Terms, j: usize, i: usize) -> Answer
-    requires { Opens p.now hp.n hp.m × Opens q.now hq.n hq.m × (j < hq.n) × (i < hp.n) × Alone terms p.now q.now }
-    ensures { (words : ℕ) → (clear result.hit ≡ (walks_by terms words p.now q.now).clear j i) × (result.opened ≡ (walks_by terms words p.now q.now).clear_opened j i) }
+fn walked(p: Sheet<'_>, q: Sheet<'_>, terms: Terms, j: usize, i: usize) -> Answer
+    requires { (j < q.n) × (i < p.n) × Alone terms p.words.now q.words.now }
+    ensures { (words : ℕ) → (clear result.hit ≡ (walks_by terms words p.entry.words.now q.entry.words.now).clear j i) × (result.opened ≡ (walks_by terms words p.entry.words.now q.entry.words.now).clear_opened j i) }
 {
     if terms.own {
-        let a = sheet::reads::spot_at(q, hq.n, hq.m, j);
-        let b = sheet::reads::spot_at(p, hp.n, hp.m, i);
-        return walk::ring::ring_on(p, hp.n, hp.m, 0, a, b, 0, terms.grid);
+        let a = q.spot_at(j);
+        let b = p.spot_at(i);
+        return walk::ring::ring_on(p, 0, a, b, 0, terms.grid);
     }
-    walk::ring::pair_walk_by(p, hp, q, hq, j, i, terms.grid)
+    walk::ring::pair_walk_by(p, q, j, i, terms.grid)
 }
 
 // The kept partner at position i of P, for the q at position j: ring-walked if it is after the key.
-fn try_partner(p: &[i32], hp: Size, q: &[i32], hq: Size, ask: Ask, j: usize, i: usize) -> Tried
-    requires { Opens p.now hp.n hp.m × Opens q.now hq.n hq.m × (j < hq.n) × (i < hp.n) × Alone ask.terms p.now q.now }
-    ensures { (words : ℕ) → result ≡ tried (walks_by ask.terms words p.now q.now) ask.key j i }
+fn try_partner(p: Sheet<'_>, q: Sheet<'_>, ask: Ask, j: usize, i: usize) -> Tried
+    requires { (j < q.n) × (i < p.n) × Alone ask.terms p.words.now q.words.now }
+    ensures { (words : ℕ) → result ≡ tried (walks_by ask.terms words p.entry.words.now q.entry.words.now) ask.key j i }
 {
     let key = ask.key;
-    if !is_late(p, hp, q, hq, key, j, i) {
+    if !is_late(p, q, key, j, i) {
         return Tried {
             finds: false,
             opened: 0,
         };
     }
     let terms = ask.terms;
-    let a = walked(p, hp, q, hq, terms, j, i);
+    let a = walked(p, q, terms, j, i);
     Tried {
         finds: walk::clear_after(a),
         opened: a.opened,
@@ -116,30 +115,29 @@ fn try_partner(p: &[i32], hp: Size, q: &[i32], hq: Size, ask: Ask, j: usize, i: 
 
 // The kept partners of the q at position j, in id order from position `from` on, until a pair beyond the size is found.
 fn with_partners(
-    p: &[i32],
-    hp: Size,
-    q: &[i32],
-    hq: Size,
+    p: Sheet<'_>,
+    q: Sheet<'_>,
     ask: Ask,
     j: usize,
     from: usize,
     bits: &[u64],
     d: Draft,
 ) -> Draft
-    requires { Opens p.now hp.n hp.m × Opens q.now hq.n hq.m × (j < hq.n) × (ask.size ≤ 16) × Holds bits.now hp.n × (d.opened + hp.n * (hp.m + hq.m) < 9223372036854775808) × Alone ask.terms p.now q.now × Agrees (walks_by ask.terms (length bits.now) p.now q.now) j from bits.now }
-    ensures { result ≡ partners (walks_by ask.terms (length bits.now) p.now q.now) ask.key ask.size j hp.n 0 d }
+    requires { (j < q.n) × (ask.size ≤ 16) × Holds bits.now p.n × (d.opened + p.n * (p.m + q.m) < 9223372036854775808) × Alone ask.terms p.words.now q.words.now × Agrees (walks_by ask.terms (length bits.now) p.words.now q.words.now) j from bits.now }
+    ensures { result ≡ partners (walks_by ask.terms (length bits.now) p.entry.words.now q.entry.words.now) ask.key ask.size j p.entry.n 0 d }
 {
-    let n = hp.n;
+    let n = p.n;
     let mut r = d;
     let mut i = bits::next_from(bits, from);
+    // Kept: each step goes to the next kept bit: the loop counts no index.
     while i < n {
         if r.more {
             return r;
         }
-        let t = try_partner(p, hp, q, hq, ask, j, i);
+        let t = try_partner(p, q, ask, j, i);
         r.opened = r.opened + t.opened;
         if t.finds {
-            let v = walk::pair::pair_by(p, hp, q, hq, j, i, ask.terms.grid);
+            let v = walk::pair::pair_by(p, q, j, i, ask.terms.grid);
             r = with_found(r, ask.size, v);
         }
         i = bits::next_from(bits, i + 1);
@@ -148,24 +146,17 @@ fn with_partners(
 }
 
 // Of the kept partners of the q at position j those stay kept whose ring walk is clear: how many they are, and the nodes opened.
-fn keep_clear(
-    p: &[i32],
-    hp: Size,
-    q: &[i32],
-    hq: Size,
-    terms: Terms,
-    j: usize,
-    bits: &mut [u64],
-) -> Sifted
-    requires { Opens p.now hp.n hp.m × Opens q.now hq.n hq.m × (j < hq.n) × Holds bits.old hp.n × (terms.own ≡ false) × Agrees (walks_by terms (length bits.old) p.now q.now) j 0 bits.old }
-    ensures { ((i : ℕ) → kept bits.new i ≡ ((walks_by terms (length bits.old) p.now q.now).kept j i && (walks_by terms (length bits.old) p.now q.now).clear j i)) × (result.count ≡ found_for (walks_by terms (length bits.old) p.now q.now) hp.n j) × (result.opened ≡ ring_opened (walks_by terms (length bits.old) p.now q.now) hp.n j) }
+fn keep_clear(p: Sheet<'_>, q: Sheet<'_>, terms: Terms, j: usize, bits: &mut [u64]) -> Sifted
+    requires { (j < q.n) × Holds bits.old p.n × (terms.own ≡ false) × Agrees (walks_by terms (length bits.old) p.words.now q.words.now) j 0 bits.old }
+    ensures { ((i : ℕ) → kept bits.new i ≡ ((walks_by terms (length bits.old) p.entry.words.now q.entry.words.now).kept j i && (walks_by terms (length bits.old) p.entry.words.now q.entry.words.now).clear j i)) × (result.count ≡ found_for (walks_by terms (length bits.old) p.entry.words.now q.entry.words.now) p.entry.n j) × (result.opened ≡ ring_opened (walks_by terms (length bits.old) p.entry.words.now q.entry.words.now) p.entry.n j) }
 {
-    let n = hp.n;
+    let n = p.n;
     let mut opened: u64 = 0;
     let mut count: usize = 0;
     let mut i = bits::next_from(bits, 0);
+    // Kept: each step goes to the next kept bit: the loop counts no index.
     while i < n {
-        let a = walk::ring::pair_walk_by(p, hp, q, hq, j, i, terms.grid);
+        let a = walk::ring::pair_walk_by(p, q, j, i, terms.grid);
         opened += a.opened;
         if walk::clear_after(a) {
             count += 1;
@@ -174,36 +165,25 @@ fn keep_clear(
         }
         i = bits::next_from(bits, i + 1);
     }
-    Sifted {
-        count: count,
-        opened: opened,
-    }
+    Sifted { count, opened }
 }
 
 // The pairs of the q at position j with the kept positions, in id order, after the key, until a pair beyond the size is found. No partner is walked.
-fn with_kept(
-    p: &[i32],
-    hp: Size,
-    q: &[i32],
-    hq: Size,
-    ask: Ask,
-    j: usize,
-    bits: &[u64],
-    d: Draft,
-) -> Draft
-    requires { Opens p.now hp.n hp.m × Opens q.now hq.n hq.m × (j < hq.n) × (ask.size ≤ 16) × Holds bits.now hp.n }
-    ensures { result ≡ partners (on_words (profile_for ask.terms) bits.now p.now q.now) ask.key ask.size j hp.n 0 d }
+fn with_kept(p: Sheet<'_>, q: Sheet<'_>, ask: Ask, j: usize, bits: &[u64], d: Draft) -> Draft
+    requires { (j < q.n) × (ask.size ≤ 16) × Holds bits.now p.n }
+    ensures { result ≡ partners (on_words (profile_for ask.terms) bits.now p.entry.words.now q.entry.words.now) ask.key ask.size j p.entry.n 0 d }
 {
-    let n = hp.n;
+    let n = p.n;
     let key = ask.key;
     let mut r = d;
     let mut i = bits::next_from(bits, 0);
+    // Kept: each step goes to the next kept bit: the loop counts no index.
     while i < n {
         if r.more {
             return r;
         }
-        if is_late(p, hp, q, hq, key, j, i) {
-            let v = walk::pair::pair_by(p, hp, q, hq, j, i, ask.terms.grid);
+        if is_late(p, q, key, j, i) {
+            let v = walk::pair::pair_by(p, q, j, i, ask.terms.grid);
             r = with_found(r, ask.size, v);
         }
         i = bits::next_from(bits, i + 1);
@@ -228,65 +208,51 @@ fn wide(t: u32) -> usize
 // The q at position j: filtered, on the words lent, and its kept partners tried; for a page of t above 0 all of them, and shown where at least t are ring partners.
 // The filter of a self join meets q too, which changes the bit of q alone. What it tries first stands in the list lent.
 fn with_chamber(
-    p: &[i32],
-    hp: Size,
-    q: &[i32],
-    hq: Size,
+    p: Sheet<'_>,
+    q: Sheet<'_>,
     ask: Ask,
     j: usize,
     bits: &mut [u64],
     latest: &mut [u32],
     d: Draft,
 ) -> Draft
-    requires { Opens p.now hp.n hp.m × Opens q.now hq.n hq.m × (j < hq.n) × (ask.size ≤ 16) × Holds bits.old hp.n × (d.opened + (hp.m + hp.n * (hp.m + hq.m)) < 9223372036854775808) × Alone ask.terms p.now q.now }
-    ensures { result ≡ chamber (walks_for (walks_by ask.terms (length bits.old) p.now q.now) hp.n ask.terms.threshold) ask.key ask.size hp.n j d }
+    requires { (j < q.n) × (ask.size ≤ 16) × Holds bits.old p.n × (d.opened + (p.m + p.n * (p.m + q.m)) < 9223372036854775808) × Alone ask.terms p.words.now q.words.now }
+    ensures { result ≡ chamber (walks_for (walks_by ask.terms (length bits.old) p.entry.words.now q.entry.words.now) p.entry.n ask.terms.threshold) ask.key ask.size p.entry.n j d }
 {
-    let z = sheet::reads::spot_at(q, hq.n, hq.m, j);
-    let opened = walk::filter::kept_by(p, hp.n, hp.m, z, bits, latest, ask.terms.grid);
+    let z = q.spot_at(j);
+    let opened = walk::filter::kept_by(p, z, bits, latest, ask.terms.grid);
     let mut r = d;
     r.opened = d.opened + opened;
     let terms = ask.terms;
     let t = wide(terms.threshold);
     if t == 0 {
         let from = start_for(terms, j);
-        return with_partners(p, hp, q, hq, ask, j, from, bits, r);
+        return with_partners(p, q, ask, j, from, bits, r);
     }
-    let s = keep_clear(p, hp, q, hq, terms, j, bits);
+    let s = keep_clear(p, q, terms, j, bits);
     r.opened = r.opened + s.opened;
     if s.count < t {
         return r;
     }
-    with_kept(p, hp, q, hq, ask, j, bits, r)
+    with_kept(p, q, ask, j, bits, r)
 }
 
 // The first position of Q whose id is not below the key's, or the number of its points.
-fn first_from(q: &[i32], hq: Size, key: Key) -> usize
-    requires { Opens q.now hq.n hq.m }
-    ensures { result ≡ first_from (id_at (points_of q.now)) key hq.n }
+fn first_from(q: Sheet<'_>, key: Key) -> usize
+    ensures { result ≡ first_from (id_at (points_of q.entry.words.now)) key q.entry.n }
 {
-    let n = hq.n;
-    let mut j = 0;
-    while j < n {
-        if sheet::reads::id_at(q, hq.n, hq.m, j) >= key.q {
+    for j in 0..q.n {
+        if q.id_at(j) >= key.q {
             return j;
         }
-        j += 1;
     }
-    j
+    q.n
 }
 
 // The page maker's work, the kept sets on the words lent. Only chambers of the contractor, by the owner bytes, are filtered and counted.
-pub fn made_on(
-    p: &[i32],
-    hp: Size,
-    q: &[i32],
-    hq: Size,
-    owners: &[u8],
-    ask: Ask,
-    bits: &mut [u64],
-) -> Draft
-    requires { Opens p.now hp.n hp.m × Opens q.now hq.n hq.m × (ask.size ≤ 16) × Holds bits.old hp.n × Alone ask.terms p.now q.now }
-    ensures { result ≡ page_made (page_walks ask.terms owners.now (length bits.old) p.now q.now hp.n) ask.key ask.size hp.n hq.n }
+pub fn made_on(p: Sheet<'_>, q: Sheet<'_>, owners: &[u8], ask: Ask, bits: &mut [u64]) -> Draft
+    requires { (ask.size ≤ 16) × Holds bits.old p.n × Alone ask.terms p.words.now q.words.now }
+    ensures { result ≡ page_made (page_walks ask.terms owners.now (length bits.old) p.entry.words.now q.entry.words.now p.entry.n) ask.key ask.size p.entry.n q.entry.n }
 {
     let mut r = Draft {
         pairs: [Pair {
@@ -299,18 +265,16 @@ pub fn made_on(
         opened: 0,
     };
     let mut latest = [0u32; ROOM];
-    let n = hq.n;
+    let n = q.n;
     let key = ask.key;
     let c = ask.terms.contractor;
-    let mut j = first_from(q, hq, key);
-    while j < n {
+    for j in first_from(q, key)..n {
         if r.more {
             return r;
         }
         if list::is_mine(owners, c, j) {
-            r = with_chamber(p, hp, q, hq, ask, j, bits, &mut latest, r);
+            r = with_chamber(p, q, ask, j, bits, &mut latest, r);
         }
-        j += 1;
     }
     r
 }
@@ -321,10 +285,10 @@ pub fn page_from(source: Source, key: Key, d: Draft) -> Page
 {
     let pairs = d.pairs;
     Page {
-        source: source,
-        key: key,
+        source,
+        key,
         count: d.count,
         end: !d.more,
-        pairs: pairs,
+        pairs,
     }
 }

@@ -1,12 +1,11 @@
 // The run of a leaf, on lent words: its ring pairs, each by its bit, and how they are read one after the other.
 ghost use Rattle.std.specs.Prelude.{◌≡◌, [], ◌∷◌, ◌<◌, length};
 ghost use Rattle.sheet.specs.Nodes.{level_of};
-ghost use Rattle.sheet.specs.Open.{Opens};
 ghost use Rattle.leaf.specs.LeafRun.{leaf_list, leaf_opened, RunSet, left_from};
 ghost use Rattle.leaf.specs.Room.{Sets};
 
 use list::Pair;
-use sheet::Size;
+use sheet::Sheet;
 
 // How many ring pairs a leaf has, and the nodes opened to find them.
 #[derive(Clone, Copy)]
@@ -23,27 +22,20 @@ pub struct Step {
 }
 
 // The run of the leaf v of Q: of the words lent, the bits of its ring pairs are left, and no other.
-pub fn run_made(
-    p: &[i32],
-    hp: Size,
-    q: &[i32],
-    hq: Size,
-    v: usize,
-    words: usize,
-    bits: &mut [u64],
-) -> Made
-    requires { Opens p.now hp.n hp.m × Opens q.now hq.n hq.m × (v < hq.m) × (level_of q.now hq.n v ≡ 0) × Sets bits.old words hp.n }
-    ensures { RunSet p.now q.now v words bits.new × (result.count ≡ length (leaf_list p.now q.now v)) × (result.opened ≡ leaf_opened words p.now q.now v) }
+pub fn run_made(p: Sheet<'_>, q: Sheet<'_>, v: usize, words: usize, bits: &mut [u64]) -> Made
+    requires { (v < q.m) × (level_of q.words.now q.n v ≡ 0) × Sets bits.old words p.n }
+    ensures { RunSet p.entry.words.now q.entry.words.now v words bits.new × (result.count ≡ length (leaf_list p.entry.words.now q.entry.words.now v)) × (result.opened ≡ leaf_opened words p.entry.words.now q.entry.words.now v) }
 {
-    let first = sheet::reads::first_at(q, hq.n, hq.m, v);
-    let chambers = sheet::reads::count_at(q, hq.n, hq.m, v);
+    let first = q.first_at(v);
+    let chambers = q.count_at(v);
     let end = 64 * (words * chambers);
-    let mut opened = crate::filter::leaf_kept(p, hp, q, hq, v, words, bits);
+    let mut opened = crate::filter::leaf_kept(p, q, v, words, bits);
     let mut count: usize = 0;
     let mut at = bits::next_from(bits, 0);
+    // Kept: each step goes to the next kept bit, and the walk may take bits away: the loop counts no index.
     while at < end {
-        let j = sheet::reads::order_at(q, hq.n, hq.m, first + at / (64 * words));
-        let a = walk::ring::pair_walk(p, hp, q, hq, j, at % (64 * words));
+        let j = q.order_at(first + at / (64 * words));
+        let a = walk::ring::pair_walk(p, q, j, at % (64 * words));
         opened += a.opened;
         if walk::clear_after(a) {
             count += 1;
@@ -52,33 +44,25 @@ pub fn run_made(
         }
         at = bits::next_from(bits, at + 1);
     }
-    Made {
-        count: count,
-        opened: opened,
-    }
+    Made { count, opened }
 }
 
 // The first pair of a run from bit `at` on, where there is one.
 pub fn pair_from(
-    p: &[i32],
-    hp: Size,
-    q: &[i32],
-    hq: Size,
+    p: Sheet<'_>,
+    q: Sheet<'_>,
     v: usize,
     words: usize,
     bits: &[u64],
     at: usize,
 ) -> Step
-    requires { Opens p.now hp.n hp.m × Opens q.now hq.n hq.m × (v < hq.m) × (level_of q.now hq.n v ≡ 0) × Sets bits.now words hp.n × RunSet p.now q.now v words bits.now × (left_from p.now q.now v words bits.now at ≡ [] → ⊥) }
-    ensures { left_from p.now q.now v words bits.now at ≡ result.pair ∷ left_from p.now q.now v words bits.now result.next }
+    requires { (v < q.m) × (level_of q.words.now q.n v ≡ 0) × Sets bits.now words p.n × RunSet p.words.now q.words.now v words bits.now × (left_from p.words.now q.words.now v words bits.now at ≡ [] → ⊥) }
+    ensures { left_from p.entry.words.now q.entry.words.now v words bits.now at ≡ result.pair ∷ left_from p.entry.words.now q.entry.words.now v words bits.now result.next }
 {
     let x = bits::next_from(bits, at);
-    let first = sheet::reads::first_at(q, hq.n, hq.m, v);
-    let j = sheet::reads::order_at(q, hq.n, hq.m, first + x / (64 * words));
-    let pair = walk::pair::pair_at(p, hp, q, hq, j, x % (64 * words));
+    let first = q.first_at(v);
+    let j = q.order_at(first + x / (64 * words));
+    let pair = walk::pair::pair_at(p, q, j, x % (64 * words));
     let next = x + 1;
-    Step {
-        pair: pair,
-        next: next,
-    }
+    Step { pair, next }
 }

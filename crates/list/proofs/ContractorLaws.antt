@@ -6,6 +6,7 @@
 --     undivided                 the list of contractor 2 is that of all chambers; undivided_any: whatever the bytes are
 --     read_any, mine_read, owners_none, ..      what the code finds in the bytes; contractor_most, contractor_two, owners_each: what the numbers 27 and 26 being 0 says
 -- Assumes nothing.
+use Rattle.std.proofs.Common.{IsTrue, EachIndex}
 use mathlib.Core.Path.{◌≡◌, refl, sym, ap, subst, ◌∙◌}
 use mathlib.Core.Bool.{Bool, true, false, cond, not, ◌&&◌, ◌||◌}
 use mathlib.Core.Logic.{◌↔◌, ◌⊎◌, inl, inr, ⊎_elim}
@@ -14,11 +15,11 @@ use Prim.Native.Nat.{ℕ, zero, suc, ◌≤◌, ◌<◌}
 use native.Mathlib.Omega.{arith}
 use lib.Dec.{eqb, leb}
 use lib.ListN.{length, get_or}
-use borrow.Author.Tests.{eqb-true, eq-eqb, ne_eqb, leb-true, le-leb, lt-leb}
-use Rattle.integers.proofs.Bools.{decide, and_left, and_right, and_both, clash}
+use borrow.Author.Tests.{eqb-true, eq-eqb, ne_eqb, leb-true, le-leb}
+use Rattle.integers.proofs.Bools.{test_iff, decide, and_left, and_right, and_both, clash}
 use Rattle.words.specs.First.{given}
 use Rattle.words.specs.All.{all_b}
-use Rattle.words.proofs.AllLaws.{all_at}
+use Rattle.words.proofs.AllLaws.{all_at, all_make}
 use Rattle.words.proofs.FirstLaws.{given_held}
 use Rattle.plane.specs.Point.{Point, id_at}
 use Rattle.list.specs.declared.Pair.{Pair}
@@ -63,11 +64,15 @@ module _ (c : ℕ) (one : c < 2) (o : List ℕ) (j : ℕ) where
 abbrev pub owned : List ℕ → ℕ → Bool
 owned o j = leb (get_or o j 2) 1
 
-pub owned_yes : (o : List ℕ) (j b : ℕ) → b ≡ get_or o j 2 → b ≤ 1 → owned o j ≡ true
-owned_yes o j b e h = le-leb (get_or o j 2) 1 (omega arith)
+-- that of them all, of as many bytes
+pub bits_all : (o : List ℕ) (n : ℕ) (r : Bool) → length o ≡ n → IsTrue r ↔ EachIndex o (λ j. get_or o j 0 ≤ 1) → r ≡ all_b n (owned o)
+bits_all o n r e f = test_iff _ _ forth back
+  where
+    forth : r ≡ true → all_b n (owned o) ≡ true
+    forth t = all_make (owned o) n (λ j h. le-leb (get_or o j 2) 1 (rw (read_any o j 2 0 (omega arith)) (f.0 t j (omega arith))))
 
-pub owned_no : (o : List ℕ) (j b : ℕ) → b ≡ get_or o j 2 → 1 < b → owned o j ≡ false
-owned_no o j b e h = lt-leb (get_or o j 2) 1 (omega arith)
+    back : all_b n (owned o) ≡ true → r ≡ true
+    back t = f.1 (λ j h. rw (read_any o j 0 2 h) (leb-true (get_or o j 2) 1 (all_at (owned o) n t j (omega arith))))
 
 pub each_other : (o : List ℕ) (n : ℕ) → (length o ≡ n → ⊥) → false ≡ one_each o n
 unfolding one_each

@@ -1,6 +1,6 @@
 -- The numbers of the calls, and their answers by them.
 -- Assumes nothing.
-use mathlib.Core.Path.{◌≡◌, refl, sym, ap, subst, ◌∙◌}
+use mathlib.Core.Path.{◌≡◌, refl, sym, ap, ◌∙◌}
 use mathlib.Core.Bool.{Bool, false}
 use mathlib.Core.List.{List, [], ◌∷◌, ◌++◌}
 use Prim.Native.Nat.{ℕ, zero, suc, ◌≤◌}
@@ -9,10 +9,9 @@ use lib.ListN.{length, take, drop}
 use borrow.Author.Tests.{ltb-false}
 use Rattle.words.specs.First.{given, first, answer}
 use Rattle.words.proofs.FirstLaws.{first_passes, first_stops, first_last, none_applies, given_failed, answer_given, answer_refused}
-use Rattle.sheet.specs.declared.Size.{Size}
 use Rattle.sheet.specs.Layout.{points}
 use Rattle.sheet.specs.Places.{points_of}
-use Rattle.sheet.specs.Open.{Opens, sheet_no}
+use Rattle.sheet.specs.Open.{sheet_no}
 use Rattle.bits.specs.Set.{words_for, none, wiped}
 use Rattle.bits.proofs.LentLaws.{part_wiped}
 use Rattle.list.specs.declared.Key.{Key}
@@ -21,11 +20,11 @@ use Rattle.list.specs.Pairs.{start}
 use Rattle.list.specs.Pages.{threshold_no, contractor_no, owners_no}
 use Rattle.join.specs.Sheets.{Alone}
 use Rattle.ring.specs.declared.Head.{Head}
-use Rattle.ring.specs.Answers.{head_of}
+use Rattle.ring.specs.Answers.{head_of, Heads, heads_shut, heads_of}
 use Rattle.ring.specs.Lent.{need, bits_no, wiped_by}
 use Rattle.ring.specs.Numbers.{grid_no}
 use Rattle.ring.specs.Page.{key_no}
-use Rattle.ring.proofs.HeadLaws.{headed, head_number}
+use Rattle.ring.proofs.HeadLaws.{headed, head_number, HeadedBoth, headed_both, sheets_stop, sheets_pass}
 use Rattle.ring.proofs.LentLaws.{wiped_refused, wiped_given}
 use Rattle.many.specs.declared.Wanted.{Wanted}
 use Rattle.many.specs.declared.Which.{Which}
@@ -66,35 +65,33 @@ bits_lent words len e = ltb-false len words (given_failed 23 e)
 -- ---- two sheets
 
 module _ (P Q : List ℤ) (o : List ℕ) (a : Wanted) (len : ℕ) where
-  pub pairs_p : (h : Head) → h ≡ head_of P → (h.number ≡ 0 → ⊥) → h.number ≡ pairs_no P Q o a len
+  pub pairs_shut : (k : ℕ) → heads_shut k ≡ heads_of P Q → (k ≡ 0 → ⊥) → k ≡ pairs_no P Q o a len
   unfolding pairs_no
-  pairs_p h e ne = let n = head_number P h e in n ∙ sym (first_stops (sheet_no P) _ (λ z. ne (n ∙ z)))
+  pairs_shut k e ne = sym (sheets_stop P Q _ _ e ne)
 
-  module _ (h : Head) (e : h ≡ head_of P) (z : h.number ≡ 0) where
-    pub pairs_q : (g : Head) → g ≡ head_of Q → (g.number ≡ 0 → ⊥) → g.number ≡ pairs_no P Q o a len
-    unfolding pairs_no
-    pairs_q g f ne = let n = head_number Q g f in n ∙ sym (first_passes (sheet_no P) _ (headed P h e z).opens ∙ first_stops (sheet_no Q) _ (λ x. ne (n ∙ x)))
+  module _ (h : Heads) (e : h ≡ heads_of P Q) (z : h.number ≡ 0) (w : ℕ) (as_many : w ≡ words_for h.np) (r : ℕ) (d : r ≡ rest_no P Q o h.nq a w len) where
+    found : HeadedBoth P Q h
+    found = headed_both P Q h e z
 
-    module _ (g : Head) (f : g ≡ head_of Q) (y : g.number ≡ 0) (w : ℕ) (as_many : w ≡ words_for h.n) (r : ℕ) (d : r ≡ rest_no P Q o g.n a w len) where
-      needed : w ≡ need P
-      needed = as_many ∙ ap words_for (headed P h e z).n_is
+    needed : w ≡ need P
+    needed = as_many ∙ ap words_for found.np_is
 
-      pub pairs_rest : r ≡ pairs_no P Q o a len
-      unfolding pairs_no rest_no
-      pairs_rest =
-          d ∙ ap (λ (n : ℕ). rest_no P Q o n a w len) (headed Q g f y).n_is ∙ ap (λ (k : ℕ). rest_no P Q o (points Q) a k len) needed
-          ∙ sym (first_passes (sheet_no P) _ (headed P h e z).opens ∙ first_passes (sheet_no Q) _ (headed Q g f y).opens)
+    pub pairs_rest : r ≡ pairs_no P Q o a len
+    unfolding pairs_no rest_no
+    pairs_rest =
+        d ∙ ap (λ (n : ℕ). rest_no P Q o n a w len) found.nq_is ∙ ap (λ (k : ℕ). rest_no P Q o (points Q) a k len) needed
+        ∙ sym (sheets_pass P Q h _ e z)
 
-      pub pairs_served : r ≡ 0 → (hp hq : Size) → hp ≡ record { n = h.n; m = h.m } → hq ≡ record { n = g.n; m = g.m } → Served P Q hp hq w len
-      unfolding rest_no
-      pairs_served x hp hq eh eg =
-          record {
-            p_opens = subst (λ (s : Size). Opens P s.n s.m) (sym eh) (headed P h e z).facts;
-            q_opens = subst (λ (s : Size). Opens Q s.n s.m) (sym eg) (headed Q g f y).facts;
-            needed = as_many ∙ ap (λ (s : Size). words_for s.n) (sym eh);
-            all = needed;
-            lent = bits_lent w len ((none_applies _).0 (sym d ∙ x) 6);
-          }
+    pub pairs_served : r ≡ 0 → Served P Q (record { n = h.np; m = h.mp }) (record { n = h.nq; m = h.mq }) w len
+    unfolding rest_no
+    pairs_served x =
+        record {
+          p_opens = found.p_facts;
+          q_opens = found.q_facts;
+          needed = as_many;
+          all = needed;
+          lent = bits_lent w len ((none_applies _).0 (sym d ∙ x) 6);
+        }
 
 -- a list from its start on is one without a key
 pub count_number : (P Q : List ℤ) (o : List ℕ) (a : Which) (len : ℕ) → pairs_no P Q o (record { key = start; largest = a.largest; threshold = a.threshold; contractor = a.contractor; grid = a.grid }) len ≡ count_no P Q o a len
@@ -136,13 +133,13 @@ module _ (S : List ℤ) (key : Key) (big : ℕ) (g : Bool) (len : ℕ) (h : Head
         ∙ first_without (grid_no g S S ∷ key_no key ∷ []) (largest_no big ∷ bits_no (need S) len ∷ []) (threshold_no 0) no_threshold
         ∙ sym (first_passes (sheet_no S) _ (headed S h e z).opens)
 
-    pub many_own_served : r ≡ 0 → (hp hq : Size) → hp ≡ record { n = h.n; m = h.m } → hq ≡ record { n = h.n; m = h.m } → Served S S hp hq w len
+    pub many_own_served : r ≡ 0 → Served S S (record { n = h.n; m = h.m }) (record { n = h.n; m = h.m }) w len
     unfolding rest_no
-    many_own_served x hp hq eh eg =
+    many_own_served x =
         record {
-          p_opens = subst (λ (s : Size). Opens S s.n s.m) (sym eh) (headed S h e z).facts;
-          q_opens = subst (λ (s : Size). Opens S s.n s.m) (sym eg) (headed S h e z).facts;
-          needed = as_many ∙ ap (λ (s : Size). words_for s.n) (sym eh);
+          p_opens = (headed S h e z).facts;
+          q_opens = (headed S h e z).facts;
+          needed = as_many;
           all = own_needed;
           lent = bits_lent w len ((none_applies _).0 (sym d ∙ x) 6);
         }

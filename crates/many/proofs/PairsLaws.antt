@@ -7,11 +7,11 @@ use mathlib.Core.List.{List, [], ◌∷◌, ◌++◌}
 use Prim.Native.Nat.{ℕ, zero, suc, ◌+◌, ◌≤◌, ◌<◌}
 use native.Mathlib.Omega.{arith}
 use native.Mathlib.Nat.{zero-add}
-use lib.Dec.{ltb, eqb}
+use lib.Dec.{ltb}
 use lib.IntN.{ℤ}
 use lib.ListN.{length, take, drop, set, get_or, replicate, length-set, length-drop, length-take}
 use lib.Seq.{paste, paste-zero, paste-suc, drop-cons}
-use borrow.Author.Tests.{eqb-true, eqb-false, lt-ltb, le-ltb, ltb-true, ltb-false}
+use borrow.Author.Tests.{lt-ltb, le-ltb, ltb-true, ltb-false}
 use Rattle.integers.proofs.Bools.{decide}
 use Rattle.words.specs.First.{answer}
 use Rattle.words.proofs.FirstLaws.{answer_given, answer_refused}
@@ -63,47 +63,52 @@ some_left l k ne = ⊎_elim (λ (t : ltb k (length l) ≡ true). ltb-true k (len
     short [] h = refl
     short (v ∷ x) h = absurd (omega arith)
 
--- of a task with this number, for which so many words are needed, and of which this is the list
+module _ (no nd : ℕ) (all : List Pair) (len : ℕ) (ws : List ℕ) where
+  -- what is answered: by the number, the slots ys and the words with it
+  abbrev Told : List Pair → Many → List Pair → List ℕ → Type 0
+  Told ys r ys' b' = (r ≡ answer no (many_given len all) many_refused) × (ys' ≡ answer no (stored ys all) (λ k. ys)) × (b' ≡ wiped_by no nd ws)
+
+  -- refused, with the slots and the words as they were
+  pub course_refused : (ys : List Pair) (k : ℕ) → k ≡ no → (k ≡ 0 → ⊥) → (r : Many) → r ≡ many_refused k → (b : List ℕ) → b ≡ ws → Told ys r ys b
+  course_refused ys k e ne r f b same = (
+    f ∙ sym (answer_refused (many_given len all) many_refused no k (sym e) ne),
+    sym (answer_refused (stored ys all) (λ j. ys) no k (sym e) ne),
+    same ∙ wiped_refused ws nd no k (sym e) ne,
+  )
+
+-- of a task that is not refused, for which so many words are needed, and of which this is the list
 module _ (P Q : List ℤ) (o : List ℕ) (no nd : ℕ) (all : List Pair) (len : ℕ) (ws : List ℕ) where
   pub record Course (b : List ℕ) (s : Step) : Type 0 where
-    pub number_is : s.task.number ≡ no
-    pub words_are : s.task.number ≡ 0 → s.task.words ≡ nd
-    pub refused : (s.task.number ≡ 0 → ⊥) → (b ≡ ws) × (s.to ≡ 0) × (s.more ≡ false)
-    pub none_yet : (s.task.number ≡ 0 → ⊥) → s.count ≡ 0
-    pub stands : s.task.number ≡ 0 → Stand P Q o b s
-    pub ahead : s.task.number ≡ 0 → Ahead P Q o len s
-    pub left : s.task.number ≡ 0 → left_of P Q o s.task s.at s.i s.next ≡ drop s.count all
-    pub past : s.task.number ≡ 0 → drop s.task.words b ≡ drop s.task.words ws
+    pub served : no ≡ 0
+    pub words_are : s.task.words ≡ nd
+    pub stands : Stand P Q o b s
+    pub ahead : Ahead P Q o len s
+    pub left : left_of P Q o s.task s.at s.i s.next ≡ drop s.count all
+    pub past : drop s.task.words b ≡ drop s.task.words ws
     pub few : s.count ≤ len
-    pub some : s.task.number ≡ 0 → s.count ≤ length all
+    pub some : s.count ≤ length all
 
-  pub course_begun : (b : List ℕ) (s : Step) → Started P Q o len ws b s.task s → s.task.number ≡ no → (s.task.number ≡ 0 → s.task.words ≡ nd)
+  pub course_begun : (b : List ℕ) (s : Step) → Started P Q o len ws b s.task s → no ≡ 0 → s.task.words ≡ nd
       → after s.task.key (list_to s.task.largest s.task.terms o (points_of P) (points_of Q)) ≡ all → Course b s
   course_begun b s t n w e =
       record {
-        number_is = n;
+        served = n;
         words_are = w;
-        refused = t.refused;
-        none_yet = λ ne. t.none_yet;
         stands = t.stands;
         ahead = t.ahead;
-        left = λ z. t.all z ∙ e ∙ ap (λ (k : ℕ). drop k all) (sym t.none_yet);
+        left = t.all ∙ e ∙ ap (λ (k : ℕ). drop k all) (sym t.none_yet);
         past = t.past;
         few = omega (arith, t.none_yet);
-        some = λ z. omega (arith, t.none_yet);
+        some = omega (arith, t.none_yet);
       }
 
   module _ (b : List ℕ) (s : Step) (c : Course b s) (less : s.count < s.to) where
-    -- a pair is stored only by an answer
-    pub answers : s.task.number ≡ 0
-    answers = ⊎_elim (λ (t : eqb s.task.number 0 ≡ true). eqb-true s.task.number 0 t) (λ (t : eqb s.task.number 0 ≡ false). absurd (omega (arith, (c.refused (eqb-false s.task.number 0 t)).1))) (decide (eqb s.task.number 0))
-
     -- there is a slot for it
     pub slot : s.count < len
-    slot = (c.ahead answers).room less
+    slot = c.ahead.room less
 
     one : drop s.count all ≡ s.pair ∷ left_of P Q o s.task s.at (s.i + 1) s.next
-    one = sym (c.left answers) ∙ (c.ahead answers).first less
+    one = sym c.left ∙ c.ahead.first less
 
     listed : s.count < length all
     listed = some_left all s.count (λ (z : drop s.count all ≡ []). not_cons (sym one ∙ z))
@@ -118,114 +123,74 @@ module _ (P Q : List ℤ) (o : List ℕ) (no nd : ℕ) (all : List Pair) (len : 
     pub course_next : (b' : List ℕ) (r : Step) → Stand P Q o b' r → Ahead P Q o len r → r.task ≡ s.task → r.count ≡ s.count + 1
         → left_of P Q o s.task s.at s.i s.next ≡ s.pair ∷ left_of P Q o r.task r.at r.i r.next → drop s.task.words b' ≡ drop s.task.words b → Course b' r
     course_next b' r st ah et ec el ep =
-        let z : r.task.number ≡ 0 = ap (λ (t : Task). t.number) et ∙ answers in
         let up : s.count + 1 ≡ suc s.count = omega arith in
         record {
-          number_is = ap (λ (t : Task). t.number) et ∙ c.number_is;
-          words_are = λ y. ap (λ (t : Task). t.words) et ∙ c.words_are answers;
-          refused = λ ne. absurd (ne z);
-          none_yet = λ ne. absurd (ne z);
-          stands = λ y. st;
-          ahead = λ y. ah;
-          left = λ y.
-              ap (λ (x : List Pair). drop 1 x) (sym el ∙ c.left answers ∙ drop-cons all s.count none listed)
+          served = c.served;
+          words_are = ap (λ (t : Task). t.words) et ∙ c.words_are;
+          stands = st;
+          ahead = ah;
+          left =
+              ap (λ (x : List Pair). drop 1 x) (sym el ∙ c.left ∙ drop-cons all s.count none listed)
               ∙ ap (λ (k : ℕ). drop k all) (sym (ec ∙ up));
-          past = λ y. ap (λ (t : Task). drop t.words b') et ∙ ep ∙ c.past answers ∙ ap (λ (t : Task). drop t.words ws) (sym et);
+          past = ap (λ (t : Task). drop t.words b') et ∙ ep ∙ c.past ∙ ap (λ (t : Task). drop t.words ws) (sym et);
           few = omega (arith, ec, slot);
-          some = λ y. omega (arith, ec, listed);
+          some = omega (arith, ec, listed);
         }
 
   -- ---- the end
 
-  pub record Finished (s : Step) (b : List ℕ) (r : Many) (b' : List ℕ) : Type 0 where
-    pub number_is : r.number ≡ s.task.number
-    pub count_is : r.count ≡ s.count
-    pub more_is : r.more ≡ s.more
-    pub words : b' ≡ wiped_by s.task.number s.task.words b
+  module _ (ys : List Pair) (is : length ys ≡ len) (b : List ℕ) (s : Step) (c : Course b s) (over : s.to ≤ s.count) where
+    -- how many were stored, and whether more follow
+    told : (m : Bool) → s.more ≡ m → (s.count ≡ length (take len all)) × (m ≡ not (is_none (drop len all)))
+    told true e =
+        let h = c.ahead.full over e in
+        let k : s.count ≡ len = omega (arith, h.0, c.few) in
+        let l : len < length all = subst (λ (x : ℕ). x < length all) k (some_left all s.count (λ (y : drop s.count all ≡ []). h.1 (c.left ∙ y))) in
+        (omega (arith, length-take len all, k), sym (ap not (none_drop len all) ∙ ap (λ (t : Bool). not (not t)) (lt-ltb len (length all) l)))
+    told false e =
+        let l : length all ≤ s.count = nothing_left all s.count (sym c.left ∙ c.ahead.ends over e) in
+        let k : s.count ≡ length all = omega (arith, c.some) in
+        (omega (arith, length-take len all, c.few), sym (ap not (none_drop len all) ∙ ap (λ (t : Bool). not (not t)) (le-ltb len (length all) (omega (arith, c.few)))))
 
-  module _ (ys : List Pair) (is : length ys ≡ len) (b : List ℕ) (s : Step) (c : Course b s) (over : s.to ≤ s.count) (r : Many) (b' : List ℕ) (f : Finished s b r b') where
-    module _ (z : s.task.number ≡ 0) where
-      is_no : no ≡ 0
-      is_no = sym c.number_is ∙ z
+    given_answer : record { number = 0; count = s.count; more = s.more } ≡ answer no (many_given len all) many_refused
+    unfolding many_given
+    given_answer =
+        let t = told s.more refl in
+        (λ i. record { number = 0; count = t.0 i; more = t.1 i }) ∙ sym (answer_given (many_given len all) many_refused no c.served)
 
-      -- how many were stored, and whether more follow
-      told : (m : Bool) → s.more ≡ m → (s.count ≡ length (take len all)) × (m ≡ not (is_none (drop len all)))
-      told true e =
-          let h = (c.ahead z).full over e in
-          let k : s.count ≡ len = omega (arith, h.0, c.few) in
-          let l : len < length all = subst (λ (x : ℕ). x < length all) k (some_left all s.count (λ (y : drop s.count all ≡ []). h.1 (c.left z ∙ y))) in
-          (omega (arith, length-take len all, k), sym (ap not (none_drop len all) ∙ ap (λ (t : Bool). not (not t)) (lt-ltb len (length all) l)))
-      told false e =
-          let l : length all ≤ s.count = nothing_left all s.count (sym (c.left z) ∙ (c.ahead z).ends over e) in
-          let k : s.count ≡ length all = omega (arith, c.some z) in
-          (omega (arith, length-take len all, c.few), sym (ap not (none_drop len all) ∙ ap (λ (t : Bool). not (not t)) (le-ltb len (length all) (omega (arith, c.few)))))
+    given_slots : put ys all s.count ≡ answer no (stored ys all) (λ k. ys)
+    unfolding stored
+    given_slots =
+        let t = (told s.more refl).0 in
+        let k : s.count ≡ length (take (length ys) all) = t ∙ ap (λ (x : ℕ). length (take x all)) (sym is) in
+        put_is ys all s.count c.some (omega (arith, c.few, is))
+        ∙ ap (λ (x : List Pair). x ++ drop s.count ys) (taken s.count (length ys) all k)
+        ∙ ap (λ (x : ℕ). take (length ys) all ++ drop x ys) k
+        ∙ sym (answer_given (take (length ys) all ++ drop (length (take (length ys) all)) ys) (λ j. ys) no c.served)
+      where
+        taken : (k n : ℕ) (l : List Pair) → k ≡ length (take n l) → take k l ≡ take n l
+        taken k n l e = ap (λ (x : ℕ). take x l) e ∙ again n l
+          where
+            again : (n : ℕ) (l : List Pair) → take (length (take n l)) l ≡ take n l
+            again zero l = refl
+            again (suc n) [] = refl
+            again (suc n) (v ∷ l) = ap (λ (x : List Pair). v ∷ x) (again n l)
 
-      given_answer : r ≡ answer no (many_given len all) many_refused
-      unfolding many_given
-      given_answer =
-          let t = told s.more refl in
-          let n = f.number_is ∙ z in
-          let k = f.count_is ∙ t.0 in
-          let m = f.more_is ∙ t.1 in
-          (λ i. record { number = n i; count = k i; more = m i }) ∙ sym (answer_given (many_given len all) many_refused no is_no)
+    given_bits : wiped s.task.words b ≡ wiped_by no nd ws
+    unfolding wiped
+    given_bits =
+        ap (λ (x : List ℕ). replicate s.task.words 0 ++ x) c.past
+        ∙ ap (λ (n : ℕ). wiped n ws) c.words_are ∙ wiped_given ws nd no c.served
 
-      given_slots : put ys all s.count ≡ answer no (stored ys all) (λ k. ys)
-      unfolding stored
-      given_slots =
-          let t = (told s.more refl).0 in
-          let k : s.count ≡ length (take (length ys) all) = t ∙ ap (λ (x : ℕ). length (take x all)) (sym is) in
-          put_is ys all s.count (c.some z) (omega (arith, c.few, is))
-          ∙ ap (λ (x : List Pair). x ++ drop s.count ys) (taken s.count (length ys) all k)
-          ∙ ap (λ (x : ℕ). take (length ys) all ++ drop x ys) k
-          ∙ sym (answer_given (take (length ys) all ++ drop (length (take (length ys) all)) ys) (λ j. ys) no is_no)
-        where
-          taken : (k n : ℕ) (l : List Pair) → k ≡ length (take n l) → take k l ≡ take n l
-          taken k n l e = ap (λ (x : ℕ). take x l) e ∙ again n l
-            where
-              again : (n : ℕ) (l : List Pair) → take (length (take n l)) l ≡ take n l
-              again zero l = refl
-              again (suc n) [] = refl
-              again (suc n) (v ∷ l) = ap (λ (x : List Pair). v ∷ x) (again n l)
-
-      given_bits : b' ≡ wiped_by no nd ws
-      unfolding wiped
-      given_bits =
-          f.words ∙ sym (wiped_given b s.task.words s.task.number z)
-          ∙ ap (λ (x : List ℕ). replicate s.task.words 0 ++ x) (c.past z)
-          ∙ ap (λ (n : ℕ). wiped n ws) (c.words_are z) ∙ wiped_given ws nd no is_no
-
-    module _ (ne : s.task.number ≡ 0 → ⊥) where
-      refused_answer : r ≡ answer no (many_given len all) many_refused
-      unfolding many_refused
-      refused_answer =
-          let k = f.count_is ∙ c.none_yet ne in
-          let m = f.more_is ∙ (c.refused ne).2 in
-          (λ i. record { number = f.number_is i; count = k i; more = m i }) ∙ sym (answer_refused (many_given len all) many_refused no s.task.number (sym c.number_is) ne)
-
-      refused_slots : put ys all s.count ≡ answer no (stored ys all) (λ k. ys)
-      refused_slots = ap (put ys all) (c.none_yet ne) ∙ sym (answer_refused (stored ys all) (λ j. ys) no s.task.number (sym c.number_is) ne)
-
-      refused_bits : b' ≡ wiped_by no nd ws
-      refused_bits =
-          f.words ∙ sym (wiped_refused b s.task.words s.task.number s.task.number refl ne) ∙ (c.refused ne).0
-          ∙ wiped_refused ws nd no s.task.number (sym c.number_is) ne
-
-    abbrev Told : Type 0
-    Told = (r ≡ answer no (many_given len all) many_refused) × (put ys all s.count ≡ answer no (stored ys all) (λ k. ys)) × (b' ≡ wiped_by no nd ws)
-
-    pub course_end : Told
-    course_end =
-        ⊎_elim
-        (λ (t : eqb s.task.number 0 ≡ true). let z = eqb-true s.task.number 0 t in (given_answer z, given_slots z, given_bits z))
-        (λ (t : eqb s.task.number 0 ≡ false). let ne = eqb-false s.task.number 0 t in (refused_answer ne, refused_slots ne, refused_bits ne))
-        (decide (eqb s.task.number 0))
+    pub course_end : (r : Many) → r ≡ record { number = 0; count = s.count; more = s.more } → (b' : List ℕ) → b' ≡ wiped s.task.words b → Told no nd all len ws ys r (put ys all s.count) b'
+    course_end r e b' f = (e ∙ given_answer, given_slots, f ∙ given_bits)
 
 -- ---- of two sheets, and of a self join
 
 pub begun_course : (P Q : List ℤ) (o : List ℕ) (a : Wanted) (len : ℕ) (ws b : List ℕ) (s : Step) → Begun P Q o a len ws b s → Course P Q o (pairs_no P Q o a (length ws)) (need P) (pairs_list P Q o a) len ws b s
 unfolding pairs_list
 begun_course P Q o a len ws b s g =
-    course_begun P Q o (pairs_no P Q o a (length ws)) (need P) (pairs_list P Q o a) len ws b s g.started g.number_is g.words_are
+    course_begun P Q o (pairs_no P Q o a (length ws)) (need P) (pairs_list P Q o a) len ws b s g.started g.served g.words_are
     (ap (λ (k : Key). after k (list_to s.task.largest s.task.terms o (points_of P) (points_of Q))) g.key_is
     ∙ ap (λ (m : ℕ). after a.key (list_to m s.task.terms o (points_of P) (points_of Q))) g.largest_is
     ∙ ap (λ (m : Terms). after a.key (list_to a.largest m o (points_of P) (points_of Q))) g.terms_are)
@@ -238,7 +203,7 @@ pairs_told P Q o a ys l ws r b t = t
 pub own_course : (S : List ℤ) (key : Key) (big : ℕ) (g : Bool) (len : ℕ) (ws b : List ℕ) (s : Step) → OwnBegun S key big g len ws b s → Course S S [] (own_pairs_no S key big g (length ws)) (need S) (own_list S key big g) len ws b s
 unfolding own_list
 own_course S key big g len ws b s h =
-    course_begun S S [] (own_pairs_no S key big g (length ws)) (need S) (own_list S key big g) len ws b s h.started h.number_is h.words_are
+    course_begun S S [] (own_pairs_no S key big g (length ws)) (need S) (own_list S key big g) len ws b s h.started h.served h.words_are
     (ap (λ (k : Key). after k (list_to s.task.largest s.task.terms [] (points_of S) (points_of S))) h.key_is
     ∙ ap (λ (m : ℕ). after key (list_to m s.task.terms [] (points_of S) (points_of S))) h.largest_is
     ∙ ap (λ (m : Terms). after key (list_to big m [] (points_of S) (points_of S))) h.terms_are)

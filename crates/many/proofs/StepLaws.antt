@@ -14,23 +14,18 @@ use Rattle.integers.proofs.Bools.{clash}
 use Rattle.plane.specs.Point.{Point, id_at}
 use Rattle.plane.specs.Profile.{Profile}
 use Rattle.sheet.specs.Places.{points_of}
-use Rattle.bits.specs.Set.{none}
-use Rattle.bits.proofs.LentLaws.{part_long, part_wiped}
+use Rattle.bits.proofs.LentLaws.{part_long}
 use Rattle.list.specs.declared.Key.{Key}
 use Rattle.list.specs.declared.Pair.{Pair}
 use Rattle.list.specs.Pairs.{key_of, follows, after}
 use Rattle.list.specs.Rows.{row, rows, list_by}
 use Rattle.list.specs.RingList.{pair_by}
-use Rattle.list.specs.Terms.{profile_for, alone_by}
+use Rattle.list.specs.Terms.{profile_for}
 use Rattle.list.proofs.Order.{after_append}
-use Rattle.ring.specs.Lent.{need, wiped_by}
-use Rattle.ring.proofs.LentLaws.{wiped_given}
-use Rattle.many.specs.declared.Wanted.{Wanted}
 use Rattle.many.specs.declared.step.Task.{Task}
 use Rattle.many.specs.declared.step.Step.{Step}
-use Rattle.many.specs.Many.{pairs_no, wanted_terms, own_pairs_no}
 use Rattle.many.specs.Cursor.{late_to, Early, rest_to, left_to, Holding, Advanced}
-use Rattle.many.specs.Step.{rule_of, pair_of, left_of, Able, Stand, Ahead, Started, Begun, OwnBegun}
+use Rattle.many.specs.Step.{rule_of, pair_of, left_of, Able, Stand, Ahead, Started}
 use Rattle.chamber.proofs.KeepLaws.{rest_yes, chamber_rest_end}
 use Rattle.chamber.proofs.ListedLaws.{row_empty, rows_next, list_of_sheets}
 
@@ -177,61 +172,17 @@ stand_next P Q o b s c st =
 pub stand_first : (P Q : List ℤ) (o b : List ℕ) (t : Task) (v : Pair) (r : ℕ) → Able P Q t (length b) → r ≤ t.hq.n → Stand P Q o b (record { task = t; count = 0; to = 0; more = false; pair = v; at = 0; i = t.hp.n; next = r })
 stand_first P Q o b t v r a h = record { able = a; held = record { most = h; chamber = λ l. absurd (omega arith); held = λ y l m. absurd (omega arith) } }
 
-pub started_refused : (P Q : List ℤ) (o : List ℕ) (len : ℕ) (b : List ℕ) (t : Task) (v : Pair) (at i next : ℕ) → (t.number ≡ 0 → ⊥) → Started P Q o len b b t (record { task = t; count = 0; to = 0; more = false; pair = v; at = at; i = i; next = next })
-started_refused P Q o len b t v at i next ne =
-    record {
-      task_is = refl;
-      none_yet = refl;
-      refused = λ z. (refl, refl, refl);
-      stands = λ z. absurd (ne z);
-      ahead = λ z. absurd (ne z);
-      all = λ z. absurd (ne z);
-      past = λ z. absurd (ne z);
-    }
-
-pub started_first : (P Q : List ℤ) (o : List ℕ) (len : ℕ) (ws b : List ℕ) (t : Task) (s : Step) (r : ℕ) → Able P Q t (length ws) → t.number ≡ 0 → r ≤ t.hq.n → Early (points_of Q) t.key r → Stand P Q o b s → Ahead P Q o len s → s.task ≡ t → s.count ≡ 0
+pub started_first : (P Q : List ℤ) (o : List ℕ) (len : ℕ) (ws b : List ℕ) (t : Task) (s : Step) (r : ℕ) → Able P Q t (length ws) → r ≤ t.hq.n → Early (points_of Q) t.key r → Stand P Q o b s → Ahead P Q o len s → s.task ≡ t → s.count ≡ 0
     → left_of P Q o t 0 t.hp.n r ≡ left_of P Q o s.task s.at s.i s.next → drop t.words b ≡ drop t.words ws → Started P Q o len ws b t s
-started_first P Q o len ws b t s r a z h ea st ah et ec el past =
+started_first P Q o len ws b t s r a h ea st ah et ec el past =
     record {
       task_is = et;
       none_yet = ec;
-      refused = λ ne. absurd (ne z);
-      stands = λ y. st;
-      ahead = λ y. ah;
-      all = λ y.
+      stands = st;
+      ahead = ah;
+      all =
           ap (λ (u : Task). left_of P Q o u s.at s.i s.next) (sym et) ∙ sym el
           ∙ many_left_all (rule_of P Q o t) (profile_for t.terms) (points_of P) (points_of Q) t.key t.hp.n t.hq.n 0 r h ea
           ∙ ap (after t.key) (list_of_sheets t.largest t.terms o P Q t.hp.n t.hp.m t.hq.n t.hq.m a.p_opens a.q_opens);
-      past = λ y. past;
-    }
-
--- ---- the end
-
-pub wiped_end : (ws b : List ℕ) (w k : ℕ) → k ≡ 0 → w ≤ length ws → b ≡ none (length (take w ws)) → b ++ drop w ws ≡ wiped_by k w ws
-wiped_end ws b w k z fits e = part_wiped ws b w fits e ∙ wiped_given ws w k z
-
--- ---- what is wanted of two sheets
-
-pub begun_is : (P Q : List ℤ) (o : List ℕ) (a : Wanted) (len : ℕ) (ws b : List ℕ) (t : Task) (s : Step) → Started P Q o len ws b t s → t.number ≡ pairs_no P Q o a (length ws) → (t.number ≡ 0 → t.words ≡ need P) → t.key ≡ a.key → t.largest ≡ a.largest → t.terms ≡ wanted_terms a → Begun P Q o a len ws b s
-begun_is P Q o a len ws b t s st n w k l e =
-    let same = st.task_is in
-    record {
-      started = subst (λ (u : Task). Started P Q o len ws b u s) (sym same) st;
-      number_is = ap (λ (u : Task). u.number) same ∙ n;
-      words_are = λ z. ap (λ (u : Task). u.words) same ∙ w (sym (ap (λ (u : Task). u.number) same) ∙ z);
-      key_is = ap (λ (u : Task). u.key) same ∙ k;
-      largest_is = ap (λ (u : Task). u.largest) same ∙ l;
-      terms_are = ap (λ (u : Task). u.terms) same ∙ e;
-    }
-
-pub own_begun_is : (S : List ℤ) (key : Key) (big : ℕ) (g : Bool) (len : ℕ) (ws b : List ℕ) (t : Task) (s : Step) → Started S S [] len ws b t s → t.number ≡ own_pairs_no S key big g (length ws) → (t.number ≡ 0 → t.words ≡ need S) → t.key ≡ key → t.largest ≡ big → t.terms ≡ alone_by g → OwnBegun S key big g len ws b s
-own_begun_is S key big g len ws b t s st n w k l e =
-    let same = st.task_is in
-    record {
-      started = subst (λ (u : Task). Started S S [] len ws b u s) (sym same) st;
-      number_is = ap (λ (u : Task). u.number) same ∙ n;
-      words_are = λ z. ap (λ (u : Task). u.words) same ∙ w (sym (ap (λ (u : Task). u.number) same) ∙ z);
-      key_is = ap (λ (u : Task). u.key) same ∙ k;
-      largest_is = ap (λ (u : Task). u.largest) same ∙ l;
-      terms_are = ap (λ (u : Task). u.terms) same ∙ e;
+      past = past;
     }

@@ -49,21 +49,20 @@ pub record Ahead (P Q : List ℤ) (o : List ℕ) (len : ℕ) (s : Step) : Type 0
   pub ends : s.to ≤ s.count → s.more ≡ false → left_of P Q o s.task s.at s.i s.next ≡ []
   pub full : s.to ≤ s.count → s.more ≡ true → (len ≤ s.count) × (left_of P Q o s.task s.at s.i s.next ≡ [] → ⊥)
 
--- a task is begun on the words ws, which are b then: where it is refused nothing is done; else the step stands before its whole list
+-- a task is begun on the words ws, which are b then: the step stands before its whole list
 pub record Started (P Q : List ℤ) (o : List ℕ) (len : ℕ) (ws b : List ℕ) (t : Task) (s : Step) : Type 0 where
   pub task_is : s.task ≡ t
   pub none_yet : s.count ≡ 0
-  pub refused : (t.number ≡ 0 → ⊥) → (b ≡ ws) × (s.to ≡ 0) × (s.more ≡ false)
-  pub stands : t.number ≡ 0 → Stand P Q o b s
-  pub ahead : t.number ≡ 0 → Ahead P Q o len s
-  pub all : t.number ≡ 0 → left_of P Q o t s.at s.i s.next ≡ after t.key (list_to t.largest t.terms o (points_of P) (points_of Q))
-  pub past : t.number ≡ 0 → drop t.words b ≡ drop t.words ws
+  pub stands : Stand P Q o b s
+  pub ahead : Ahead P Q o len s
+  pub all : left_of P Q o t s.at s.i s.next ≡ after t.key (list_to t.largest t.terms o (points_of P) (points_of Q))
+  pub past : drop t.words b ≡ drop t.words ws
 
--- the task of what is wanted of two sheets
+-- the task of what is wanted of two sheets, where it is not refused
 pub record Begun (P Q : List ℤ) (o : List ℕ) (a : Wanted) (len : ℕ) (ws b : List ℕ) (s : Step) : Type 0 where
   pub started : Started P Q o len ws b s.task s
-  pub number_is : s.task.number ≡ pairs_no P Q o a (length ws)
-  pub words_are : s.task.number ≡ 0 → s.task.words ≡ need P
+  pub served : pairs_no P Q o a (length ws) ≡ 0
+  pub words_are : s.task.words ≡ need P
   pub key_is : s.task.key ≡ a.key
   pub largest_is : s.task.largest ≡ a.largest
   pub terms_are : s.task.terms ≡ wanted_terms a
@@ -71,8 +70,8 @@ pub record Begun (P Q : List ℤ) (o : List ℕ) (a : Wanted) (len : ℕ) (ws b 
 -- and of a self join
 pub record OwnBegun (S : List ℤ) (key : Key) (big : ℕ) (g : Bool) (len : ℕ) (ws b : List ℕ) (s : Step) : Type 0 where
   pub started : Started S S [] len ws b s.task s
-  pub number_is : s.task.number ≡ own_pairs_no S key big g (length ws)
-  pub words_are : s.task.number ≡ 0 → s.task.words ≡ need S
+  pub served : own_pairs_no S key big g (length ws) ≡ 0
+  pub words_are : s.task.words ≡ need S
   pub key_is : s.task.key ≡ key
   pub largest_is : s.task.largest ≡ big
   pub terms_are : s.task.terms ≡ alone_by g

@@ -1,6 +1,7 @@
-// What a call is refused by, and with 0 the counts of its sheets.
-ghost use Rattle.std.specs.Prelude.{◌≡◌, [], ◌∷◌};
+// What a call is refused by, and else its sheets.
+ghost use Rattle.std.specs.Prelude.{◌≡◌, ◌≢◌, [], ◌∷◌, MatchResult};
 ghost use Rattle.words.specs.First.{first};
+ghost use Rattle.ring.specs.Answers.{Both};
 ghost use Rattle.ring.specs.Lent.{bits_no};
 ghost use Rattle.ring.specs.Numbers.{grid_no};
 ghost use Rattle.ring.specs.Page.{key_no};
@@ -9,14 +10,13 @@ ghost use Rattle.many.specs.Checked.{Served};
 
 use crate::Wanted;
 use list::Key;
-use sheet::Size;
+use sheet::Sheet;
 
-// The number, and with 0 the counts of both sheets and how many words are needed.
+// What a call goes on with: both sheets, and how many words are needed.
 #[derive(Clone, Copy)]
-pub(crate) struct Checked {
-    pub number: u32,
-    pub hp: Size,
-    pub hq: Size,
+pub(crate) struct Checked<'a> {
+    pub p: Sheet<'a>,
+    pub q: Sheet<'a>,
     pub words: usize,
 }
 
@@ -93,65 +93,56 @@ fn rest_no(
     )
 }
 
-// A refusal by the number of a sheet.
-fn shut(number: u32) -> Checked
-    ensures { result.number ≡ number }
-{
-    Checked {
-        number: number,
-        hp: Size { n: 0, m: 0 },
-        hq: Size { n: 0, m: 0 },
-        words: 0,
-    }
-}
-
 // Two sheets, the owner bytes, what is wanted, and so many words lent.
-pub(crate) fn checked_both(
-    p: &[i32],
-    q: &[i32],
+pub(crate) fn checked_both<'a>(
+    p: &'a [i32],
+    q: &'a [i32],
     owners: &[u8],
     wanted: Wanted,
     len: usize,
-) -> Checked
-    ensures { (result.number ≡ pairs_no p.now q.now owners.now wanted len) × (result.number ≡ 0 → Served p.now q.now result.hp result.hq result.words len) }
+) -> Result<Checked<'a>, u32>
+    ensures { MatchResult result (λ c. (pairs_no p.now q.now owners.now wanted len ≡ 0) × Both c.p.words.now c.q.words.now p.now q.now × Served p.now q.now (record { n = c.p.n; m = c.p.m }) (record { n = c.q.n; m = c.q.m }) c.words len) (λ k. (k ≡ pairs_no p.now q.now owners.now wanted len) × (k ≢ 0)) }
 {
-    let a = ring::open::head_of(p);
-    if a.number != 0 {
-        return shut(a.number);
+    let ps = Sheet::open(p)?;
+    let qs = Sheet::open(q)?;
+    let words = bits::words_for(ps.n);
+    let no = rest_no(p, q, owners, qs.n, wanted, words, len);
+    if no != 0 {
+        return Err(no);
     }
-    let b = ring::open::head_of(q);
-    if b.number != 0 {
-        return shut(b.number);
-    }
-    let w = bits::words_for(a.n);
-    Checked {
-        number: rest_no(p, q, owners, b.n, wanted, w, len),
-        hp: Size { n: a.n, m: a.m },
-        hq: Size { n: b.n, m: b.m },
-        words: w,
-    }
+    Ok(Checked {
+        p: ps,
+        q: qs,
+        words,
+    })
 }
 
 // One sheet in both places, as a self join has it: it is checked once.
-pub(crate) fn checked_own(s: &[i32], key: Key, largest: u64, grid: bool, len: usize) -> Checked
-    ensures { (result.number ≡ own_pairs_no s.now key largest grid len) × (result.number ≡ 0 → Served s.now s.now result.hp result.hq result.words len) }
+pub(crate) fn checked_own(
+    s: &[i32],
+    key: Key,
+    largest: u64,
+    grid: bool,
+    len: usize,
+) -> Result<Checked<'_>, u32>
+    ensures { MatchResult result (λ c. (own_pairs_no s.now key largest grid len ≡ 0) × Both c.p.words.now c.q.words.now s.now s.now × Served s.now s.now (record { n = c.p.n; m = c.p.m }) (record { n = c.q.n; m = c.q.m }) c.words len) (λ k. (k ≡ own_pairs_no s.now key largest grid len) × (k ≢ 0)) }
 {
-    let a = ring::open::head_of(s);
-    if a.number != 0 {
-        return shut(a.number);
-    }
-    let w = bits::words_for(a.n);
+    let own = Sheet::open(s)?;
+    let words = bits::words_for(own.n);
     let wanted = Wanted {
-        key: key,
-        largest: largest,
+        key,
+        largest,
         threshold: 0,
         contractor: 2,
-        grid: grid,
+        grid,
     };
-    Checked {
-        number: rest_no(s, s, b"", a.n, wanted, w, len),
-        hp: Size { n: a.n, m: a.m },
-        hq: Size { n: a.n, m: a.m },
-        words: w,
+    let no = rest_no(s, s, b"", own.n, wanted, words, len);
+    if no != 0 {
+        return Err(no);
     }
+    Ok(Checked {
+        p: own,
+        q: own,
+        words,
+    })
 }

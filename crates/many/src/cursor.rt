@@ -1,6 +1,5 @@
 // From one pair of a list to the next, in its order.
 ghost use Rattle.std.specs.Prelude.{◌≡◌, ◌≤◌, ◌<◌};
-ghost use Rattle.sheet.specs.Open.{Opens};
 ghost use Rattle.sheet.specs.Places.{points_of};
 ghost use Rattle.bits.specs.Set.{Holds};
 ghost use Rattle.list.specs.Pairs.{key_of, follows};
@@ -11,7 +10,7 @@ ghost use Rattle.chamber.specs.Sized.{listed_to};
 ghost use Rattle.many.specs.Cursor.{Seeks, Early, Entered, Holding, Advanced};
 
 use list::{Key, Terms};
-use sheet::Size;
+use sheet::Sheet;
 
 // Where the search stands: the chamber whose pairs are kept on the words lent, the position to go on from there, and the chamber after which none was entered yet.
 #[derive(Clone, Copy)]
@@ -22,51 +21,39 @@ pub(crate) struct Cursor {
 }
 
 // Whether the pair of position j of Q and position i of P is after the key.
-fn is_late(p: &[i32], hp: Size, q: &[i32], hq: Size, key: Key, j: usize, i: usize) -> bool
-    requires { Opens p.now hp.n hp.m × Opens q.now hq.n hq.m × (j < hq.n) × (i < hp.n) }
-    ensures { result ≡ follows key (key_of (pair_at (points_of p.now) (points_of q.now) j i)) }
+fn is_late(p: Sheet<'_>, q: Sheet<'_>, key: Key, j: usize, i: usize) -> bool
+    requires { (j < q.n) × (i < p.n) }
+    ensures { result ≡ follows key (key_of (pair_at (points_of p.entry.words.now) (points_of q.entry.words.now) j i)) }
 {
     let v = Key {
-        q: sheet::reads::id_at(q, hq.n, hq.m, j),
-        p: sheet::reads::id_at(p, hp.n, hp.m, i),
+        q: q.id_at(j),
+        p: p.id_at(i),
     };
     list::is_after(key, v)
 }
 
 // The first chamber whose id is not below the key's, or their number.
-pub(crate) fn first_chamber(q: &[i32], hq: Size, key: Key) -> usize
-    requires { Opens q.now hq.n hq.m }
-    ensures { (result ≤ hq.n) × Early (points_of q.now) key result }
+pub(crate) fn first_chamber(q: Sheet<'_>, key: Key) -> usize
+    ensures { (result ≤ q.entry.n) × Early (points_of q.entry.words.now) key result }
 {
-    let n = hq.n;
-    let mut j: usize = 0;
-    while j < n {
-        if sheet::reads::id_at(q, hq.n, hq.m, j) >= key.q {
+    for j in 0..q.n {
+        if q.id_at(j) >= key.q {
             return j;
         }
-        j += 1;
     }
-    j
+    q.n
 }
 
 // The first kept position from i on whose pair with the chamber at position j is after the key, or one past the points.
-fn late_from(
-    p: &[i32],
-    hp: Size,
-    q: &[i32],
-    hq: Size,
-    key: Key,
-    j: usize,
-    i: usize,
-    bits: &[u64],
-) -> usize
-    requires { Opens p.now hp.n hp.m × Opens q.now hq.n hq.m × Holds bits.now hp.n × (i < hp.n → j < hq.n) }
-    ensures { Seeks (points_of p.now) (points_of q.now) key bits.now j hp.n i result }
+fn late_from(p: Sheet<'_>, q: Sheet<'_>, key: Key, j: usize, i: usize, bits: &[u64]) -> usize
+    requires { Holds bits.now p.n × (i < p.n → j < q.n) }
+    ensures { Seeks (points_of p.entry.words.now) (points_of q.entry.words.now) key bits.now j p.entry.n i result }
 {
-    let n = hp.n;
+    let n = p.n;
     let mut x = seeds::scan::next_from(bits, i);
+    // Kept: each step goes to the next kept bit: the loop counts no index.
     while x < n {
-        if is_late(p, hp, q, hq, key, j, x) {
+        if is_late(p, q, key, j, x) {
             return x;
         }
         x = seeds::scan::next_from(bits, x + 1);
@@ -76,10 +63,8 @@ fn late_from(
 
 // The chamber at position j is entered: the first position of its pairs after the key, which are kept on the words lent, or one past the points where it has none.
 fn entered(
-    p: &[i32],
-    hp: Size,
-    q: &[i32],
-    hq: Size,
+    p: Sheet<'_>,
+    q: Sheet<'_>,
     owners: &[u8],
     terms: Terms,
     largest: u64,
@@ -87,22 +72,20 @@ fn entered(
     j: usize,
     bits: &mut [u64],
 ) -> usize
-    requires { Opens p.now hp.n hp.m × Opens q.now hq.n hq.m × Alone terms p.now q.now × (j < hq.n) × Holds bits.old hp.n }
-    ensures { Entered (listed_to largest terms owners.now (points_of p.now) (points_of q.now)) (pair_by (profile_for terms) (points_of p.now) (points_of q.now)) key bits.new j hp.n result }
+    requires { Alone terms p.words.now q.words.now × (j < q.n) × Holds bits.old p.n }
+    ensures { Entered (listed_to largest terms owners.now (points_of p.entry.words.now) (points_of q.entry.words.now)) (pair_by (profile_for terms) (points_of p.entry.words.now) (points_of q.entry.words.now)) key bits.new j p.entry.n result }
 {
-    let found = chamber::listed_of(p, hp, q, hq, owners, terms, largest, j, bits);
+    let found = chamber::listed_of(p, q, owners, terms, largest, j, bits);
     if found == 0 {
-        return hp.n;
+        return p.n;
     }
-    late_from(p, hp, q, hq, key, j, 0, bits)
+    late_from(p, q, key, j, 0, bits)
 }
 
 // On to the next pair of the list after the key, from where the search stands: a position of P, or one past its points where the list is at its end.
 pub(crate) fn advance(
-    p: &[i32],
-    hp: Size,
-    q: &[i32],
-    hq: Size,
+    p: Sheet<'_>,
+    q: Sheet<'_>,
     owners: &[u8],
     terms: Terms,
     largest: u64,
@@ -110,22 +93,19 @@ pub(crate) fn advance(
     c: Cursor,
     bits: &mut [u64],
 ) -> Cursor
-    requires { Opens p.now hp.n hp.m × Opens q.now hq.n hq.m × Alone terms p.now q.now × Holds bits.old hp.n × Holding (listed_to largest terms owners.now (points_of p.now) (points_of q.now)) hp.n hq.n bits.old c.at c.i c.next }
-    ensures { Advanced (listed_to largest terms owners.now (points_of p.now) (points_of q.now)) (pair_by (profile_for terms) (points_of p.now) (points_of q.now)) key hp.n hq.n bits.new c.at c.i c.next result.at result.i result.next }
+    requires { Alone terms p.words.now q.words.now × Holds bits.old p.n × Holding (listed_to largest terms owners.now (points_of p.words.now) (points_of q.words.now)) p.n q.n bits.old c.at c.i c.next }
+    ensures { Advanced (listed_to largest terms owners.now (points_of p.entry.words.now) (points_of q.entry.words.now)) (pair_by (profile_for terms) (points_of p.entry.words.now) (points_of q.entry.words.now)) key p.entry.n q.entry.n bits.new c.at c.i c.next result.at result.i result.next }
 {
-    let n = hp.n;
-    let nq = hq.n;
+    let n = p.n;
+    let nq = q.n;
     let mut at = c.at;
     let mut next = c.next;
-    let mut i = late_from(p, hp, q, hq, key, at, c.i, bits);
+    let mut i = late_from(p, q, key, at, c.i, bits);
+    // Kept: chambers are entered until one has a pair, and where the search stands is handed on: a `for` with a break would be no plainer.
     while (n <= i) & (next < nq) {
-        i = entered(p, hp, q, hq, owners, terms, largest, key, next, bits);
+        i = entered(p, q, owners, terms, largest, key, next, bits);
         at = next;
         next += 1;
     }
-    Cursor {
-        at: at,
-        i: i,
-        next: next,
-    }
+    Cursor { at, i, next }
 }

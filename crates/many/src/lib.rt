@@ -32,6 +32,7 @@ pub struct Wanted {
 }
 
 // What a count answers: 0 and how many pairs the list has, or the number of refusal and 0.
+// Kept: the C interface; `ring_count` and `ring_own_count` of ffi hand it to C as it stands.
 #[repr(C)]
 #[derive(Clone, Copy)]
 pub struct Counted {
@@ -40,6 +41,7 @@ pub struct Counted {
 }
 
 // What `pairs` answers: 0, how many pairs it stored, and whether more follow; or the number of refusal, 0 and no.
+// Kept: the C interface; `ring_pairs` and `ring_own_pairs` of ffi hand it to C as it stands.
 #[repr(C)]
 #[derive(Clone, Copy)]
 pub struct Many {

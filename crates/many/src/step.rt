@@ -1,17 +1,17 @@
 // The work of `pairs`, a pair at a time: what is decided before the first, after each, and at the end. What stores the pairs only goes from one to the next.
-ghost use Rattle.std.specs.Prelude.{◌≡◌, [], ◌∷◌, ◌+◌, ◌≤◌, ◌<◌, length, drop};
-ghost use Rattle.ring.specs.Lent.{wiped_by};
+ghost use Rattle.std.specs.Prelude.{◌≡◌, ◌≢◌, [], ◌∷◌, ◌+◌, ◌≤◌, ◌<◌, length, drop, MatchResult};
+ghost use Rattle.bits.specs.Set.{wiped};
+ghost use Rattle.many.specs.Many.{pairs_no, own_pairs_no};
 ghost use Rattle.many.specs.Step.{Able, Stand, left_of, Ahead, Started, Begun, OwnBegun};
 
 use crate::cursor::Cursor;
 use crate::{Many, Wanted};
 use list::{Key, Pair, Terms};
-use sheet::Size;
+use sheet::{Sheet, Size};
 
-// What is to be done: the number of refusal, or 0 and the sheets' counts, the words needed, and which pairs of which list.
+// What is to be done: the sheets' counts, the words needed, and which pairs of which list.
 #[derive(Clone, Copy)]
 pub(crate) struct Task {
-    pub number: u32,
     pub hp: Size,
     pub hq: Size,
     pub words: usize,
@@ -41,6 +41,16 @@ fn step_from(p: &[i32], q: &[i32], owners: &[u8], len: usize, bits: &mut [u64], 
     let task = s.task;
     let hp = task.hp;
     let hq = task.hq;
+    let ps = Sheet {
+        words: p,
+        n: hp.n,
+        m: hp.m,
+    };
+    let qs = Sheet {
+        words: q,
+        n: hq.n,
+        m: hq.m,
+    };
     let terms = task.terms;
     let key = task.key;
     let w = task.words;
@@ -50,10 +60,8 @@ fn step_from(p: &[i32], q: &[i32], owners: &[u8], len: usize, bits: &mut [u64], 
         next: s.next,
     };
     let c = crate::cursor::advance(
-        p,
-        hp,
-        q,
-        hq,
+        ps,
+        qs,
         owners,
         terms,
         task.largest,
@@ -64,8 +72,8 @@ fn step_from(p: &[i32], q: &[i32], owners: &[u8], len: usize, bits: &mut [u64], 
     let count = s.count;
     if hp.n <= c.i {
         return Step {
-            task: task,
-            count: count,
+            task,
+            count,
             to: count,
             more: false,
             pair: Pair {
@@ -78,32 +86,32 @@ fn step_from(p: &[i32], q: &[i32], owners: &[u8], len: usize, bits: &mut [u64], 
             next: c.next,
         };
     }
-    let pair = walk::pair::pair_by(p, hp, q, hq, c.at, c.i, terms.grid);
+    let pair = walk::pair::pair_by(ps, qs, c.at, c.i, terms.grid);
     if count < len {
         return Step {
-            task: task,
-            count: count,
+            task,
+            count,
             to: count + 1,
             more: false,
-            pair: pair,
+            pair,
             at: c.at,
             i: c.i,
             next: c.next,
         };
     }
     Step {
-        task: task,
-        count: count,
+        task,
+        count,
         to: count,
         more: true,
-        pair: pair,
+        pair,
         at: c.at,
         i: c.i,
         next: c.next,
     }
 }
 
-// Before the first pair: what is refused, or the step to the first.
+// The step to the first pair, or the number that the call is refused by, and no word is touched then.
 pub(crate) fn first_step(
     p: &[i32],
     q: &[i32],
@@ -111,19 +119,15 @@ pub(crate) fn first_step(
     wanted: Wanted,
     len: usize,
     bits: &mut [u64],
-) -> Step
-    ensures { Begun p.now q.now owners.now wanted len bits.old bits.new result }
+) -> Result<Step, u32>
+    ensures { MatchResult result (λ s. Begun p.now q.now owners.now wanted len bits.old bits.new s) (λ k. (k ≡ pairs_no p.now q.now owners.now wanted (length bits.old)) × (k ≢ 0) × (bits.new ≡ bits.old)) }
 {
-    let k = crate::check::checked_both(p, q, owners, wanted, bits.len());
-    let hp = k.hp;
-    let hq = k.hq;
-    let key = wanted.key;
+    let c = crate::check::checked_both(p, q, owners, wanted, bits.len())?;
     let task = Task {
-        number: k.number,
-        hp: hp,
-        hq: hq,
-        words: k.words,
-        key: key,
+        hp: Size { n: c.p.n, m: c.p.m },
+        hq: Size { n: c.q.n, m: c.q.m },
+        words: c.words,
+        key: wanted.key,
         largest: wanted.largest,
         terms: Terms {
             threshold: wanted.threshold,
@@ -132,7 +136,7 @@ pub(crate) fn first_step(
             grid: wanted.grid,
         },
     };
-    started(p, q, owners, len, bits, task)
+    Ok(started(p, q, owners, len, bits, task))
 }
 
 // The same of a self join.
@@ -143,63 +147,49 @@ pub(crate) fn own_first(
     grid: bool,
     len: usize,
     bits: &mut [u64],
-) -> Step
-    ensures { OwnBegun s.now key largest grid len bits.old bits.new result }
+) -> Result<Step, u32>
+    ensures { MatchResult result (λ st. OwnBegun s.now key largest grid len bits.old bits.new st) (λ k. (k ≡ own_pairs_no s.now key largest grid (length bits.old)) × (k ≢ 0) × (bits.new ≡ bits.old)) }
 {
-    let k = crate::check::checked_own(s, key, largest, grid, bits.len());
-    let hp = k.hp;
-    let hq = k.hq;
+    let c = crate::check::checked_own(s, key, largest, grid, bits.len())?;
     let task = Task {
-        number: k.number,
-        hp: hp,
-        hq: hq,
-        words: k.words,
-        key: key,
-        largest: largest,
+        hp: Size { n: c.p.n, m: c.p.m },
+        hq: Size { n: c.q.n, m: c.q.m },
+        words: c.words,
+        key,
+        largest,
         terms: Terms {
             threshold: 0,
             contractor: 2,
             own: true,
-            grid: grid,
+            grid,
         },
     };
-    started(s, s, b"", len, bits, task)
+    Ok(started(s, s, b"", len, bits, task))
 }
 
-// The step to the first pair of a task, where it is not refused.
+// The step to the first pair of a task.
 fn started(p: &[i32], q: &[i32], owners: &[u8], len: usize, bits: &mut [u64], task: Task) -> Step
-    requires { task.number ≡ 0 → Able p.now q.now task (length bits.old) }
+    requires { Able p.now q.now task (length bits.old) }
     ensures { Started p.now q.now owners.now len bits.old bits.new task result }
 {
-    let hp = task.hp;
-    let hq = task.hq;
-    let key = task.key;
-    let zero = Pair {
-        q: 0,
-        p: 0,
-        size: 0,
+    let qs = Sheet {
+        words: q,
+        n: task.hq.n,
+        m: task.hq.m,
     };
-    if task.number != 0 {
-        return Step {
-            task: task,
-            count: 0,
-            to: 0,
-            more: false,
-            pair: zero,
-            at: 0,
-            i: 0,
-            next: 0,
-        };
-    }
-    let first = crate::cursor::first_chamber(q, hq, key);
+    let first = crate::cursor::first_chamber(qs, task.key);
     let s = Step {
-        task: task,
+        task,
         count: 0,
         to: 0,
         more: false,
-        pair: zero,
+        pair: Pair {
+            q: 0,
+            p: 0,
+            size: 0,
+        },
         at: 0,
-        i: hp.n,
+        i: task.hp.n,
         next: first,
     };
     step_from(p, q, owners, len, bits, s)
@@ -231,22 +221,16 @@ pub(crate) fn own_another(s: &[i32], len: usize, bits: &mut [u64], st: Step) -> 
     another(s, s, b"", len, bits, st)
 }
 
-// At the end: the answer, with zeros in the words that were needed where it is one.
+// At the end: the answer, with zeros in the words that were needed.
 pub(crate) fn finish(s: Step, bits: &mut [u64]) -> Many
-    requires { s.task.number ≡ 0 → s.task.words ≤ length bits.old }
-    ensures { (result.number ≡ s.task.number) × (result.count ≡ s.count) × (result.more ≡ s.more) × (bits.new ≡ wiped_by s.task.number s.task.words bits.old) }
+    requires { s.task.words ≤ length bits.old }
+    ensures { (result ≡ record { number = 0; count = s.count; more = s.more }) × (bits.new ≡ wiped s.task.words bits.old) }
 {
-    let task = s.task;
-    let number = task.number;
-    let r = Many {
-        number: number,
+    let w = s.task.words;
+    bits::clear(&mut bits[..w]);
+    Many {
+        number: 0,
         count: s.count,
         more: s.more,
-    };
-    if number != 0 {
-        return r;
     }
-    let w = task.words;
-    bits::clear(&mut bits[..w]);
-    r
 }

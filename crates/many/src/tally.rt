@@ -1,44 +1,35 @@
 // How many pairs a list has, so that a caller can lend as many slots.
 ghost use Rattle.std.specs.Prelude.{◌≡◌, length};
 ghost use Rattle.bits.specs.Set.{words_for, none};
-ghost use Rattle.sheet.specs.Open.{Opens};
 ghost use Rattle.join.specs.Sheets.{Alone};
 ghost use Rattle.many.specs.Many.{count_given, count_refused, count_answer, count_bits, own_count_answer, own_count_bits};
 
 use crate::{Counted, Wanted, Which};
 use list::{Key, Terms};
-use sheet::Size;
+use sheet::Sheet;
 
 // Refused: the number, and 0.
 fn refused(number: u32) -> Counted
     ensures { result ≡ count_refused number }
 {
-    Counted {
-        number: number,
-        count: 0,
-    }
+    Counted { number, count: 0 }
 }
 
 // The count of two sheets that open, or of one in both places. The words lent are as many as are needed, and zeros after it.
 fn given(
-    p: &[i32],
-    hp: Size,
-    q: &[i32],
-    hq: Size,
+    p: Sheet<'_>,
+    q: Sheet<'_>,
     owners: &[u8],
     terms: Terms,
     largest: u64,
     bits: &mut [u64],
 ) -> Counted
-    requires { Opens p.now hp.n hp.m × Opens q.now hq.n hq.m × Alone terms p.now q.now × (length bits.old ≡ words_for hp.n) }
-    ensures { (result ≡ count_given largest terms owners.now p.now q.now) × (bits.new ≡ none (length bits.old)) }
+    requires { Alone terms p.words.now q.words.now × (length bits.old ≡ words_for p.n) }
+    ensures { (result ≡ count_given largest terms owners.now p.entry.words.now q.entry.words.now) × (bits.new ≡ none (length bits.old)) }
 {
-    let count = crate::all::count_all(p, hp, q, hq, owners, terms, largest, bits);
+    let count = crate::all::count_all(p, q, owners, terms, largest, bits);
     bits::clear(bits);
-    Counted {
-        number: 0,
-        count: count,
-    }
+    Counted { number: 0, count }
 }
 
 // How many pairs the list has. The words lent for kept sets, as many as the points of P need, are zeros after an answer.
@@ -54,20 +45,17 @@ pub fn count(p: &[i32], q: &[i32], owners: &[u8], which: Which, bits: &mut [u64]
         contractor: which.contractor,
         grid: which.grid,
     };
-    let c = crate::check::checked_both(p, q, owners, wanted, bits.len());
-    if c.number != 0 {
-        return refused(c.number);
-    }
+    let c = match crate::check::checked_both(p, q, owners, wanted, bits.len()) {
+        Ok(c) => c,
+        Err(no) => return refused(no),
+    };
     let terms = Terms {
         threshold: which.threshold,
         contractor: which.contractor,
         own: false,
         grid: which.grid,
     };
-    let hp = c.hp;
-    let hq = c.hq;
-    let w = c.words;
-    given(p, hp, q, hq, owners, terms, which.largest, &mut bits[..w])
+    given(c.p, c.q, owners, terms, which.largest, &mut bits[..c.words])
 }
 
 // The same of a self join, which is undivided and has no threshold.
@@ -76,18 +64,15 @@ pub fn own_count(s: &[i32], largest: u64, grid: bool, bits: &mut [u64]) -> Count
     ensures { (result ≡ own_count_answer s.now largest grid (length bits.old)) × (bits.new ≡ own_count_bits s.now largest grid bits.old) }
 {
     let key = Key { q: 0, p: 0 };
-    let c = crate::check::checked_own(s, key, largest, grid, bits.len());
-    if c.number != 0 {
-        return refused(c.number);
-    }
+    let c = match crate::check::checked_own(s, key, largest, grid, bits.len()) {
+        Ok(c) => c,
+        Err(no) => return refused(no),
+    };
     let terms = Terms {
         threshold: 0,
         contractor: 2,
         own: true,
-        grid: grid,
+        grid,
     };
-    let hp = c.hp;
-    let hq = c.hq;
-    let w = c.words;
-    given(s, hp, s, hq, b"", terms, largest, &mut bits[..w])
+    given(c.p, c.q, b"", terms, largest, &mut bits[..c.words])
 }

@@ -34,8 +34,7 @@ use Rattle.ring.specs.Answers.{filtered_to, unfiltered}
 use Rattle.ring.proofs.LentLaws.{bits_short, bits_enough, kept_refused, wiped_refused, kept_given, wiped_given}
 use Rattle.nearest.specs.declared.Near.{Near}
 use Rattle.nearest.specs.declared.Found.{Found}
-use Rattle.nearest.specs.declared.Chamber.{Chamber}
-use Rattle.nearest.specs.Nearest.{wait_no, chamber_no, nearest_no, near_filter_no, stands_at, chamber_found, no_point, near_at, sixteen, nearest_at, nearest_refused, nearest_answer, near_kept_for, near_filtered, near_filtered_bits, waited_by}
+use Rattle.nearest.specs.Nearest.{wait_no, Chamber, chamber_no, nearest_no, near_filter_no, stands_at, chamber_found, no_point, near_at, sixteen, nearest_at, nearest_refused, nearest_answer, near_kept_for, near_filtered, near_filtered_bits, waited_by}
 use Rattle.nearest.proofs.ChamberLaws.{chamber_number, chamber_front, Placed, placed_facts}
 
 -- ---- the pump houses, one by one

@@ -1,6 +1,6 @@
 -- What is found of two sheets and the id of a chamber.
 --     seek_start, seek_on, seek_stop, seek_end     the chamber with an id, as it is sought
---     placed_p, placed_q, placed_unknown, placed_here      what `placed` answers, number by number
+--     placed_shut, placed_unknown, placed_here      what `placed` answers, number by number
 --     Placed, placed_facts      what a call may rely on where the number is 0
 -- Assumes nothing.
 use mathlib.Core.Path.{◌≡◌, refl, sym, ap, subst, ◌∙◌}
@@ -21,11 +21,9 @@ use Rattle.sheet.proofs.PointsLaws.{length_points}
 use Rattle.sheet.proofs.SheetLaws.{by_counts}
 use Rattle.sheet.proofs.RangeLaws.{spot_in}
 use Rattle.ring.specs.Numbers.{sheets_no}
-use Rattle.ring.specs.Answers.{head_of, heads_of}
-use Rattle.ring.specs.declared.Head.{Head}
-use Rattle.ring.proofs.HeadLaws.{headed, heads_p, heads_q, heads_open, heads_number, sheets_both, headed_both, sheets_open, sheets_stop}
-use Rattle.nearest.specs.declared.Chamber.{Chamber}
-use Rattle.nearest.specs.Nearest.{chamber_no, stands_at, unplaced_at, chamber_found}
+use Rattle.ring.specs.Answers.{Heads, heads_shut, heads_of}
+use Rattle.ring.proofs.HeadLaws.{heads_number, sheets_both, headed_both, sheets_open, sheets_stop}
+use Rattle.nearest.specs.Nearest.{chamber_no, stands_at, Chamber, placed_at, unplaced_at, chamber_found}
 use Rattle.sheet.specs.Find.{position_of}
 use Rattle.ring.specs.Partners.{id_no}
 
@@ -83,32 +81,25 @@ module _ (P Q : List ℤ) (id : ℕ) where
         within = subst (λ (g : Chamber). SpotIn g.at) (sym f) (spot_in o.q_facts (position_of (points_of Q) id) j);
       }
 
-  module _ (a : Head) (e : a ≡ head_of P) where
-    pub placed_p : (a.number ≡ 0 → ⊥) → (c : Chamber) → c ≡ unplaced_at a.number → c ≡ chamber_found P Q id
-    unfolding chamber_no
-    placed_p ne c r = r ∙ chamber_refused a.number (sheets_stop P Q _ _ (heads_p P Q a e ne) ne) ne
+  -- from what the check of both sheets found
+  pub placed_shut : (k : ℕ) → heads_shut k ≡ heads_of P Q → (k ≡ 0 → ⊥) → unplaced_at k ≡ chamber_found P Q id
+  unfolding chamber_no
+  placed_shut k e ne = chamber_refused k (sheets_stop P Q _ _ e ne) ne
 
-    module _ (z : a.number ≡ 0) (b : Head) (f : b ≡ head_of Q) where
-      pub placed_q : (b.number ≡ 0 → ⊥) → (c : Chamber) → c ≡ unplaced_at b.number → c ≡ chamber_found P Q id
-      unfolding chamber_no
-      placed_q ne c r = r ∙ chamber_refused b.number (sheets_stop P Q _ _ (heads_q P Q a e z b f ne) ne) ne
+  module _ (h : Heads) (e : h ≡ heads_of P Q) (z : h.number ≡ 0) (j : ℕ) (g : j ≡ position_of (points_of Q) id) where
+    many : length (points_of Q) ≡ h.nq
+    many = length_points Q ∙ sym (headed_both P Q h e z).nq_is
 
-      module _ (y : b.number ≡ 0) (j : ℕ) (g : j ≡ position_of (points_of Q) id) where
-        open_both : sheets_no P Q ≡ 0
-        open_both = sym (heads_number P Q _ (heads_open P Q a e z b f y))
+    pub placed_unknown : h.nq ≤ j → unplaced_at 20 ≡ chamber_found P Q id
+    unfolding chamber_no id_no given
+    placed_unknown past =
+        chamber_refused 20 (sheets_open P Q _ (headed_both P Q h e z).opens ∙ first_last _ ∙ (rw (le-ltb (position_of (points_of Q) id) (length (points_of Q)) (omega (arith, many))))) (λ x. omega arith)
 
-        many : length (points_of Q) ≡ b.n
-        many = length_points Q ∙ sym (headed Q b f y).n_is
-
-        pub placed_unknown : b.n ≤ j → (c : Chamber) → c ≡ unplaced_at 20 → c ≡ chamber_found P Q id
-        unfolding chamber_no id_no given
-        placed_unknown h c r =
-            r ∙ chamber_refused 20 (sheets_open P Q _ open_both ∙ first_last _ ∙ (rw (le-ltb (position_of (points_of Q) id) (length (points_of Q)) (omega (arith, many))))) (λ x. omega arith)
-
-        pub placed_here : j < b.n → (s : Spot) → s ≡ spot_of Q j → record { number = 0; n = a.n; m = a.m; at = s } ≡ chamber_found P Q id
-        unfolding chamber_no id_no given stands_at
-        placed_here h s at_j =
-            let p = headed P a e z in
-            let v : s ≡ stands_at Q id = at_j ∙ ap (spot_of Q) g in
-            (λ t. record { number = 0; n = p.n_is t; m = p.m_is t; at = v t })
-            ∙ chamber_here (sheets_open P Q _ open_both ∙ first_last _ ∙ (rw (lt-ltb (position_of (points_of Q) id) (length (points_of Q)) (omega (arith, many)))))
+    pub placed_here : j < h.nq → (s : Spot) → s ≡ spot_of Q j → placed_at h.np h.mp s ≡ chamber_found P Q id
+    unfolding chamber_no id_no given stands_at
+    placed_here within s at_j =
+        let o = headed_both P Q h e z in
+        let m_is : h.mp ≡ nodes P = sym o.p_facts.m_is in
+        let v : s ≡ stands_at Q id = at_j ∙ ap (spot_of Q) g in
+        (λ t. record { number = 0; n = o.np_is t; m = m_is t; at = v t })
+        ∙ chamber_here (sheets_open P Q _ o.opens ∙ first_last _ ∙ (rw (lt-ltb (position_of (points_of Q) id) (length (points_of Q)) (omega (arith, many)))))

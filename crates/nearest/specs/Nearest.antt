@@ -19,7 +19,6 @@ use Rattle.ring.specs.Lent.{need, bits_no, kept_by, wiped_by}
 use Rattle.ring.specs.Answers.{filtered_to, unfiltered}
 use Rattle.nearest.specs.declared.Near.{Near}
 use Rattle.nearest.specs.declared.Found.{Found}
-use Rattle.nearest.specs.declared.Chamber.{Chamber}
 use Rattle.walk.specs.FilterWalk.{Kept}
 
 -- ---- numbers
@@ -46,6 +45,18 @@ near_filter_no P Q id bits len = first (sheet_no P ∷ sheet_no Q ∷ id_no (poi
 unfoldable pub stands_at : List ℤ → ℕ → Spot
 stands_at Q id = spot_of Q (position_of (points_of Q) id)
 
+-- what is found of two sheets and the id of a chamber: 0, the points and nodes of P and where the chamber stands; or the number of refusal and zeros
+pub record Chamber : Type 0 where
+  pub number : ℕ
+  pub n : ℕ
+  pub m : ℕ
+  pub at : Spot
+
+-- found, with these
+abbrev pub placed_at : ℕ → ℕ → Spot → Chamber
+placed_at n m at = record { number = 0; n = n; m = m; at = at }
+
+-- refused, by this number
 unfoldable pub unplaced_at : ℕ → Chamber
 unplaced_at k = record { number = k; n = 0; m = 0; at = spot (pos 0) (pos 0) }
 

@@ -2,16 +2,16 @@
 // What waits in the walk stands in numbers that the caller lends: as many as P has points and nodes, or more.
 #![tactic(auto)]
 
-ghost use Rattle.std.specs.Prelude.{◌≡◌, ◌+◌, ◌≤◌, ◌<◌, length};
+ghost use Rattle.std.specs.Prelude.{◌≡◌, ◌≢◌, MatchResult, ◌+◌, ◌≤◌, ◌<◌, length};
 ghost use Rattle.bits.specs.Set.{wiped, Holds};
 ghost use Rattle.plane.specs.Rule.{SpotIn};
-ghost use Rattle.sheet.specs.Open.{Opens};
 ghost use Rattle.outward.specs.NearWalk.{near_kept};
 ghost use Rattle.ring.specs.Answers.{filtered_to, unfiltered};
-ghost use Rattle.nearest.specs.Nearest.{nearest_no, near_filter_no, unplaced_at, chamber_found, near_at, nearest_at, nearest_refused, nearest_answer, near_filtered, near_filtered_bits, waited_by};
+ghost use Rattle.nearest.specs.Nearest.{nearest_no, near_filter_no, placed_at, unplaced_at, chamber_found, near_at, nearest_at, nearest_refused, nearest_answer, near_filtered, near_filtered_bits, waited_by};
 
 use plane::Spot;
 use ring::Filtered;
+use sheet::Sheet;
 
 // A pump house: its id and its squared distance to the chamber.
 #[repr(C)]
@@ -22,6 +22,7 @@ pub struct Near {
 }
 
 // What `nearest` answers: 0, how many pump houses are given and these, the nearest first, the rest zeros; or the number of refusal and zeros.
+// Kept: the C interface; `ring_nearest` of ffi hands it to C as it stands.
 #[repr(C)]
 #[derive(Clone, Copy)]
 pub struct Found {
@@ -30,21 +31,12 @@ pub struct Found {
     pub points: [Near; 16],
 }
 
-// What is found of two sheets and the id of a chamber: 0, the points and nodes of P and where the chamber stands; or the number of refusal and zeros.
-#[derive(Clone, Copy)]
-struct Chamber {
-    number: u32,
-    n: usize,
-    m: usize,
-    at: Spot,
-}
-
 // A refused answer: its number, and zeros.
 fn refused(number: u32) -> Found
     ensures { result ≡ nearest_refused number }
 {
     Found {
-        number: number,
+        number,
         count: 0,
         points: [Near { id: 0, distance: 0 }; 16],
     }
@@ -55,78 +47,53 @@ fn unkept(number: u32) -> Filtered
     ensures { result ≡ unfiltered number }
 {
     Filtered {
-        number: number,
+        number,
         count: 0,
         opened: 0,
     }
 }
 
-// The same of the chamber.
-fn unplaced(number: u32) -> Chamber
-    ensures { result ≡ unplaced_at number }
+// P of both sheets, and where the chamber with the id stands; refused by 1 to 8 of P, then of Q, then by 20 where no chamber has the id.
+fn placed<'a>(p: &'a [i32], q: &'a [i32], id: u32) -> Result<(Sheet<'a>, Spot), u32>
+    ensures { MatchResult result (λ c. (c.0.words.now ≡ p.now) × (placed_at c.0.n c.0.m c.1 ≡ chamber_found p.now q.now id)) (λ k. (k ≢ 0) × (unplaced_at k ≡ chamber_found p.now q.now id)) }
 {
-    Chamber {
-        number: number,
-        n: 0,
-        m: 0,
-        at: Spot { x: 0, y: 0 },
+    let ps = Sheet::open(p)?;
+    let qs = Sheet::open(q)?;
+    let j = qs.position_of(id);
+    if qs.n <= j {
+        return Err(20);
     }
-}
-
-// Both sheets and the id: refused by 1 to 8 of P, then of Q, then by 20 where no chamber has the id.
-fn placed(p: &[i32], q: &[i32], id: u32) -> Chamber
-    ensures { result ≡ chamber_found p.now q.now id }
-{
-    let a = ring::open::head_of(p);
-    if a.number != 0 {
-        return unplaced(a.number);
-    }
-    let b = ring::open::head_of(q);
-    if b.number != 0 {
-        return unplaced(b.number);
-    }
-    let j = sheet::find::position_of(q, b.n, b.m, id);
-    if b.n <= j {
-        return unplaced(20);
-    }
-    Chamber {
-        number: 0,
-        n: a.n,
-        m: a.m,
-        at: sheet::reads::spot_at(q, b.n, b.m, j),
-    }
+    Ok((ps, qs.spot_at(j)))
 }
 
 // The pump house at position i: its id and its squared distance to q.
-fn near_at(p: &[i32], n: usize, m: usize, q: Spot, i: usize) -> Near
-    requires { Opens p.now n m × SpotIn q × (i < n) }
-    ensures { result ≡ near_at p.now q i }
+fn near_at(p: Sheet<'_>, q: Spot, i: usize) -> Near
+    requires { SpotIn q × (i < p.n) }
+    ensures { result ≡ near_at p.entry.words.now q i }
 {
-    let at = sheet::reads::spot_at(p, n, m, i);
+    let at = p.spot_at(i);
     Near {
-        id: sheet::reads::id_at(p, n, m, i),
+        id: p.id_at(i),
         distance: plane::diameter(q, at),
     }
 }
 
 // The first `size` pump houses for the place q.
-fn given(p: &[i32], n: usize, m: usize, q: Spot, size: usize, waiting: &mut [u64]) -> Found
-    requires { Opens p.now n m × SpotIn q × (size ≤ 16) × (n + m ≤ length waiting.old) }
-    ensures { (result ≡ nearest_at p.now q size) × (waiting.new ≡ wiped (n + m) waiting.old) }
+fn given(p: Sheet<'_>, q: Spot, size: usize, waiting: &mut [u64]) -> Found
+    requires { SpotIn q × (size ≤ 16) × (p.n + p.m ≤ length waiting.old) }
+    ensures { (result ≡ nearest_at p.entry.words.now q size) × (waiting.new ≡ wiped (p.entry.n + p.entry.m) waiting.old) }
 {
-    let f = outward::order::first_points(p, n, m, q, size, waiting);
+    let f = outward::order::first_points(p, q, size, waiting);
     let count = f.count;
     let mut points = [Near { id: 0, distance: 0 }; 16];
-    let mut k = 0;
-    while k < count {
+    for k in 0..count {
         let i = f.at[k];
-        points[k] = near_at(p, n, m, q, i);
-        k += 1;
+        points[k] = near_at(p, q, i);
     }
     Found {
         number: 0,
-        count: count,
-        points: points,
+        count,
+        points,
     }
 }
 
@@ -137,38 +104,30 @@ fn given(p: &[i32], n: usize, m: usize, q: Spot, size: usize, waiting: &mut [u64
 pub fn nearest(p: &[i32], q: &[i32], id: u32, size: usize, waiting: &mut [u64]) -> Found
     ensures { (result ≡ nearest_answer p.now q.now id size (length waiting.old)) × (waiting.new ≡ waited_by (nearest_no p.now q.now id size (length waiting.old)) p.now waiting.old) }
 {
-    let c = placed(p, q, id);
-    if c.number != 0 {
-        return refused(c.number);
-    }
+    let (ps, at) = match placed(p, q, id) {
+        Ok(found) => found,
+        Err(no) => return refused(no),
+    };
     let no = list::size_no(size);
     if no != 0 {
         return refused(no);
     }
-    if waiting.len() < c.n + c.m {
+    if waiting.len() < ps.n + ps.m {
         return refused(25);
     }
-    let at = c.at;
-    given(p, c.n, c.m, at, size, waiting)
+    given(ps, at, size, waiting)
 }
 
 // The walk over a sheet that opens for the place q: the words lent are its kept set, and what waits stands in the lent numbers.
-fn kept_on(
-    p: &[i32],
-    n: usize,
-    m: usize,
-    q: Spot,
-    waiting: &mut [u64],
-    bits: &mut [u64],
-) -> Filtered
-    requires { Opens p.now n m × SpotIn q × (n + m ≤ length waiting.old) × Holds bits.old n }
-    ensures { (result ≡ filtered_to (near_kept (length bits.old) p.now q)) × (waiting.new ≡ wiped (n + m) waiting.old) × (bits.new ≡ (near_kept (length bits.old) p.now q).bits) }
+fn kept_on(p: Sheet<'_>, q: Spot, waiting: &mut [u64], bits: &mut [u64]) -> Filtered
+    requires { SpotIn q × (p.n + p.m ≤ length waiting.old) × Holds bits.old p.n }
+    ensures { (result ≡ filtered_to (near_kept (length bits.old) p.entry.words.now q)) × (waiting.new ≡ wiped (p.entry.n + p.entry.m) waiting.old) × (bits.new ≡ (near_kept (length bits.old) p.entry.words.now q).bits) }
 {
-    let opened = outward::filter::near_kept(p, n, m, q, bits, waiting);
+    let opened = outward::filter::near_kept(p, q, bits, waiting);
     Filtered {
         number: 0,
         count: bits::len(bits),
-        opened: opened,
+        opened,
     }
 }
 
@@ -178,17 +137,16 @@ fn kept_on(
 pub fn near_filter(p: &[i32], q: &[i32], id: u32, waiting: &mut [u64], bits: &mut [u64]) -> Filtered
     ensures { (result ≡ near_filtered p.now q.now id (length bits.old) (length waiting.old)) × (waiting.new ≡ waited_by (near_filter_no p.now q.now id (length bits.old) (length waiting.old)) p.now waiting.old) × (bits.new ≡ near_filtered_bits p.now q.now id (length waiting.old) bits.old) }
 {
-    let c = placed(p, q, id);
-    if c.number != 0 {
-        return unkept(c.number);
-    }
-    let w = bits::words_for(c.n);
+    let (ps, at) = match placed(p, q, id) {
+        Ok(found) => found,
+        Err(no) => return unkept(no),
+    };
+    let w = bits::words_for(ps.n);
     if bits.len() < w {
         return unkept(24);
     }
-    if waiting.len() < c.n + c.m {
+    if waiting.len() < ps.n + ps.m {
         return unkept(25);
     }
-    let at = c.at;
-    kept_on(p, c.n, c.m, at, waiting, &mut bits[..w])
+    kept_on(ps, at, waiting, &mut bits[..w])
 }

@@ -6,75 +6,52 @@
 
 ghost use Rattle.std.specs.Prelude.{◌≡◌, ◌≤◌, length};
 
-use input::Got;
-
 // The words of a sheet of 60,000 points and 24,000 nodes.
 const MOST: usize = 468006;
-
-fn print(rt: &impl Print, n: u64) {
-    let _ = print!(rt; " {n}");
-}
 
 // What opening the words answers.
 fn open_words(rt: &impl Print, s: &[i32]) {
     let h = ring::open::head_of(s);
     if h.number != 0 {
-        let _ = rt.write_all(b"refused");
-        print(rt, h.number as u64);
-    } else {
-        let _ = rt.write_all(b"opens");
-        print(rt, h.n as u64);
-        print(rt, h.m as u64);
-        print(
-            rt,
-            words::num_at(s, std::num::wrapping_sub_usize(s.len(), 2)) as u64,
-        );
-        print(
-            rt,
-            words::num_at(s, std::num::wrapping_sub_usize(s.len(), 1)) as u64,
-        );
+        let _ = println!(rt; "refused {}", h.number);
+        return;
     }
-    let _ = rt.write_all(b"\n");
+    let edition = words::num_at(s, s.len().wrapping_sub(2));
+    let form = words::num_at(s, s.len().wrapping_sub(1));
+    let _ = println!(rt; "opens {} {} {edition} {form}", h.n, h.m);
 }
 
 fn say_input(rt: &impl Print) {
     let _ = println!(rt; "refused input");
 }
 
-// Room for the bytes that are read, and one more.
-fn room() -> [u8; 1872025]
-    ensures { length result ≡ 1872025 }
-{
-    [0; 1872025]
-}
+// The bytes that are read, and one more.
+const ROOM: usize = 1872025;
 
-// Room for their words.
-fn space() -> [i32; MOST]
-    ensures { length result ≡ 468006 }
+// An array that holds the same everywhere.
+fn filled<T: Copy, const N: usize>(v: T) -> [T; N]
+    ensures { length result ≡ N }
 {
-    [0; MOST]
+    [v; N]
 }
 
 // The first n bytes as words.
 fn run(rt: &impl Print, bytes: &[u8], n: usize)
     requires { n ≤ length bytes.now }
 {
-    if n % 4 != 0 {
-        return say_input(rt);
-    }
-    if n > 4 * MOST {
+    if (n % 4 != 0) | (n > 4 * MOST) {
         return say_input(rt);
     }
     let count = n / 4;
-    let mut given = space();
+    let mut given = filled::<i32, MOST>(0);
     words::bytes::decode(bytes, count, &mut given);
     open_words(rt, &given[..count]);
 }
 
 fn main(rt: HostRuntime) {
-    let mut bytes = room();
+    let mut bytes = filled::<u8, ROOM>(0);
     match input::read_all(&mut rt.reader(), &mut bytes) {
-        Got::Bytes(n) => run(&rt, &bytes, n),
-        Got::Failed => say_input(&rt),
+        Ok(n) => run(&rt, &bytes, n),
+        Err(_) => say_input(&rt),
     }
 }

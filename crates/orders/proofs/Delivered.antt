@@ -11,15 +11,16 @@ use Prim.Native.Nat.{ℕ, ◌≤◌}
 use native.Mathlib.Omega.{arith}
 use lib.ListN.{length, take, drop, replicate, length-replicate}
 use lib.Seq.{take_at}
+use Rattle.std.specs.Prelude.{Ok, Err}
 use Rattle.words.specs.Range.{id_ok, edition_ok}
 use Rattle.words.specs.First.{given, first, answer}
 use Rattle.list.specs.declared.Pair.{Pair}
 use Rattle.list.specs.declared.Source.{Source}
 use Rattle.list.specs.Terms.{with_by, alone_by}
 use Rattle.book.specs.declared.Book.{Book}
+use Rattle.depot.specs.declared.Receipt.TheVariants.{Issued, Known}
 use Rattle.depot.specs.declared.Form.{Form}
 use Rattle.depot.specs.declared.Depot.{Depot}
-use Rattle.depot.specs.declared.Outcome.TheVariants.{Issued, Known, Refused}
 use Rattle.depot.specs.Forms.{form_of, forms_answer, forms_of, forms_out}
 use Rattle.depot.specs.Depot.{begun_depot, same_form, key_in, form_ok, store_no_at, judged, is_known, verdict, stored, stored_slots}
 use Rattle.depot.proofs.FormLaws.{blank}
@@ -155,29 +156,29 @@ abbrev holding : ℕ → Depot
 holding n = record { held = n }
 
 abbrev said_of : Form → Handed
-said_of f = record { form = f; outcome = Issued }
+said_of f = record { form = f; outcome = Ok Issued }
 
 abbrev log : List Handed
-log = said_of third_form ∷ said_of first_form ∷ record { form = third_form; outcome = Known } ∷ said_of second_form ∷ []
+log = said_of third_form ∷ said_of first_form ∷ record { form = third_form; outcome = Ok Known } ∷ said_of second_form ∷ []
 
 abbrev full_slots : List Form
 full_slots = third_form ∷ first_form ∷ second_form ∷ []
 
 after_1 : Arrived document_world 3 (holding 1) (third_form ∷ blank ∷ blank ∷ []) (said_of third_form ∷ [])
 unfolding begun_depot stored stored_slots verdict is_known judged store_no_at key_in same_form form_ok id_ok edition_ok first given answer
-after_1 = took third_form (record { outcome = Issued; depot = holding 1 }) (third_form ∷ blank ∷ blank ∷ []) (began (holding 0) out (record { promised = refl }) (omega arith)) genuine_3 (refl, refl)
+after_1 = took third_form (record { outcome = Ok Issued; depot = holding 1 }) (third_form ∷ blank ∷ blank ∷ []) (began (holding 0) out (record { promised = refl }) (omega arith)) genuine_3 (refl, refl)
 
 after_2 : Arrived document_world 3 (holding 2) (third_form ∷ first_form ∷ blank ∷ []) (said_of third_form ∷ said_of first_form ∷ [])
 unfolding stored stored_slots verdict is_known judged store_no_at key_in same_form form_ok id_ok edition_ok first given answer
-after_2 = took first_form (record { outcome = Issued; depot = holding 2 }) (third_form ∷ first_form ∷ blank ∷ []) after_1 genuine_1 (refl, refl)
+after_2 = took first_form (record { outcome = Ok Issued; depot = holding 2 }) (third_form ∷ first_form ∷ blank ∷ []) after_1 genuine_1 (refl, refl)
 
-after_3 : Arrived document_world 3 (holding 2) (third_form ∷ first_form ∷ blank ∷ []) (said_of third_form ∷ said_of first_form ∷ record { form = third_form; outcome = Known } ∷ [])
+after_3 : Arrived document_world 3 (holding 2) (third_form ∷ first_form ∷ blank ∷ []) (said_of third_form ∷ said_of first_form ∷ record { form = third_form; outcome = Ok Known } ∷ [])
 unfolding stored stored_slots verdict is_known judged store_no_at key_in same_form form_ok id_ok edition_ok first given answer
-after_3 = took third_form (record { outcome = Known; depot = holding 2 }) (third_form ∷ first_form ∷ blank ∷ []) after_2 genuine_3 (refl, refl)
+after_3 = took third_form (record { outcome = Ok Known; depot = holding 2 }) (third_form ∷ first_form ∷ blank ∷ []) after_2 genuine_3 (refl, refl)
 
 after_4 : Arrived document_world 3 (holding 3) full_slots log
 unfolding stored stored_slots verdict is_known judged store_no_at key_in same_form form_ok id_ok edition_ok first given answer
-after_4 = took second_form (record { outcome = Issued; depot = holding 3 }) full_slots after_3 genuine_2 (refl, refl)
+after_4 = took second_form (record { outcome = Ok Issued; depot = holding 3 }) full_slots after_3 genuine_2 (refl, refl)
 
 -- what was handed in, each key once: no more than there are slots
 few : length (firsts (handed_in log)) ≤ 3
@@ -203,23 +204,23 @@ document_delivered = (history, document_closed.3, ap (λ (x : Source). x.terms.t
 -- ---- a depot whose slice grows
 
 abbrev full_said : Handed
-full_said = record { form = first_form; outcome = Refused 16 }
+full_said = record { form = first_form; outcome = Err 16 }
 
 abbrev short_log : List Handed
 short_log = said_of third_form ∷ full_said ∷ []
 
 -- all that was handed in, the refused form too
 abbrev grown_log : List Handed
-grown_log = said_of third_form ∷ full_said ∷ said_of first_form ∷ record { form = third_form; outcome = Known } ∷ said_of second_form ∷ []
+grown_log = said_of third_form ∷ full_said ∷ said_of first_form ∷ record { form = third_form; outcome = Ok Known } ∷ said_of second_form ∷ []
 
 -- one slot: the third form is taken, the first is refused by 16
 short_1 : Arrived document_world 1 (holding 1) (third_form ∷ []) (said_of third_form ∷ [])
 unfolding begun_depot stored stored_slots verdict is_known judged store_no_at key_in same_form form_ok id_ok edition_ok first given answer
-short_1 = took third_form (record { outcome = Issued; depot = holding 1 }) (third_form ∷ []) (began (holding 0) (blank ∷ []) (record { promised = refl }) (omega arith)) genuine_3 (refl, refl)
+short_1 = took third_form (record { outcome = Ok Issued; depot = holding 1 }) (third_form ∷ []) (began (holding 0) (blank ∷ []) (record { promised = refl }) (omega arith)) genuine_3 (refl, refl)
 
 short_2 : Arrived document_world 1 (holding 1) (third_form ∷ []) short_log
 unfolding stored stored_slots verdict is_known judged store_no_at key_in same_form form_ok id_ok edition_ok first given answer
-short_2 = took first_form (record { outcome = Refused 16; depot = holding 1 }) (third_form ∷ []) short_1 genuine_1 (refl, refl)
+short_2 = took first_form (record { outcome = Err 16; depot = holding 1 }) (third_form ∷ []) short_1 genuine_1 (refl, refl)
 
 -- two slots more: what was refused is sent again, and taken
 grown_0 : Arrived document_world 1 (holding 1) (third_form ∷ blank ∷ blank ∷ []) short_log
@@ -227,15 +228,15 @@ grown_0 = lent (third_form ∷ blank ∷ blank ∷ []) short_2 (omega arith) (om
 
 grown_1 : Arrived document_world 1 (holding 2) (third_form ∷ first_form ∷ blank ∷ []) (said_of third_form ∷ full_said ∷ said_of first_form ∷ [])
 unfolding stored stored_slots verdict is_known judged store_no_at key_in same_form form_ok id_ok edition_ok first given answer
-grown_1 = took first_form (record { outcome = Issued; depot = holding 2 }) (third_form ∷ first_form ∷ blank ∷ []) grown_0 genuine_1 (refl, refl)
+grown_1 = took first_form (record { outcome = Ok Issued; depot = holding 2 }) (third_form ∷ first_form ∷ blank ∷ []) grown_0 genuine_1 (refl, refl)
 
-grown_2 : Arrived document_world 1 (holding 2) (third_form ∷ first_form ∷ blank ∷ []) (said_of third_form ∷ full_said ∷ said_of first_form ∷ record { form = third_form; outcome = Known } ∷ [])
+grown_2 : Arrived document_world 1 (holding 2) (third_form ∷ first_form ∷ blank ∷ []) (said_of third_form ∷ full_said ∷ said_of first_form ∷ record { form = third_form; outcome = Ok Known } ∷ [])
 unfolding stored stored_slots verdict is_known judged store_no_at key_in same_form form_ok id_ok edition_ok first given answer
-grown_2 = took third_form (record { outcome = Known; depot = holding 2 }) (third_form ∷ first_form ∷ blank ∷ []) grown_1 genuine_3 (refl, refl)
+grown_2 = took third_form (record { outcome = Ok Known; depot = holding 2 }) (third_form ∷ first_form ∷ blank ∷ []) grown_1 genuine_3 (refl, refl)
 
 grown_3 : Arrived document_world 1 (holding 3) full_slots grown_log
 unfolding stored stored_slots verdict is_known judged store_no_at key_in same_form form_ok id_ok edition_ok first given answer
-grown_3 = took second_form (record { outcome = Issued; depot = holding 3 }) full_slots grown_2 genuine_2 (refl, refl)
+grown_3 = took second_form (record { outcome = Ok Issued; depot = holding 3 }) full_slots grown_2 genuine_2 (refl, refl)
 
 all_taken : EachTaken b s grown_log
 unfolding taken_of if_taken

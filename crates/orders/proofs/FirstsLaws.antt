@@ -8,10 +8,11 @@ use mathlib.Core.Logic.{⊎_elim}
 use Prim.Native.Nat.{ℕ, zero, suc, ◌≤◌, ◌<◌}
 use native.Mathlib.Omega.{arith}
 use lib.ListN.{length, get_or, length-append}
+use Rattle.std.specs.Prelude.{Result, Ok, Err}
 use Rattle.integers.proofs.Bools.{clash}
+use Rattle.depot.specs.declared.Receipt.{Receipt}
+use Rattle.depot.specs.declared.Receipt.TheVariants.{Issued, Known}
 use Rattle.depot.specs.declared.Form.{Form}
-use Rattle.depot.specs.declared.Outcome.{Outcome}
-use Rattle.depot.specs.declared.Outcome.TheVariants.{Issued, Known, Refused}
 use Rattle.depot.specs.Depot.{same_form, key_in}
 use Rattle.depot.proofs.KeyLaws.{same_turned, same_with, in_keys, keys_in}
 use Rattle.orders.specs.Firsts.{without, firsts}
@@ -208,7 +209,7 @@ taken_handed (h ∷ log) f m =
     (λ (x : Memᴰ f (taken_of log)). Memᴰ.tail (taken_handed log f x))
     (Memᴰ.append_cases (if_taken h.outcome h.form) m)
   where
-    its : (o : Outcome) → Memᴰ f (if_taken o h.form) → f ≡ h.form
-    its Issued x = Memᴰ.eq_of_singleton x
-    its Known x = Memᴰ.eq_of_singleton x
-    its (Refused n) x = absurd (Memᴰ.not-nil x)
+    its : (o : Result Receipt ℕ) → Memᴰ f (if_taken o h.form) → f ≡ h.form
+    its (Ok Issued) x = Memᴰ.eq_of_singleton x
+    its (Ok Known) x = Memᴰ.eq_of_singleton x
+    its (Err n) x = absurd (Memᴰ.not-nil x)

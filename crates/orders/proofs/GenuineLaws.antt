@@ -10,6 +10,7 @@ use lib.Dec.{leb}
 use lib.ListN.{length, take, drop, length-map, take-append-drop}
 use lib.Seq.{take_at, length-take-le}
 use borrow.Author.Tests.{le-leb}
+use Rattle.std.specs.Prelude.{Ok, Err}
 use Rattle.integers.proofs.Bools.{and_left, and_right, and_both}
 use Rattle.words.specs.Range.{edition_ok}
 use Rattle.words.specs.First.{answer}
@@ -27,7 +28,6 @@ use Rattle.list.specs.Terms.{pair_for, listed_for, list_for, profile_for}
 use Rattle.list.proofs.ContractorLaws.{contractor_most}
 use Rattle.list.proofs.TermsLaws.{for_only, for_iff, for_ids, for_size}
 use Rattle.book.specs.declared.Book.{Book}
-use Rattle.book.specs.declared.Begun.TheVariants as begun
 use Rattle.book.specs.declared.Taken.{Taken}
 use Rattle.book.specs.Rules.{one_sheet, begin_no, begun_no, begun_book, begun_for}
 use Rattle.book.proofs.Once.{book_begin_no}
@@ -115,14 +115,14 @@ module _ (w : Editions) where
   -- ---- its key is in range
 
   -- what a book was begun for
-  begun_with : (s : Source) (b : Book) → begun.Open b ≡ begun_for s → (begin_no s ≡ 0) × (b.source ≡ s)
+  begun_with : (s : Source) (b : Book) → Ok b ≡ begun_for s → (begin_no s ≡ 0) × (b.source ≡ s)
   begun_with s b e = (number, source)
     where
       number : begin_no s ≡ 0
       number = sym (book_begin_no s) ∙ ap begun_no (sym e) ∙ (unfold begun_no in refl)
 
       source : b.source ≡ s
-      source = let z : begun.Open b ≡ begun.Open (begun_book s) = e ∙ (unfold begun_for in ap (λ (n : ℕ). answer n (begun.Open (begun_book s)) begun.Refused) number ∙ (unfold answer in refl)) in let y : b ≡ begun_book s = cc in ap (λ (x : Book). x.source) y ∙ (unfold begun_book in refl)
+      source = let z : Ok b ≡ Ok (begun_book s) = e ∙ (unfold begun_for in ap (λ (n : ℕ). answer n (Ok (begun_book s)) Err) number ∙ (unfold answer in refl)) in let y : b ≡ begun_book s = cc in ap (λ (x : Book). x.source) y ∙ (unfold begun_book in refl)
 
   pub record InRange (s : Source) : Type 0 where
     pub p_fine : edition_ok s.p_edition ≡ true

@@ -28,18 +28,18 @@ use Prim.Native.Nat.{ℕ, ◌≤◌, ◌<◌}
 use native.Mathlib.Omega.{arith}
 use lib.ListN.{length, take, get_or, length-append}
 use lib.Seq.{get_or-take, length-take-le}
+use Rattle.std.specs.Prelude.{Result, Ok, Err}
 use Rattle.list.specs.declared.Pair.{Pair}
 use Rattle.list.specs.declared.Terms.{Terms}
 use Rattle.list.specs.Terms.{list_for}
 use Rattle.book.specs.declared.Book.{Book}
+use Rattle.depot.specs.declared.Receipt.{Receipt}
+use Rattle.depot.specs.declared.Receipt.TheVariants.{Issued, Known}
 use Rattle.depot.specs.declared.Form.{Form}
 use Rattle.depot.specs.declared.Depot.{Depot}
-use Rattle.depot.specs.declared.Outcome.{Outcome}
-use Rattle.depot.specs.declared.Outcome.TheVariants.{Issued, Known, Refused}
 use Rattle.depot.specs.declared.Stored.{Stored}
-use Rattle.depot.specs.declared.Verdict.{Verdict}
 use Rattle.depot.specs.Forms.{form_of}
-use Rattle.depot.specs.Depot.{begun_depot, same_form, key_in, is_known, store_no, verdict, stored, stored_slots}
+use Rattle.depot.specs.Depot.{Verdict, begun_depot, same_form, key_in, is_known, store_no, verdict, stored, stored_slots}
 use Rattle.depot.proofs.KeyLaws.{key_of_same}
 use Rattle.depot.proofs.TakeLaws.{Numbered, is_11, is_15, is_16, is_known_lem, is_new, numbered, sixteen, Judged, new, known, no, judging, known_same, issued_last, refused_leaves, stored_long}
 use Rattle.demands.specs.World.{Editions, pumps_of, chambers_of, book_list, History}
@@ -73,25 +73,25 @@ module _ (w : Editions) where
       abbrev r : Stored
       r = stored d slots f
 
-      abbrev last : Outcome → Handed
+      abbrev last : Result Receipt ℕ → Handed
       last o = record { form = f; outcome = o }
 
-      real_more : (o : Outcome) (e : Form) → Memᴰ e (handed_in (log ++ (last o ∷ []))) → Genuine w e
+      real_more : (o : Result Receipt ℕ) (e : Form) → Memᴰ e (handed_in (log ++ (last o ∷ []))) → Genuine w e
       real_more o e m =
           ⊎_elim
           (λ (a : Memᴰ e (handed_in log)). k.real e a)
           (λ (a : Memᴰ e (f ∷ [])). subst (Genuine w) (sym (mathlib.Core.List.Memᴰ.eq_of_singleton a)) g)
           (mathlib.Core.List.Memᴰ.append_cases (handed_in log) (subst (Memᴰ e) (handed_more log (last o)) m))
 
-      before : (o : Outcome) → NeverFull (log ++ (last o ∷ [])) → NeverFull log
+      before : (o : Result Receipt ℕ) → NeverFull (log ++ (last o ∷ [])) → NeverFull log
       before o c h m = c h (mathlib.Core.List.Memᴰ.append_left (last o ∷ []) m)
 
       -- one that is taken: the form is one more of those taken, and of those handed in
-      counted : (o : Outcome) → if_taken o f ≡ f ∷ [] → NeverFull (log ++ (last o ∷ [])) → taken_of (log ++ (last o ∷ [])) ≡ handed_in (log ++ (last o ∷ []))
+      counted : (o : Result Receipt ℕ) → if_taken o f ≡ f ∷ [] → NeverFull (log ++ (last o ∷ [])) → taken_of (log ++ (last o ∷ [])) ≡ handed_in (log ++ (last o ∷ []))
       counted o t c =
           taken_more log (last o) ∙ ap (λ (l : List Form). taken_of log ++ l) t ∙ ap (λ (l : List Form). l ++ (f ∷ [])) (k.all_taken (before o c)) ∙ sym (handed_more log (last o))
 
-      if_new : r.outcome ≡ Issued → Keeps r.depot (stored_slots d slots f) (log ++ (last Issued ∷ []))
+      if_new : r.outcome ≡ Ok Issued → Keeps r.depot (stored_slots d slots f) (log ++ (last (Ok Issued) ∷ []))
       unfolding if_issued if_taken
       if_new e =
           let z = issued_last d slots f e in
@@ -99,15 +99,15 @@ module _ (w : Editions) where
           record {
             room = omega (arith, z.2, z.3, long);
             least = omega (arith, k.least, long);
-            same = ap (λ (i : ℕ). take i (stored_slots d slots f)) z.3 ∙ z.5 ∙ ap (λ (l : List Form). l ++ (f ∷ [])) k.same ∙ sym (issued_more log (last Issued));
-            order = issued_more log (last Issued)
+            same = ap (λ (i : ℕ). take i (stored_slots d slots f)) z.3 ∙ z.5 ∙ ap (λ (l : List Form). l ++ (f ∷ [])) k.same ∙ sym (issued_more log (last (Ok Issued)));
+            order = issued_more log (last (Ok Issued))
                 ∙ ap (λ (l : List Form). l ++ (f ∷ [])) k.order ∙ sym (firsts_new (taken_of log) f (sym (known_is d slots log f k) ∙ z.0))
-                ∙ sym (ap firsts (taken_more log (last Issued)));
-            real = real_more Issued;
-            all_taken = counted Issued refl;
+                ∙ sym (ap firsts (taken_more log (last (Ok Issued))));
+            real = real_more (Ok Issued);
+            all_taken = counted (Ok Issued) refl;
           }
 
-      if_known : r.outcome ≡ Known → Keeps r.depot (stored_slots d slots f) (log ++ (last Known ∷ []))
+      if_known : r.outcome ≡ Ok Known → Keeps r.depot (stored_slots d slots f) (log ++ (last (Ok Known) ∷ []))
       unfolding if_issued if_taken
       if_known e =
           let z = known_same d slots f e in
@@ -115,11 +115,11 @@ module _ (w : Editions) where
           record {
             room = omega (arith, h, ap length z.4, k.room);
             least = omega (arith, k.least, ap length z.4);
-            same = ap (λ (i : ℕ). take i (stored_slots d slots f)) h ∙ ap (take d.held) z.4 ∙ k.same ∙ sym (issued_more log (last Known) ∙ append_none (issued_of log));
-            order = issued_more log (last Known) ∙ append_none (issued_of log) ∙ k.order
-                ∙ sym (ap firsts (taken_more log (last Known)) ∙ firsts_known (taken_of log) f (sym (known_is d slots log f k) ∙ z.0));
-            real = real_more Known;
-            all_taken = counted Known refl;
+            same = ap (λ (i : ℕ). take i (stored_slots d slots f)) h ∙ ap (take d.held) z.4 ∙ k.same ∙ sym (issued_more log (last (Ok Known)) ∙ append_none (issued_of log));
+            order = issued_more log (last (Ok Known)) ∙ append_none (issued_of log) ∙ k.order
+                ∙ sym (ap firsts (taken_more log (last (Ok Known))) ∙ firsts_known (taken_of log) f (sym (known_is d slots log f k) ∙ z.0));
+            real = real_more (Ok Known);
+            all_taken = counted (Ok Known) refl;
           }
 
       -- a genuine form is refused only for want of a slot
@@ -133,7 +133,7 @@ module _ (w : Editions) where
           go _ (is_known_lem h o u) ne = absurd (ne refl)
           go _ (is_new o u h) ne = absurd (ne refl)
 
-      if_no : (m : ℕ) → m ≡ 16 → r.outcome ≡ Refused m → Keeps r.depot (stored_slots d slots f) (log ++ (last (Refused m) ∷ []))
+      if_no : (m : ℕ) → m ≡ 16 → r.outcome ≡ Err m → Keeps r.depot (stored_slots d slots f) (log ++ (last (Err m) ∷ []))
       unfolding if_issued if_taken
       if_no m full e =
           let z = refused_leaves d slots f m e in
@@ -141,10 +141,10 @@ module _ (w : Editions) where
           record {
             room = omega (arith, h, ap length z.2, k.room);
             least = omega (arith, k.least, ap length z.2);
-            same = ap (λ (i : ℕ). take i (stored_slots d slots f)) h ∙ ap (take d.held) z.2 ∙ k.same ∙ sym (issued_more log (last (Refused m)) ∙ append_none (issued_of log));
-            order = issued_more log (last (Refused m)) ∙ append_none (issued_of log) ∙ k.order ∙ sym (ap firsts (taken_more log (last (Refused m)) ∙ append_none (taken_of log)));
-            real = real_more (Refused m);
-            all_taken = λ c. absurd (c (last (Refused m)) (mathlib.Core.List.Memᴰ.append_right log (mathlib.Core.List.Memᴰ.head refl)) (ap Refused full));
+            same = ap (λ (i : ℕ). take i (stored_slots d slots f)) h ∙ ap (take d.held) z.2 ∙ k.same ∙ sym (issued_more log (last (Err m)) ∙ append_none (issued_of log));
+            order = issued_more log (last (Err m)) ∙ append_none (issued_of log) ∙ k.order ∙ sym (ap firsts (taken_more log (last (Err m)) ∙ append_none (taken_of log)));
+            real = real_more (Err m);
+            all_taken = λ c. absurd (c (last (Err m)) (mathlib.Core.List.Memᴰ.append_right log (mathlib.Core.List.Memᴰ.head refl)) (ap Err full));
           }
 
       keeps_take : Keeps r.depot (stored_slots d slots f) (log ++ (last r.outcome ∷ []))
@@ -153,8 +153,8 @@ module _ (w : Editions) where
           said : (v : Verdict) → verdict d slots f ≡ v → r.outcome ≡ v.stored.outcome
           said v e = unfold stored in ap (λ (x : Verdict). x.stored.outcome) e
 
-          told : (o : Outcome) → r.outcome ≡ o → Keeps r.depot (stored_slots d slots f) (log ++ (last o ∷ [])) → Keeps r.depot (stored_slots d slots f) (log ++ (last r.outcome ∷ []))
-          told o e x = subst (λ (y : Outcome). Keeps r.depot (stored_slots d slots f) (log ++ (last y ∷ []))) (sym e) x
+          told : (o : Result Receipt ℕ) → r.outcome ≡ o → Keeps r.depot (stored_slots d slots f) (log ++ (last o ∷ [])) → Keeps r.depot (stored_slots d slots f) (log ++ (last r.outcome ∷ []))
+          told o e x = subst (λ (y : Result Receipt ℕ). Keeps r.depot (stored_slots d slots f) (log ++ (last y ∷ []))) (sym e) x
 
           go : Judged d slots f → Keeps r.depot (stored_slots d slots f) (log ++ (last r.outcome ∷ []))
           go (new v h o u) = told _ (said _ v) (if_new (said _ v))
@@ -222,7 +222,7 @@ module _ (w : Editions) where
         ⊎_elim
         (λ (x : Memᴰ h log). c h x full)
         (λ (x : Memᴰ h (o ∷ [])).
-        let said : (stored d slots f).outcome ≡ Refused 16 = sym (ap (λ (y : Stored). y.outcome) t.0) ∙ sym (ap (λ (y : Handed). y.outcome) (mathlib.Core.List.Memᴰ.eq_of_singleton x)) ∙ full in
+        let said : (stored d slots f).outcome ≡ Err 16 = sym (ap (λ (y : Stored). y.outcome) t.0) ∙ sym (ap (λ (y : Handed). y.outcome) (mathlib.Core.List.Memᴰ.eq_of_singleton x)) ∙ full in
         let z = (sixteen d slots f).0 (sym (refused_leaves d slots f 16 said).0) in
         let gone : key_in (handed_in log) f ≡ false = ap (λ (l : List Form). key_in l f) (sym (k.all_taken c)) ∙ sym (known_is d slots log f k) ∙ z.2 in
         let long : length (firsts (handed_in log)) ≡ d.held = ap length (sym ((in_order a).3 c)) ∙ length-take-le d.held slots k.room in

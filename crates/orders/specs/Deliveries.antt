@@ -1,17 +1,17 @@
 -- The world of the depot, told by what the shipped calls answer: "Forms may be lost, repeated or reordered on the way, but not altered or invented; the depot is begun empty
 -- and nobody else writes it or hands in an older state of it." Below it stands the world of demand 3, of which the books are.
-use Rattle.std.specs.Prelude.{◌≡◌, false, ℕ, ◌≤◌, ◌<◌, length, take, get_or}
+use Rattle.std.specs.Prelude.{◌≡◌, false, ℕ, ◌≤◌, ◌<◌, length, take, get_or, Result, Ok, Err}
 use mathlib.Core.List.{List, [], ◌∷◌, ◌++◌, Memᴰ}
 use Rattle.list.specs.declared.Pair.{Pair}
 use Rattle.list.specs.declared.Source.{Source}
 use Rattle.list.specs.declared.Terms.{Terms}
 use Rattle.list.specs.Terms.{list_for}
 use Rattle.book.specs.declared.Book.{Book}
+use Rattle.depot.specs.declared.Receipt.{Receipt}
+use Rattle.depot.specs.declared.Receipt.TheVariants.{Issued, Known}
 use Rattle.depot.specs.declared.Form.{Form}
 use Rattle.depot.specs.declared.Made.{Made}
 use Rattle.depot.specs.declared.Depot.{Depot}
-use Rattle.depot.specs.declared.Outcome.{Outcome}
-use Rattle.depot.specs.declared.Outcome.TheVariants.{Issued, Known, Refused}
 use Rattle.depot.specs.declared.Stored.{Stored}
 use Rattle.depot.specs.Forms.{form_of, forms_of}
 use Rattle.depot.specs.Depot.{same_form}
@@ -23,7 +23,7 @@ use Rattle.demands.specs.World.{Editions, pumps_of, chambers_of, book_list, Hist
 -- a form that was handed in, and what the depot said of it
 pub record Handed : Type 0 where
   pub form : Form
-  pub outcome : Outcome
+  pub outcome : Result Receipt ℕ
 
 -- the forms that were handed in, in this order, repeats and refused ones too [I10]
 unfoldable pub handed_in : List Handed → List Form
@@ -31,15 +31,15 @@ handed_in [] = []
 handed_in (h ∷ l) = h.form ∷ handed_in l
 
 -- of one that was handed in, the form where it was answered `issued`; where it was taken, that is answered `issued` or `known`
-unfoldable pub if_issued : Outcome → Form → List Form
-if_issued Issued f = f ∷ []
-if_issued Known f = []
-if_issued (Refused n) f = []
+unfoldable pub if_issued : Result Receipt ℕ → Form → List Form
+if_issued (Ok Issued) f = f ∷ []
+if_issued (Ok Known) f = []
+if_issued (Err n) f = []
 
-unfoldable pub if_taken : Outcome → Form → List Form
-if_taken Issued f = f ∷ []
-if_taken Known f = f ∷ []
-if_taken (Refused n) f = []
+unfoldable pub if_taken : Result Receipt ℕ → Form → List Form
+if_taken (Ok Issued) f = f ∷ []
+if_taken (Ok Known) f = f ∷ []
+if_taken (Err n) f = []
 
 -- those that were answered `issued`, in this order [I10]
 unfoldable pub issued_of : List Handed → List Form
@@ -53,7 +53,7 @@ taken_of (h ∷ l) = if_taken h.outcome h.form ++ taken_of l
 
 -- no form was refused by 16, for want of a slot [I10]
 abbrev pub NeverFull : List Handed → Type 0
-NeverFull log = (h : Handed) → Memᴰ h log → h.outcome ≡ Refused 16 → ⊥
+NeverFull log = (h : Handed) → Memᴰ h log → h.outcome ≡ Err 16 → ⊥
 
 -- each form of a book was handed in at least once, whatever the depot said of it [I11]
 abbrev pub EachCame : Book → List Pair → List Handed → Type 0

@@ -3,14 +3,15 @@
 use mathlib.Core.Path.{◌≡◌, refl, sym, ap, subst, ◌∙◌}
 use mathlib.Core.Bool.{true, false, ◌&&◌}
 use mathlib.Core.Logic.{⊎_elim}
-use mathlib.Core.List.{List, []}
+use mathlib.Core.List.{List, [], ◌∷◌, ◌++◌}
 use Prim.Native.Nat.{ℕ, zero, suc, ◌+◌, ◌*◌, ◌-◌, ◌/◌, ◌%◌, ◌<◌, ◌≤◌}
 use native.Mathlib.Omega.{arith}
 use lib.Dec.{ltb, eqb}
 use lib.IntN.{ℤ, pos}
-use lib.ListN.{length, set, length-set}
-use lib.Seq.{get_or-set_same, get_or-set_other, ext_get_or}
+use lib.ListN.{length, take, set, length-set}
+use lib.Seq.{get_or-set_same, get_or-set_other, ext_get_or, length-take-le}
 use borrow.Author.Tests.{lt-ltb, le-ltb, ltb-true, ltb-false, ne_eqb, eqb-true, eqb-false}
+use Rattle.std.proofs.lemmas.List.{get_or_append_left, get_or-take, get_or-append_right}
 use Rattle.integers.proofs.Bools.{and_both, decide}
 use Rattle.words.specs.Word.{at, num, eq_z, is_below}
 use Rattle.words.specs.All.{tab}
@@ -26,7 +27,7 @@ use Rattle.sheet.proofs.BoxLaws.{best_cong}
 use Rattle.pack.specs.Tree.{nodes_for, plan_of, plan_count}
 use Rattle.pack.specs.Order.{place_in, order_list_ok}
 use Rattle.pack.specs.Packed.{flat_word, coord_in, box_side, node_word, body_word, trailer_word, pack_word, sheet_size, packed}
-use Rattle.pack.specs.Work.{Holds, node_read, head_word, sides_put}
+use Rattle.pack.specs.Work.{Holds, node_read, head_words, sides_put}
 use Rattle.pack.proofs.OrderLaws.{place_hit, pack_place_is, list_word, list_below, list_back, list_place}
 use Rattle.pack.proofs.TableLaws.{Planned, num_of, plan_few, node_stood, count_range, plan_child, plan_leaf}
 
@@ -118,6 +119,22 @@ holds_more w f i v l e h =
 pub holds_fewer : (w : List ℤ) (f : ℕ → ℤ) (i j : ℕ) → j ≤ i → Holds w f i → Holds w f j
 holds_fewer w f i j g h = record { word = λ k l. h.word k (omega arith) }
 
+-- right words written in a row, behind what is right
+pub holds_part : (w rest ys zs : List ℤ) (f : ℕ → ℤ) (a : ℕ) → ys ≡ zs → a ≤ length w → Holds w f a → ((i : ℕ) → i < length zs → at zs i ≡ f (a + i))
+    → Holds (take a w ++ (ys ++ rest)) f (a + length zs)
+holds_part w rest ys zs f a e l h g = rw e (record { word = λ i b. ⊎_elim (λ (t : ltb i a ≡ true). before i (ltb-true i a t)) (λ (t : ltb i a ≡ false). here i (ltb-false i a t) b) (decide (ltb i a)) })
+  where
+    front : length (take a w) ≡ a
+    front = length-take-le a w l
+
+    before : (i : ℕ) → i < a → at (take a w ++ (zs ++ rest)) i ≡ f i
+    before i b = get_or_append_left (take a w) (zs ++ rest) (pos 0) i (omega (arith, front)) ∙ get_or-take a w i (pos 0) b ∙ h.word i b
+
+    here : (i : ℕ) → a ≤ i → i < a + length zs → at (take a w ++ (zs ++ rest)) i ≡ f i
+    here i c b =
+        let z : a + (i - a) ≡ i = omega arith in
+        get_or-append_right (take a w) (zs ++ rest) a i (pos 0) front c ∙ get_or_append_left zs rest (pos 0) (i - a) (omega arith) ∙ g (i - a) (omega arith) ∙ ap f z
+
 -- a list written to its end
 pub holds_all : (w : List ℤ) (f : ℕ → ℤ) (n : ℕ) → length w ≡ n → Holds w f n → w ≡ tab n f
 holds_all w f n l h =
@@ -166,17 +183,44 @@ module _ (p o : List ℤ) (n : ℕ) where
   pub trail_start : (form ed : ℕ) (w : List ℤ) → Holds w (body_word p o n) (5 * n + 7 * nodes_for n) → Holds w (pack_word form p o n ed) (5 * n + 7 * nodes_for n + 0)
   trail_start form ed w h = record { word = λ k g. let b : k < 5 * n + 7 * nodes_for n = omega arith in h.word k b ∙ sym (pack_body p o n form ed k b) }
 
-  pub trail_more : (form m ed : ℕ) (w : List ℤ) (t : ℕ) (v : ℤ) → m ≡ nodes_for n → t < 6 → length w ≡ sheet_size n → v ≡ trailer_word form n m ed t → Holds w (pack_word form p o n ed) (5 * n + 7 * nodes_for n + t) → Holds (set w (5 * n + 7 * m + t) v) (pack_word form p o n ed) (5 * n + 7 * nodes_for n + (t + 1))
-  trail_more form m ed w t v e g l x h =
-      let i : 5 * n + 7 * m + t ≡ 5 * n + 7 * nodes_for n + t = omega arith in
-      holds_fewer _ _ (5 * n + 7 * m + t + 1) _ (omega arith)
-      (holds_more w (pack_word form p o n ed) (5 * n + 7 * m + t) v (omega (arith, sheet_size_lem n))
-      (x ∙ ap (λ (y : ℕ). trailer_word form n y ed t) e ∙ sym (pack_trail p o n form ed (5 * n + 7 * m + t) t i))
-      (holds_fewer _ _ _ _ (omega arith) h))
+  pub trail_put : (form m ed : ℕ) (w rest ys : List ℤ) → m ≡ nodes_for n → length w ≡ sheet_size n → length (take (5 * n + 7 * m) w ++ (ys ++ rest)) ≡ length w
+      → ys ≡ pos (5 * n + 7 * m) ∷ pos (root_word m) ∷ pos n ∷ pos m ∷ pos ed ∷ pos form ∷ [] → Holds w (body_word p o n) (5 * n + 7 * nodes_for n)
+      → take (5 * n + 7 * m) w ++ (ys ++ rest) ≡ packed form p o n ed
+  unfolding packed trailer_word
+  trail_put form m ed w rest ys e l same d h =
+      holds_all _ (pack_word form p o n ed) (sheet_size n) (same ∙ l)
+      (holds_fewer _ _ (5 * n + 7 * m + 6) _ (omega (arith, sheet_size_lem n))
+      (holds_part w rest ys _ (pack_word form p o n ed) (5 * n + 7 * m) d (omega (arith, sheet_size_lem n)) (holds_fewer _ _ _ _ (omega arith) (trail_start form ed w h)) word))
+    where
+      word : (t : ℕ) → t < 6 → at (pos (5 * n + 7 * m) ∷ pos (root_word m) ∷ pos n ∷ pos m ∷ pos ed ∷ pos form ∷ []) t ≡ pack_word form p o n ed (5 * n + 7 * m + t)
+      word t b =
+          told t b ∙ ap (λ (y : ℕ). trailer_word form n y ed t) e
+          ∙ sym (pack_trail p o n form ed (5 * n + 7 * m + t) t (omega arith))
+        where
+          told : (t : ℕ) → t < 6 → at (pos (5 * n + 7 * m) ∷ pos (root_word m) ∷ pos n ∷ pos m ∷ pos ed ∷ pos form ∷ []) t ≡ trailer_word form n m ed t
+          told zero b = refl
+          told (suc zero) b = refl
+          told (suc (suc zero)) b = refl
+          told (suc (suc (suc zero))) b = refl
+          told (suc (suc (suc (suc zero)))) b = refl
+          told (suc (suc (suc (suc (suc zero))))) b = refl
+          told (suc (suc (suc (suc (suc (suc t)))))) b = absurd (omega arith)
 
-  pub trail_done : (form ed : ℕ) (w : List ℤ) (t : ℕ) → 6 ≤ t → length w ≡ sheet_size n → Holds w (pack_word form p o n ed) (5 * n + 7 * nodes_for n + t) → w ≡ packed form p o n ed
-  unfolding packed
-  trail_done form ed w t g l h = holds_all w (pack_word form p o n ed) (sheet_size n) l (holds_fewer _ _ _ _ (omega (arith, sheet_size_lem n)) h)
+-- ---- points and order, each copied in one piece
+
+pub points_put : (p o w rest ys : List ℤ) (n : ℕ) → ys ≡ take (3 * n) p → 3 * n ≤ length p → Holds (ys ++ rest) (body_word p o n) (3 * n)
+points_put p o w rest ys n e l =
+    let long = length-take-le (3 * n) p l in
+    holds_fewer _ _ (0 + length (take (3 * n) p)) _ (omega (arith, long))
+    (holds_part w rest ys _ (body_word p o n) 0 e (omega arith) (holds_none w _)
+    (λ i b. let c : i < 3 * n = omega (arith, long) in let z : 0 + i ≡ i = omega arith in get_or-take (3 * n) p i (pos 0) c ∙ sym (ap (body_word p o n) z ∙ point_word p o n i c)))
+
+pub order_put : (p o w rest ys : List ℤ) (n : ℕ) → ys ≡ take n o → n ≤ length o → 3 * n ≤ length w → Holds w (body_word p o n) (3 * n) → Holds (take (3 * n) w ++ (ys ++ rest)) (body_word p o n) (4 * n)
+order_put p o w rest ys n e l m h =
+    let long = length-take-le n o l in
+    holds_fewer _ _ (3 * n + length (take n o)) _ (omega (arith, long))
+    (holds_part w rest ys _ (body_word p o n) (3 * n) e m h
+    (λ i b. let c : i < n = omega (arith, long) in get_or-take n o i (pos 0) c ∙ sym (order_word_lem p o n i c)))
 
 -- ---- the ranks, put where each position stands in the order list
 
@@ -298,12 +342,10 @@ module _ (p o w : List ℤ) (n j : ℕ) (ok : order_list_ok o n ≡ true) (h : H
         head (suc (suc zero)) l = refl
         head (suc (suc (suc f))) l = absurd (omega arith)
 
--- one word of node j more
-pub node_more : (p o w : List ℤ) (n j : ℕ) → order_list_ok o n ≡ true → (d : Due) → d ≡ plan_of n j → n ≤ 60000 → j < nodes_for n → (f : ℕ) (v : ℤ) → f < 7 → 5 * n + 7 * j + f < length w → v ≡ node_read w n d f → Holds w (body_word p o n) (5 * n + 7 * j + f) → Holds (set w (5 * n + 7 * j + f) v) (body_word p o n) (5 * n + 7 * j + (f + 1))
-node_more p o w n j ok d s le b f v g l e h =
-    holds_fewer _ _ (5 * n + 7 * j + f + 1) _ (omega arith)
-    (holds_more w (body_word p o n) (5 * n + 7 * j + f) v l
-    (e ∙ ap (λ (x : Due). node_read w n x f) s ∙ read_is p o w n j ok (holds_fewer w (body_word p o n) _ (5 * n + 7 * j) (omega arith) h) (omega arith) b f g) h)
+-- the words of node j, as they are made where all before it is written
+read_at : (p o w : List ℤ) (n j : ℕ) → order_list_ok o n ≡ true → (d : Due) → d ≡ plan_of n j → n ≤ 60000 → j < nodes_for n → Holds w (body_word p o n) (5 * n + 7 * j)
+    → (f : ℕ) → f < 7 → node_read w n d f ≡ body_word p o n (5 * n + 7 * j + f)
+read_at p o w n j ok d s le b h f g = ap (λ (x : Due). node_read w n x f) s ∙ read_is p o w n j ok h (omega arith) b f g
 
 -- what a planned leaf covers are places, and what any other node covers stands before it
 pub leaf_reach : (n j : ℕ) (d : Due) → n ≤ 60000 → j < nodes_for n → d ≡ plan_of n j → d.level ≡ 0 → d.next + (plan_count d - 1) < n
@@ -322,12 +364,16 @@ child_reach n j d g h e =
         (plan_child (packed 1 [] [] n 0) n (packed_plan 1 [] [] n 0) (omega arith) j l h q ((plan_of n j).next + (plan_count (plan_of n j) - 1)) (omega arith) (omega arith)).1
 
 -- its first words are told by the plan
-pub head_is : (w : List ℤ) (n : ℕ) (d : Due) (f : ℕ) → f < 3 → head_word d f ≡ node_read w n d f
-unfolding head_word node_read
-head_is w n d zero l = refl
-head_is w n d (suc zero) l = refl
-head_is w n d (suc (suc zero)) l = refl
-head_is w n d (suc (suc (suc f))) l = absurd (omega arith)
+pub head_put : (p o w rest ys : List ℤ) (n j : ℕ) → order_list_ok o n ≡ true → (d : Due) → d ≡ plan_of n j → n ≤ 60000 → j < nodes_for n → 5 * n + 7 * j ≤ length w → ys ≡ head_words d
+    → Holds w (body_word p o n) (5 * n + 7 * j) → Holds (take (5 * n + 7 * j) w ++ (ys ++ rest)) (body_word p o n) (5 * n + 7 * j + 3)
+unfolding node_read
+head_put p o w rest ys n j ok d s le b l e h = holds_part w rest ys _ (body_word p o n) (5 * n + 7 * j) e l h told
+  where
+    told : (i : ℕ) → i < 3 → at (head_words d) i ≡ body_word p o n (5 * n + 7 * j + i)
+    told zero g = read_at p o w n j ok d s le b h 0 (omega arith)
+    told (suc zero) g = read_at p o w n j ok d s le b h 1 (omega arith)
+    told (suc (suc zero)) g = read_at p o w n j ok d s le b h 2 (omega arith)
+    told (suc (suc (suc i))) g = absurd (omega arith)
 
 -- so what it covers can be read, once the order is written
 pub parts_reach : (w : List ℤ) (n j : ℕ) (d : Due) (c : ℕ) → n ≤ 60000 → j < nodes_for n → d ≡ plan_of n j → c ≡ plan_count d → order_ok w n ≡ true → 5 * n + 7 * nodes_for n ≤ length w → Readable w n (eqb d.level 0) (d.next + (c - 1))
@@ -339,23 +385,23 @@ parts_reach w n j d c g h e f o l =
 
 -- the box of node j more
 module _ (p o w : List ℤ) (n j : ℕ) (ok : order_list_ok o n ≡ true) (d : Due) (s : d ≡ plan_of n j) (le : n ≤ 60000) (b : j < nodes_for n) (l : 5 * n + 7 * (j + 1) ≤ length w) (h : Holds w (body_word p o n) (5 * n + 7 * j + 3)) where
-  side_is : (f : ℕ) → f < 7 → node_read w n d f ≡ body_word p o n (5 * n + 7 * j + f)
-  side_is f g =
-      ap (λ (x : Due). node_read w n x f) s ∙ read_is p o w n j ok (holds_fewer w (body_word p o n) _ (5 * n + 7 * j) (omega arith) h) (omega arith) b f g
-
   pub box_more : (x : Sides) (c : ℕ) → c ≡ plan_count d - 1 → x ≡ best_sides w n (eqb d.level 0) d.next c → Holds (sides_put w (5 * n + 7 * j + 3) x) (body_word p o n) (5 * n + 7 * (j + 1))
   unfolding sides_put node_read best_sides
   box_more x c e f =
-      let k = 5 * n + 7 * j + 3 in
-      let best-is = f ∙ ap (best_sides w n (eqb d.level 0) d.next) e in
-      let w₀ = set w k x.xmin in
-      let w₁ = set w₀ (k + 1) x.ymin in
-      let w₂ = set w₁ (k + 2) x.xmax in
-      let l₀ : length w₀ ≡ length w = simp length-set in
-      let l₁ : length w₁ ≡ length w = simp length-set in
-      let l₂ : length w₂ ≡ length w = simp length-set in
-      let h₀ = holds_more w (body_word p o n) k x.xmin (omega arith) (ap (λ (y : Sides). y.xmin) best-is ∙ side_is 3 (omega arith)) h in
-      let h₁ = holds_more w₀ (body_word p o n) (k + 1) x.ymin (omega arith) (ap (λ (y : Sides). y.ymin) best-is ∙ side_is 4 (omega arith) ∙ ap (body_word p o n) (omega arith)) h₀ in
-      let h₂ = holds_more w₁ (body_word p o n) (k + 2) x.xmax (omega arith) (ap (λ (y : Sides). y.xmax) best-is ∙ side_is 5 (omega arith) ∙ ap (body_word p o n) (omega arith)) (holds_fewer w₁ (body_word p o n) (k + 1 + 1) (k + 2) (omega arith) h₁) in
-      let h₃ = holds_more w₂ (body_word p o n) (k + 3) x.ymax (omega arith) (ap (λ (y : Sides). y.ymax) best-is ∙ side_is 6 (omega arith) ∙ ap (body_word p o n) (omega arith)) (holds_fewer w₂ (body_word p o n) (k + 2 + 1) (k + 3) (omega arith) h₂) in
-      holds_fewer _ (body_word p o n) (k + 3 + 1) (5 * n + 7 * (j + 1)) (omega arith) h₃
+      holds_fewer _ (body_word p o n) (5 * n + 7 * j + 3 + 4) _ (omega arith)
+      (holds_part w _ _ (x.xmin ∷ x.ymin ∷ x.xmax ∷ x.ymax ∷ []) (body_word p o n) (5 * n + 7 * j + 3) refl (omega arith) h told)
+    where
+      best-is : x ≡ best_sides w n (eqb d.level 0) d.next (plan_count d - 1)
+      best-is = f ∙ ap (best_sides w n (eqb d.level 0) d.next) e
+
+      side_is : (q : ℕ) → q < 4 → node_read w n d (3 + q) ≡ body_word p o n (5 * n + 7 * j + 3 + q)
+      side_is q g =
+          let z : 5 * n + 7 * j + (3 + q) ≡ 5 * n + 7 * j + 3 + q = omega arith in
+          read_at p o w n j ok d s le b (holds_fewer w (body_word p o n) _ (5 * n + 7 * j) (omega arith) h) (3 + q) (omega arith) ∙ ap (body_word p o n) z
+
+      told : (i : ℕ) → i < 4 → at (x.xmin ∷ x.ymin ∷ x.xmax ∷ x.ymax ∷ []) i ≡ body_word p o n (5 * n + 7 * j + 3 + i)
+      told zero g = ap (λ (y : Sides). y.xmin) best-is ∙ side_is 0 (omega arith)
+      told (suc zero) g = ap (λ (y : Sides). y.ymin) best-is ∙ side_is 1 (omega arith)
+      told (suc (suc zero)) g = ap (λ (y : Sides). y.xmax) best-is ∙ side_is 2 (omega arith)
+      told (suc (suc (suc zero))) g = ap (λ (y : Sides). y.ymax) best-is ∙ side_is 3 (omega arith)
+      told (suc (suc (suc (suc i)))) g = absurd (omega arith)

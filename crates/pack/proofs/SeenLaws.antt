@@ -7,15 +7,26 @@ use mathlib.Core.List.{List}
 use Prim.Native.Nat.{ℕ, ◌+◌, ◌<◌, ◌≤◌}
 use native.Mathlib.Omega.{arith}
 use lib.Dec.{ltb}
-use lib.IntN.{ℤ}
-use lib.ListN.{length, get_or, set, length-set}
-use lib.Seq.{get_or-set_same, get_or-set_other}
+use lib.IntN.{ℤ, pos}
+use lib.ListN.{length, take, get_or, set, length-set}
+use lib.Seq.{get_or-set_same, get_or-set_other, length-take-le}
+use Rattle.std.proofs.lemmas.List.{get_or-take}
 use Rattle.words.specs.Word.{at, num, is_below}
 use Rattle.words.proofs.Signs.{below_num}
 use Rattle.words.proofs.AllLaws.{below_suc}
 use Rattle.sheet.proofs.Permute.{same?}
 use Rattle.pack.specs.Order.{place_in, order_list_ok}
 use Rattle.pack.proofs.OrderLaws.{place_new, stands_none, stands_here, stands_else, list_make, list_twice}
+
+-- the places of the first n words
+pub in_front : (o : List ℤ) (n k : ℕ) → n ≤ length o → k < length (take n o) → k < n
+in_front o n k l h = omega (arith, length-take-le n o l)
+
+pub past_front : (o : List ℤ) (n k : ℕ) → n ≤ length o → length (take n o) ≤ k → n ≤ k
+past_front o n k l h = omega (arith, length-take-le n o l)
+
+pub front_word : (o : List ℤ) (n k : ℕ) → k < n → at (take n o) k ≡ at o k
+front_word o n k h = get_or-take n o k (pos 0) h
 
 -- after k places of n: each is in range and the first of its position, and what is marked stands among them
 pub record Seen (o : List ℤ) (n size : ℕ) (seen : List Bool) (k : ℕ) : Type 0 where

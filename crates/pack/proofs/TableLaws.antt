@@ -4,7 +4,7 @@ use mathlib.Core.Path.{◌≡◌, refl, sym, ap, subst, ◌∙◌}
 use mathlib.Core.Bool.{Bool, true, false, not, ◌||◌, beq}
 use mathlib.Core.Logic.{⊎_elim}
 use mathlib.Core.List.{List}
-use Prim.Native.Nat.{ℕ, zero, suc, ◌+◌, ◌*◌, ◌-◌, ◌<◌, ◌≤◌}
+use Prim.Native.Nat.{ℕ, zero, suc, ◌+◌, ◌*◌, ◌-◌, ◌<◌, ◌≤◌, min}
 use native.Mathlib.Nat.{eq-or-lt_of_le}
 use native.Mathlib.Numerals.{add-one}
 use native.Mathlib.Omega.{arith}
@@ -57,6 +57,13 @@ count_range d h =
     (λ (e : ltb (d.next + 16) d.top ≡ false).
     let g = ltb-false (d.next + 16) d.top e in
     let q = count_rest d g in (omega arith, omega arith))
+    (decide (ltb (d.next + 16) d.top))
+
+pub count_min : (d : Due) → min (d.top - d.next) 16 ≡ plan_count d
+count_min d =
+    ⊎_elim
+    (λ (e : ltb (d.next + 16) d.top ≡ true). let g = ltb-true (d.next + 16) d.top e in omega (arith, count_whole d g))
+    (λ (e : ltb (d.next + 16) d.top ≡ false). let g = ltb-false (d.next + 16) d.top e in omega (arith, count_rest d g))
     (decide (ltb (d.next + 16) d.top))
 
 -- at most 7 levels above the first, up to 16 to the eighth points

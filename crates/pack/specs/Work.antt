@@ -1,6 +1,6 @@
 -- What the functions that write a sheet say of their work: how far they have come, and how the next node and its words are made from what is there.
 -- No promise of `pack` cites these.
-use Rattle.std.specs.Prelude.{◌≡◌, true, cond, List, ℕ, ◌+◌, ◌-◌, ◌<◌, eqb, ltb, ℤ, pos, set}
+use Rattle.std.specs.Prelude.{◌≡◌, true, cond, List, [], ◌∷◌, ◌++◌, take, drop, ℕ, ◌+◌, ◌-◌, ◌<◌, eqb, ltb, ℤ, pos}
 use Rattle.words.specs.Word.{at}
 use Rattle.sheet.specs.declared.Due.{Due}
 use Rattle.sheet.specs.declared.Sides.{Sides}
@@ -36,9 +36,9 @@ node_read w n d f =
     (cond (eqb f 2) (pos (plan_count d)) (best (f - 3) (part_of w n (eqb d.level 0) (f - 3)) d.next (plan_count d - 1))))
 
 -- its first three words, which no word written before it tells
-unfoldable pub head_word : Due → ℕ → ℤ
-head_word d f = cond (eqb f 0) (pos d.level) (cond (eqb f 1) (pos d.next) (pos (plan_count d)))
+abbrev pub head_words : Due → List ℤ
+head_words d = pos d.level ∷ pos d.next ∷ pos (plan_count d) ∷ []
 
 -- w with four sides written from k on
 unfoldable pub sides_put : List ℤ → ℕ → Sides → List ℤ
-sides_put w k o = set (set (set (set w k o.xmin) (k + 1) o.ymin) (k + 2) o.xmax) (k + 3) o.ymax
+sides_put w k o = take k w ++ ((o.xmin ∷ o.ymin ∷ o.xmax ∷ o.ymax ∷ []) ++ drop (k + 4) w)

@@ -7,7 +7,7 @@ mod write;
 
 ghost use Rattle.std.specs.Prelude.{◌≡◌, true, false, ℕ, ◌≤◌, ◌<◌, length, get_or};
 ghost use Rattle.words.specs.First.{answer};
-ghost use Rattle.sheet.specs.Limits.{Fair, form1, form2};
+ghost use Rattle.sheet.specs.Limits.{Fair};
 ghost use Rattle.pack.specs.Packed.{packed};
 ghost use Rattle.pack.specs.Pack.{shape_ok, range_ok, within_no, pack_no, pack_out, length_for};
 
@@ -56,46 +56,25 @@ fn within_no(
     0
 }
 
-// Packs a sheet under these limits, of points and an order list that are as long as n says.
-fn pack_by(
+// Packs a sheet under these limits, of points and an order list that are as long as n says, with marks for N positions.
+fn pack_by<const N: usize>(
     lim: Limits,
     n: usize,
     p: &[i32],
     o: &[i32],
     edition: u32,
     out: &mut [i32],
-    seen: &mut [bool],
 ) -> u32
-    requires { Fair lim × (lim.form < 2147483648) × (shape_ok n p.now o.now ≡ true) × (lim.points ≤ length seen.old) × ((i : ℕ) → i < lim.points → get_or seen.old i false ≡ false) }
+    requires { Fair lim × (lim.form < 2147483648) × (lim.points ≤ N) × (N ≤ 60000) × (shape_ok n p.now o.now ≡ true) }
     ensures value { result ≡ within_no lim n p.now o.now edition (length out.old) }
     ensures out_after { out.new ≡ answer (within_no lim n p.now o.now edition (length out.old)) (packed lim.form p.now o.now n edition) (λ k. out.old) }
 {
-    let form = lim.form;
-    let k = within_no(lim, n, p, o, edition, out.len(), seen);
+    let mut seen = [false; N];
+    let k = within_no(lim, n, p, o, edition, out.len(), &mut seen);
     if k == 0 {
-        write::put_sheet(form, n, p, o, edition, out);
+        write::put_sheet(lim.form, n, p, o, edition, out);
     }
     k
-}
-
-// The same under the limits of form 1, with marks for so many positions.
-fn pack_first(n: usize, p: &[i32], o: &[i32], edition: u32, out: &mut [i32]) -> u32
-    requires { shape_ok n p.now o.now ≡ true }
-    ensures value { result ≡ within_no form1 n p.now o.now edition (length out.old) }
-    ensures out_after { out.new ≡ answer (within_no form1 n p.now o.now edition (length out.old)) (packed 1 p.now o.now n edition) (λ k. out.old) }
-{
-    let mut seen = [false; 1000];
-    pack_by(sheet::form1(), n, p, o, edition, out, &mut seen)
-}
-
-// And of form 2.
-fn pack_second(n: usize, p: &[i32], o: &[i32], edition: u32, out: &mut [i32]) -> u32
-    requires { shape_ok n p.now o.now ≡ true }
-    ensures value { result ≡ within_no form2 n p.now o.now edition (length out.old) }
-    ensures out_after { out.new ≡ answer (within_no form2 n p.now o.now edition (length out.old)) (packed 2 p.now o.now n edition) (λ k. out.old) }
-{
-    let mut seen = [false; 60000];
-    pack_by(sheet::form2(), n, p, o, edition, out, &mut seen)
 }
 
 // Packs the sheet of this form of n points, the words of which are id, x, y, in the order of the places that the order list gives. The answer is 0, and the
@@ -114,13 +93,11 @@ pub fn pack(
     if !shape_ok(n, points, order) {
         return 18;
     }
-    if form == 1 {
-        return pack_first(n, points, order, edition, out);
+    match form {
+        1 => pack_by::<1000>(sheet::form1(), n, points, order, edition, out),
+        2 => pack_by::<60000>(sheet::form2(), n, points, order, edition, out),
+        _ => 2,
     }
-    if form == 2 {
-        return pack_second(n, points, order, edition, out);
-    }
-    2
 }
 
 // How many words a caller lends to `pack` for a sheet of n points; 0 where n is over 60,000, which no form has.

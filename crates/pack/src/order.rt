@@ -9,9 +9,7 @@ pub(crate) fn each_once(o: &[i32], n: usize, seen: &mut [bool]) -> bool
     requires { (n ≤ length o.now) × (n ≤ length seen.old) × ((i : ℕ) → i < n → get_or seen.old i false ≡ false) }
     ensures { result ≡ order_list_ok o.now n }
 {
-    let mut k = 0;
-    while k < n {
-        let w = o[k];
+    for &w in &o[..n] {
         if !words::below(w, n) {
             return false;
         }
@@ -20,7 +18,6 @@ pub(crate) fn each_once(o: &[i32], n: usize, seen: &mut [bool]) -> bool
             return false;
         }
         seen[i] = true;
-        k += 1;
     }
     true
 }

@@ -11,7 +11,7 @@ fn up16(k: usize) -> usize
     requires { k ≤ 60000 }
     ensures { result ≡ Rattle.pack.specs.Tree.up16 k }
 {
-    (k + 15) / 16
+    k.div_ceil(16)
 }
 
 // How many nodes a tree over n points has: those of each level, until one node is left.
@@ -21,6 +21,7 @@ pub(crate) fn nodes_for(n: usize) -> usize
 {
     let mut k = up16(n);
     let mut m = k;
+    // Kept: each step goes up a level, from k to k / 16: the loop counts no index.
     while 1 < k {
         k = up16(k);
         m += k;
@@ -43,10 +44,8 @@ pub(crate) fn follow(d: Due, j: usize) -> Due
 {
     if d.next + 16 < d.top {
         return Due {
-            level: d.level,
-            head: d.head,
             next: d.next + 16,
-            top: d.top,
+            ..d
         };
     }
     Due {
@@ -62,8 +61,5 @@ pub(crate) fn plan_count(d: Due) -> usize
     requires { (d.next < d.top) × (d.next ≤ 60000) }
     ensures { result ≡ plan_count d }
 {
-    if d.next + 16 < d.top {
-        return 16;
-    }
-    d.top - d.next
+    (d.top - d.next).min(16)
 }

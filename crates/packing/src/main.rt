@@ -5,9 +5,7 @@
 // With the packer's marks that is 3.3 MB of stack, of the 8 that Linux gives a program.
 #![tactic(auto)]
 
-ghost use Rattle.std.specs.Prelude.{◌≡◌, ◌+◌, ◌*◌, ◌≤◌, ◌<◌, length};
-
-use input::Got;
+ghost use Rattle.std.specs.Prelude.{◌≡◌, ◌*◌, ◌≤◌, length};
 
 // The form, n, the edition, and four words for each of 60,000 points.
 const MOST: usize = 240003;
@@ -18,73 +16,31 @@ const LONGEST: usize = 328013;
 // How many words are written at a time.
 const PIECE: usize = 1024;
 
-// Room for the bytes that are read, and one more.
-fn room() -> [u8; 960013]
-    ensures { length result ≡ 960013 }
-{
-    [0; 960013]
-}
+// The bytes that are read, and one more.
+const ROOM: usize = 960013;
 
-// Room for their words.
-fn space() -> [i32; MOST]
-    ensures { length result ≡ 240003 }
+// An array that holds the same everywhere.
+fn filled<T: Copy, const N: usize>(v: T) -> [T; N]
+    ensures { length result ≡ N }
 {
-    [0; MOST]
-}
-
-// Room for the sheet.
-fn blank() -> [i32; LONGEST]
-    ensures { length result ≡ 328013 }
-{
-    [0; LONGEST]
+    [v; N]
 }
 
 // A word as a count: the largest of all for a negative one.
 fn count_of(w: i32) -> usize {
-    if w < 0 {
-        return 18446744073709551615;
-    }
-    words::num(w)
+    usize::try_from(w).unwrap_or(usize::MAX)
 }
 
 // A word as a form or an edition: the largest of 32 bits for a negative one.
 fn number_of(w: i32) -> u32 {
-    if w < 0 {
-        return 4294967295;
-    }
-    words::num(w) as u32
+    u32::try_from(w).unwrap_or(u32::MAX)
 }
 
-// Nodes that cover n others.
-fn above(n: usize) -> usize
-    requires { n ≤ 60000 }
-    ensures { result ≤ 3750 }
-{
-    (n + 15) / 16
-}
-
-// How many words a sheet of n points has: 16 to a node, level by level, until one node is left. There is none of more than 60,000 points.
+// How many words a sheet of n points has. There is none of more than 60,000 points.
 fn sheet_len(n: usize) -> usize
     ensures { result ≤ 328013 }
 {
-    if n > 60000 {
-        return 0;
-    }
-    let mut len = 5 * n + 6;
-    let a = above(n);
-    len += 7 * a;
-    if a > 1 {
-        let b = above(a);
-        len += 7 * b;
-        if b > 1 {
-            let c = above(b);
-            len += 7 * c;
-            if c > 1 {
-                len += 7;
-            }
-        }
-    }
-    if len < LONGEST { len } else { LONGEST }
+    pack::sheet_len(n).min(LONGEST)
 }
 
 // Where the point words end: 3n words on, or where the words end.
@@ -92,11 +48,7 @@ fn points_end(n: usize, len: usize) -> usize
     requires { 3 ≤ len }
     ensures { (3 ≤ result) × (result ≤ len) }
 {
-    if n > 80000 {
-        return len;
-    }
-    let end = 3 * n + 3;
-    if end < len { end } else { len }
+    n.saturating_mul(3).saturating_add(3).min(len)
 }
 
 // Packs what the words ask for into the first `len` words of `out`, and answers the packer's number.
@@ -125,26 +77,10 @@ fn write_piece(rt: &impl Print, s: &[i32])
     let _ = rt.write_all(&bytes[..size]);
 }
 
-// Where the piece that starts at word `at` ends.
-fn piece_end(at: usize, len: usize) -> usize
-    requires { (at < len) × (len ≤ 328013) }
-    ensures { (at < result) × (result ≤ len) × (result ≤ at + 1024) }
-{
-    if len - at < PIECE {
-        return len;
-    }
-    at + PIECE
-}
-
-// Writes the first `len` words, piece by piece.
-fn write_words(rt: &impl Print, s: &[i32], len: usize)
-    requires { (len ≤ length s.now) × (len ≤ 328013) }
-{
-    let mut at = 0;
-    while at < len {
-        let end = piece_end(at, len);
-        write_piece(rt, &s[at..end]);
-        at = end;
+// Writes the words, piece by piece.
+fn write_words(rt: &impl Print, s: &[i32]) {
+    for piece in s.chunks(PIECE) {
+        write_piece(rt, piece);
     }
 }
 
@@ -162,38 +98,32 @@ fn pack_words(rt: &impl Print, s: &[i32])
 {
     let n = count_of(words::at(s, 1));
     let len = sheet_len(n);
-    let mut out = blank();
+    let mut out = filled::<i32, LONGEST>(0);
     let number = pack_into(s, n, len, &mut out);
     if number != 0 {
         say_refused(rt, number);
         return;
     }
-    write_words(rt, &out, len);
+    write_words(rt, &out[..len]);
 }
 
 // The first n bytes as words.
 fn run(rt: &impl Print, bytes: &[u8], n: usize)
     requires { n ≤ length bytes.now }
 {
-    if n < 12 {
-        return say_input(rt);
-    }
-    if n % 4 != 0 {
-        return say_input(rt);
-    }
-    if n > 4 * MOST {
+    if (n < 12) | (n % 4 != 0) | (n > 4 * MOST) {
         return say_input(rt);
     }
     let count = n / 4;
-    let mut given = space();
+    let mut given = filled::<i32, MOST>(0);
     words::bytes::decode(bytes, count, &mut given);
     pack_words(rt, &given[..count]);
 }
 
 fn main(rt: HostRuntime) {
-    let mut bytes = room();
+    let mut bytes = filled::<u8, ROOM>(0);
     match input::read_all(&mut rt.reader(), &mut bytes) {
-        Got::Bytes(n) => run(&rt, &bytes, n),
-        Got::Failed => say_input(&rt),
+        Ok(n) => run(&rt, &bytes, n),
+        Err(_) => say_input(&rt),
     }
 }

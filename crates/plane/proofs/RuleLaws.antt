@@ -1,16 +1,11 @@
 -- What the half-plane rule says of the places in a box: `box_drops`, `point_box`; and laws of places.
 -- Assumes nothing.
-use mathlib.Core.Path.{◌≡◌, refl, sym, ap, subst, ◌∙◌}
+use mathlib.Core.Path.{◌≡◌, refl, ap, ◌∙◌}
 use mathlib.Core.Bool.{Bool, true, false, not, cond, ◌&&◌}
 use mathlib.Core.Logic.{⊎_elim}
-use lib.Dec.{eqb}
 use lib.IntN.{ℤ, pos}
 use lib.Signed.{le_z, lt_z, ◌≤ℤ◌, ◌<ℤ◌}
 use Rattle.integers.proofs.Order.{zl}
-use mir.Syntax.{w64}
-use mir.Facts.{to_z-of_z}
-use mir.Val.{SFits, to_z, of_z}
-use borrow.Author.Tests.{eqb-true, eq-eqb}
 use Rattle.integers.proofs.Bools.{and_left, and_right, and_both, decide, clash, test_iff}
 use Rattle.plane.specs.declared.Spot.{Spot}
 use Rattle.plane.specs.declared.Boxed.{Boxed}
@@ -51,12 +46,6 @@ same_number a b e = let h = le_of a b (and_left (le_z a b) (le_z b a) e) in let 
 
 number_same : (a : ℤ) → same a a ≡ true
 number_same a = let e : le_z a a ≡ true = omega zl in and_both (le_z a a) (le_z a a) e e
-
--- equal bits are equal numbers
-pub plane_same_bits : (a b : ℤ) → SFits w64 a → SFits w64 b → eqb (of_z w64 a) (of_z w64 b) ≡ same a b
-plane_same_bits a b f g =
-    test_iff _ _ (λ e. subst (λ (z : ℤ). same a z ≡ true) (sym (to_z-of_z f) ∙ ap (to_z w64) (eqb-true (of_z w64 a) (of_z w64 b) e) ∙ to_z-of_z g) (number_same a))
-    (λ e. eq-eqb (of_z w64 a) (of_z w64 b) (ap (of_z w64) (same_number a b e)))
 
 same_is : (a b : Spot) → same_spot a b ≡ true → a ≡ b
 unfolding same_spot

@@ -1,12 +1,13 @@
 -- The tests of places and boxes as the code makes them.
 -- Assumes nothing.
-use mathlib.Core.Path.{◌≡◌, refl, sym, ap, subst, ◌∙◌}
+use Rattle.std.proofs.Common.{Less, Equal, Greater, cond}
+use Rattle.std.specs.Ordering.{int_eq, is_eq}
+use mathlib.Core.Path.{◌≡◌, refl, sym, ap, ap₂, subst, ◌∙◌}
 use mathlib.Core.Bool.{Bool, true, false, not, ◌&&◌}
 use mathlib.Core.Logic.{⊎_elim}
-use lib.Dec.{eqb}
 use lib.IntN.{ℤ, pos}
 use lib.Signed.{le_z, lt_z, ◌≤ℤ◌, ◌<ℤ◌}
-use Rattle.integers.proofs.Order.{zl, sfits_in}
+use Rattle.integers.proofs.Order.{zl, sfits_in, le_z_not}
 use Rattle.integers.proofs.Solver.{con, ◌:+◌, ◌:-◌, ◌:*◌}
 use Rattle.integers.proofs.Solve.{◌:=◌, solve₄}
 use mir.Syntax.{w64}
@@ -17,7 +18,7 @@ use Rattle.plane.specs.declared.Spot.{Spot}
 use Rattle.plane.specs.declared.Boxed.{Boxed}
 use Rattle.plane.specs.Rule.{SpotIn, BoxIn, dot, same_spot, in_box, blocks, drops_box, far_corner}
 use Rattle.plane.proofs.Plane.{corner_most}
-use Rattle.plane.proofs.RuleLaws.{lt_of, lt_le_z, not_same, box_holds, all_behind, one_corner, plane_same_bits}
+use Rattle.plane.proofs.RuleLaws.{lt_of, lt_le_z, not_same, box_holds, all_behind, one_corner}
 
 not_lt : (a : ℤ) → a ≡ pos 0 → a <ℤ pos 0 → ⊥
 not_lt a e h = let x : pos 0 <ℤ pos 0 = subst (λ (z : ℤ). z <ℤ pos 0) e h in x.lt
@@ -42,10 +43,19 @@ strict_blocks a b z h = rw (lt_le_z _ _ h, not_same z a (strict_not_left a b z h
 
 -- ---- the tests as the code makes them
 
-pub same_by : (a b : Spot) → SpotIn a → SpotIn b → (eqb (of_z w64 a.x) (of_z w64 b.x) && eqb (of_z w64 a.y) (of_z w64 b.y)) ≡ same_spot a b
+-- two numbers are the same by the order, too
+one_of : (a b : ℤ) → int_eq a b ≡ (le_z a b && le_z b a)
+one_of a b = rw (le_z_not a b, le_z_not b a) (go (lt_z a b) (lt_z b a))
+  where
+    go : (s t : Bool) → is_eq (cond s Less (cond t Greater Equal)) ≡ (not t && not s)
+    go true true = refl
+    go true false = refl
+    go false true = refl
+    go false false = refl
+
+pub same_by : (a b : Spot) → (int_eq a.x b.x && int_eq a.y b.y) ≡ same_spot a b
 unfolding same_spot
-same_by a b f g =
-    rw (plane_same_bits a.x b.x (sfits_in f.x_in tt) (sfits_in g.x_in tt), plane_same_bits a.y b.y (sfits_in f.y_in tt) (sfits_in g.y_in tt))
+same_by a b = ap₂ (λ (s t : Bool). s && t) (one_of a.x b.x) (one_of a.y b.y)
 
 abbrev back : ℤ → ℤ
 back z = to_z w64 (of_z w64 z)

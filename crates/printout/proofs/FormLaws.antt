@@ -15,9 +15,6 @@ use Rattle.sheet.specs.Limits.{form1}
 use Rattle.sheet.specs.Layout.{form, points, trailer_no}
 use Rattle.sheet.specs.Open.{open_no, sheet_no}
 use Rattle.sheet.proofs.SheetLaws.{open_trailer, form1_as_before}
-use Rattle.ring.specs.declared.Head.{Head}
-use Rattle.ring.specs.Answers.{head_of}
-use Rattle.ring.proofs.HeadLaws.{Headed, headed, head_number}
 use Rattle.printout.specs.Outcome.{first_no}
 
 -- its form word is 1
@@ -28,9 +25,6 @@ first_form w e = is_word (form w) 1 (given_held _ ((none_applies _).0 ((none_app
 -- so it opens
 pub listed_first : (w : List ℤ) → first_no w ≡ 0 → sheet_no w ≡ 0
 listed_first w e = form1_as_before w (first_form w e) ∙ e
-
-pub headed_first : (w : List ℤ) (h : Head) → h ≡ head_of w → first_no w ≡ 0 → Headed w h
-headed_first w h e z = headed w h e (head_number w h e ∙ listed_first w z)
 
 -- it has at most 1,000 points
 pub few_points : (w : List ℤ) → first_no w ≡ 0 → points w ≤ 1000

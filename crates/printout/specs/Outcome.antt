@@ -1,7 +1,6 @@
 -- What the program does with what it has read.
-use Rattle.std.specs.Prelude.{◌≡◌, cond, List, [], ℕ, ◌/◌, ℤ, length, take, drop}
-use Rattle.input.specs.declared.Got.{Got}
-use Rattle.input.specs.declared.Got.TheVariants.{Bytes, Failed}
+use Rattle.std.specs.Prelude.{◌≡◌, cond, List, [], ℕ, ◌/◌, ℤ, length, take, drop, Result, Ok, Err}
+use Rattle.input.specs.declared.ReadFailed.{ReadFailed}
 use Rattle.words.specs.Bytes.{words_of}
 use Rattle.words.specs.First.{answer}
 use Rattle.sheet.specs.declared.Size.{Size}
@@ -37,9 +36,9 @@ unfoldable pub outcome : List ℕ → Outcome
 outcome bytes = cond (bad_input (length bytes)) BadInput (words_outcome (words_of bytes (length bytes / 4)))
 
 -- of what was read into a room: the bytes up to the end of the input, or a read that failed, which is `refused input` too (decision 11) [X10]
-unfoldable pub got_outcome : Got → List ℕ → Outcome
-got_outcome (Bytes n) room = outcome (take n room)
-got_outcome Failed room = BadInput
+unfoldable pub got_outcome : Result ℕ ReadFailed → List ℕ → Outcome
+got_outcome (Ok n) room = outcome (take n room)
+got_outcome (Err e) room = BadInput
 
 -- the line of a refusal: 113 is the byte q, 112 is p. Nothing is said so of two sheets that are listed [X13]
 unfoldable pub refusal : Outcome → List ℕ

@@ -7,7 +7,7 @@ ghost use Rattle.chamber.specs.Chamber.{PairsOn};
 ghost use Rattle.printout.specs.Outcome.{Both, pairs_of};
 
 use list::Terms;
-use sheet::Size;
+use sheet::Sheet;
 
 // Room for the lines of a chamber, and for many of most: a chamber of sheets of form 1 has at most 1,000 lines, of at most 107 bytes.
 fn buffer() -> [u8; 131072]
@@ -17,9 +17,9 @@ fn buffer() -> [u8; 131072]
 }
 
 // The ring pairs of the chamber at position j, kept on the words lent: how many they are. A sheet of form 1 has at most 1,000 points.
-fn keep_pairs(p: &[i32], hp: Size, q: &[i32], hq: Size, j: usize, bits: &mut [u64]) -> usize
-    requires { Both p.now hp q.now hq × (j < hq.n) × Holds bits.old hp.n }
-    ensures pairs_on { PairsOn (ring_pair (points_of p.now) (points_of q.now)) (pair_at (points_of p.now) (points_of q.now)) j hp.n bits.new result }
+fn keep_pairs(p: Sheet<'_>, q: Sheet<'_>, j: usize, bits: &mut [u64]) -> usize
+    requires { Both p.words.now (record { n = p.n; m = p.m }) q.words.now (record { n = q.n; m = q.m }) × (j < q.n) × Holds bits.old p.n }
+    ensures pairs_on { PairsOn (ring_pair (points_of p.entry.words.now) (points_of q.entry.words.now)) (pair_at (points_of p.entry.words.now) (points_of q.entry.words.now)) j p.entry.n bits.new result }
     ensures upper_bound { result ≤ 1000 }
 {
     let terms = Terms {
@@ -28,7 +28,7 @@ fn keep_pairs(p: &[i32], hp: Size, q: &[i32], hq: Size, j: usize, bits: &mut [u6
         own: false,
         grid: false,
     };
-    chamber::pairs_of(p, hp, q, hq, terms, 8_000_000_000_000_000_000, j, bits)
+    chamber::pairs_of(p, q, terms, 8_000_000_000_000_000_000, j, bits)
 }
 
 // A place in the buffer with room for so many lines after it: `at`, or the start, after what stands before `at` is written.
@@ -44,22 +44,20 @@ fn make_room(rt: &impl Print, out: &[u8], at: usize, lines: usize) -> usize
 }
 
 // Writes a line for each ring pair and the last line, and answers their number. Sixteen words hold the kept bits of a sheet of form 1.
-pub fn list_pairs(rt: &impl Print, p: &[i32], hp: Size, q: &[i32], hq: Size) -> u64
-    requires { Both p.now hp q.now hq }
-    ensures { result ≡ length (pairs_of p.now q.now) }
+pub fn list_pairs(rt: &impl Print, p: Sheet<'_>, q: Sheet<'_>) -> u64
+    requires { Both p.words.now (record { n = p.n; m = p.m }) q.words.now (record { n = q.n; m = q.m }) }
+    ensures { result ≡ length (pairs_of p.entry.words.now q.entry.words.now) }
 {
-    let n = hq.n;
+    let n = q.n;
     let mut out = buffer();
     let mut bits = [0u64; 16];
     let mut at: usize = 0;
     let mut total: u64 = 0;
-    let mut j: usize = 0;
-    while j < n {
-        let found = keep_pairs(p, hp, q, hq, j, &mut bits);
+    for j in 0..n {
+        let found = keep_pairs(p, q, j, &mut bits);
         let from = make_room(rt, &out, at, found);
-        at = crate::lines::put_chamber(p, hp, q, hq, j, &bits, found, &mut out, from);
+        at = crate::lines::put_chamber(p, q, j, &bits, found, &mut out, from);
         total += found as u64;
-        j += 1;
     }
     let from = make_room(rt, &out, at, 1);
     let to = text::put_end(total, &mut out, from);

@@ -11,12 +11,12 @@ ghost use Rattle.input.specs.Got.{Within};
 ghost use Rattle.text.specs.Text.{Grown};
 ghost use Rattle.printout.specs.Outcome.{sheets_outcome, words_outcome, got_outcome, refusal};
 
-use input::Got;
-use sheet::Size;
+use input::ReadFailed;
 use std::io::Read;
 
 // What came of an input: refused, or listed, with the number of pairs.
-#[derive(Clone, Copy)]
+// Kept: three of the four cases are refusals, no `?` hands one on, and `sheets_outcome` names the four; a Result over a second enum would be no plainer.
+#[derive(Clone, Copy, PartialEq, Eq)]
 pub enum Outcome {
     BadInput,
     BadQ(u32),
@@ -27,7 +27,7 @@ pub enum Outcome {
 // What came of reading and of what was read.
 #[derive(Clone, Copy)]
 pub struct Listing {
-    pub got: Got,
+    pub got: Result<usize, ReadFailed>,
     pub outcome: Outcome,
 }
 
@@ -55,19 +55,15 @@ fn say(rt: &impl Print, o: Outcome) -> bool {
 pub fn list_sheets(rt: &impl Print, p: &[i32], q: &[i32]) -> Outcome
     ensures { result ≡ sheets_outcome p.now q.now }
 {
-    let q_no = sheet::open_first(q);
-    if q_no != 0 {
-        return Outcome::BadQ(q_no);
-    }
-    let p_no = sheet::open_first(p);
-    if p_no != 0 {
-        return Outcome::BadP(p_no);
-    }
-    let b = ring::open::head_of(q);
-    let a = ring::open::head_of(p);
-    let hp = Size { n: a.n, m: a.m };
-    let hq = Size { n: b.n, m: b.m };
-    Outcome::Listed(chambers::list_pairs(rt, p, hp, q, hq))
+    let qs = match sheet::Sheet::open_first(q) {
+        Ok(qs) => qs,
+        Err(no) => return Outcome::BadQ(no),
+    };
+    let ps = match sheet::Sheet::open_first(p) {
+        Ok(ps) => ps,
+        Err(no) => return Outcome::BadP(no),
+    };
+    Outcome::Listed(chambers::list_pairs(rt, ps, qs))
 }
 
 // Splits the words into P and Q.
@@ -101,13 +97,13 @@ pub fn list_bytes(rt: &impl Print, bytes: &[u8]) -> Outcome
 }
 
 // Lists what was read into the start of `room`.
-fn list_got(rt: &impl Print, got: Got, room: &[u8]) -> Outcome
+fn list_got(rt: &impl Print, got: Result<usize, ReadFailed>, room: &[u8]) -> Outcome
     requires { Within got room.now }
     ensures { result ≡ got_outcome got room.now }
 {
     match got {
-        Got::Bytes(n) => list_bytes(rt, &room[..n]),
-        Got::Failed => Outcome::BadInput,
+        Ok(n) => list_bytes(rt, &room[..n]),
+        Err(_) => Outcome::BadInput,
     }
 }
 
@@ -127,8 +123,5 @@ pub fn list<R: Read>(rt: &impl Print, from: &mut R, room: &mut [u8]) -> Listing
     let got = input::read_all(from, room);
     let outcome = list_got(rt, got, room);
     let _ = say(rt, outcome);
-    Listing {
-        got: got,
-        outcome: outcome,
-    }
+    Listing { got, outcome }
 }

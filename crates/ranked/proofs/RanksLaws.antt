@@ -12,7 +12,6 @@ use mathlib.Core.List.{List, [], ◌∷◌, ◌++◌, Memᴰ}
 use Prim.Native.Nat.{ℕ, zero, suc, ◌+◌, ◌-◌, ◌*◌, ◌≤◌, ◌<◌}
 use native.Mathlib.Omega.{arith}
 use native.Mathlib.Nat.{eq-or-lt_of_le}
-use native.Mathlib.Numerals.{add-one}
 use lib.Dec.{eqb, ltb}
 use lib.IntN.{ℤ}
 use lib.ListN.{length, take, get_or}
@@ -38,19 +37,16 @@ use Rattle.chamber.proofs.KeepLaws.{row_nil, row_yes, row_no, row_short, small_c
 use Rattle.chamber.proofs.ListedLaws.{points_many}
 use Rattle.ranked.specs.declared.Rank.{Rank}
 use Rattle.ranked.specs.declared.Busy.{Busy}
-use Rattle.ranked.specs.declared.ranks.Ranks.{Ranks}
-use Rattle.sorting.specs.Ranking.{put_by, first_by, gathered, Sorted, Apart, Order}
+use Rattle.sorting.specs.declared.Firsts.{Firsts}
+use Rattle.sorting.specs.Ranking.{put_by, first_by, gathered, Sorted, Apart}
 use Rattle.ranked.specs.Busiest.{busier, Busier, no_rank, ranks_from, busy_given}
-use Rattle.ranked.specs.Ranks.{ranks_of, held_ranks, HeldRanks, rank_put, Below, Idle, row_rank}
-use Rattle.sorting.proofs.RankingLaws.{gathered_first, gathered_two, gathered_short, gathered_sorted, gathered_only}
-use Rattle.sorting.proofs.HeldLaws.{of_sixteen, held_of, held_put, held_over, held_same, ranked_last, put_asks}
-use Rattle.sorting.proofs.LexLaws.{or_first, or_second, or_and, and_none, less_order, more_order, more_total, above, number_order, lex_order}
+pub use Rattle.ranked.specs.Orders.{busier_order}
+use Rattle.ranked.specs.Ranks.{ranks_of, held_ranks, HeldRanks, Below, Idle, row_rank}
+use Rattle.sorting.proofs.RankingLaws.{gathered_first, gathered_two, gathered_only}
+use Rattle.sorting.proofs.FirstsLaws.{firsts_whole, held_is, firsts_held, held_gathered, fair_gathered, last_in_held, offer_not}
+use Rattle.sorting.proofs.LexLaws.{or_first, or_second, or_and, and_none, more_total}
 
 -- ---- the order
-
-pub busier_order : Order busier
-unfolding busier
-busier_order = lex_order (λ (v : Rank). v.pairs) above more_order more_total (λ (v w : Rank). ltb v.id w.id) (number_order (λ (v : Rank). v.id) ltb less_order)
 
 pub busier_says : (v w : Rank) → busier v w ≡ true → Busier v w
 unfolding busier
@@ -203,13 +199,13 @@ module _ (big : ℕ) (t : Terms) (P Q : List ℤ) (np mp : ℕ) (o : Opens P np 
       let many = points_many P np mp o in
       omega (arith, row_card (small_for big t (points_of P) (points_of Q)) (pair_by (profile_for t) (points_of P) (points_of Q)) b j (length (points_of P)) 0 (λ x u v e. small_covered big t P Q j b c x (omega (arith, many, o.n_is)) e), card_part b (length (points_of P)) (omega (arith, many)))
 
-  pub idle_row : (k : ℕ) (g : Ranks) (r : Bool) → Idle (card b) k g r → Idle (row_rank big t (points_of P) (points_of Q) j).pairs k g r
+  pub idle_row : (k : ℕ) (g : Firsts Rank) (r : Bool) → Idle (card b) k g r → Idle (row_rank big t (points_of P) (points_of Q) j).pairs k g r
   idle_row k g r i = record { full = i.full; fewer = λ x. omega (arith, i.fewer x, few_pairs) }
 
-pub idle_said : (most k : ℕ) (g : Ranks) → k ≤ g.count → (t : Bool) (wide : ℕ) → (t ≡ true → most ≤ wide) → wide ≡ (get_or g.rows (k - 1) no_rank).pairs → Idle most k g t
+pub idle_said : (most k : ℕ) (g : Firsts Rank) → k ≤ g.count → (t : Bool) (wide : ℕ) → (t ≡ true → most ≤ wide) → wide ≡ (get_or g.rows (k - 1) no_rank).pairs → Idle most k g t
 idle_said most k g full t wide e f = record { full = λ x. full; fewer = λ x. omega (arith, e x) }
 
-pub idle_not : (pairs k : ℕ) (g : Ranks) → Idle pairs k g false
+pub idle_not : (pairs k : ℕ) (g : Firsts Rank) → Idle pairs k g false
 idle_not pairs k g = record { full = λ e. clash e refl; fewer = λ e. clash e refl }
 
 -- ---- the kept positions, counted until one is too many
@@ -250,59 +246,20 @@ met_turn ws most left i u c some h e = record { counted = omega (arith, c.counte
 pub met_done : (ws : List ℕ) (most left i : ℕ) → Counting ws most left i → 64 * length ws ≤ i → card ws ≤ most
 met_done ws most left i c h = omega (arith, c.counted, kept_end ws i h)
 
--- ---- those held
-
-pub ranks_whole : (k : ℕ) (g : Ranks) → HeldRanks k g → g ≡ ranks_of (held_ranks g)
-ranks_whole k g h = λ i. record { rows = h.whole i; count = sym h.long i }
-
--- what is held by those that hold s
-pub held_ranks_lem : (s : List Rank) (r : Ranks) → r ≡ ranks_of s → held_ranks r ≡ s
-held_ranks_lem s r e = ap held_ranks e ∙ of_sixteen busier no_rank s
-
-pub ranks_held : (k : ℕ) (s : List Rank) → length s ≤ k → Sorted busier s → (r : Ranks) → r ≡ ranks_of s → HeldRanks k r
-ranks_held k s h o r e = subst (HeldRanks k) (sym e) (held_of busier no_rank k s h o)
-
--- one is offered: it is put among fewer than k, or over the last of k, or it is not
-module _ (k : ℕ) (some : 1 ≤ k) (most : k ≤ 16) (g : Ranks) (h : HeldRanks k g) (v : Rank) where
-  pub offer_asks : (n : ℕ) → n ≤ g.count → n < k → (n < 16) × Sorted busier (take n g.rows)
-  offer_asks = put_asks busier no_rank k some most g.rows g.count h v
-
-  pub offer_put : g.count < k → (r : Ranks) → r ≡ rank_put g.count v g → r ≡ ranks_of (take k (put_by busier v (held_ranks g)))
-  unfolding rank_put
-  offer_put f r e =
-      let z = held_put busier no_rank k some most g.rows g.count h v f _ refl in
-      e ∙ (λ i. record { rows = z.0 i; count = (sym (add-one g.count) ∙ z.1) i })
-
-  module _ (full : k ≤ g.count) where
-    pub offer_over : busier v (get_or g.rows (k - 1) no_rank) ≡ true → (r : Ranks) → r ≡ rank_put (k - 1) v g → r ≡ ranks_of (take k (put_by busier v (held_ranks g)))
-    unfolding rank_put
-    offer_over b r e =
-        let z = held_over busier no_rank k some most g.rows g.count h v full b _ refl in
-        let s : suc (k - 1) ≡ k = omega arith in
-        e ∙ (λ i. record { rows = z.0 i; count = (s ∙ z.1) i })
-
-    pub offer_not : busier v (get_or g.rows (k - 1) no_rank) ≡ false → g ≡ ranks_of (take k (put_by busier v (held_ranks g)))
-    offer_not b = ranks_whole k g h ∙ ap ranks_of (sym (held_same busier no_rank k some most g.rows g.count h v full busier_order b))
-
 -- ---- a chamber
 
-member_at : {A : Type 0} (z : A) (l : List A) (i : ℕ) → i < length l → Memᴰ (get_or l i z) l
-member_at z [] i h = absurd (omega arith)
-member_at z (x ∷ l) zero h = mathlib.Core.List.Memᴰ.head refl
-member_at z (x ∷ l) (suc i) h = mathlib.Core.List.Memᴰ.tail (member_at z l i (omega arith))
-
-module _ (has : ℕ → Bool) (rank : ℕ → Rank) (k : ℕ) (j : ℕ) (g : Ranks) (h : HeldRanks k g) where
+module _ (has : ℕ → Bool) (rank : ℕ → Rank) (k : ℕ) (j : ℕ) (g : Firsts Rank) (h : HeldRanks k g) where
   -- it is not the contractor's
   pub chamber_other : (m : Bool) → m ≡ has j → not m ≡ true → g ≡ ranks_of (gathered busier k (ranks_from has rank 1 j) (held_ranks g))
   unfolding gathered
-  chamber_other m e n = ranks_whole k g h ∙ ap (λ (l : List Rank). ranks_of (gathered busier k l (held_ranks g))) (sym (ranks_no has rank j (failed e n)))
+  chamber_other m e n = firsts_whole busier no_rank k g h ∙ ap (λ (l : List Rank). ranks_of (gathered busier k l (held_ranks g))) (sym (ranks_no has rank j (failed e n)))
 
   module _ (m : Bool) (e : m ≡ has j) (n : not m ≡ false) where
     one : ranks_from has rank 1 j ≡ rank j ∷ []
     one = ranks_yes has rank j (passed e n)
 
     -- it is offered
-    pub chamber_offered : (v : Rank) → v ≡ rank j → (r : Ranks) → r ≡ ranks_of (take k (put_by busier v (held_ranks g))) → r ≡ ranks_of (gathered busier k (ranks_from has rank 1 j) (held_ranks g))
+    pub chamber_offered : (v : Rank) → v ≡ rank j → (r : Firsts Rank) → r ≡ ranks_of (take k (put_by busier v (held_ranks g))) → r ≡ ranks_of (gathered busier k (ranks_from has rank 1 j) (held_ranks g))
     unfolding gathered
     chamber_offered v f r d = d ∙ ap (λ (x : Rank). ranks_of (take k (put_by busier x (held_ranks g)))) f ∙ ap (λ (l : List Rank). ranks_of (gathered busier k l (held_ranks g))) (sym one)
 
@@ -311,11 +268,10 @@ module _ (has : ℕ → Bool) (rank : ℕ → Rank) (k : ℕ) (j : ℕ) (g : Ran
     chamber_idle some most below t idle f =
         let full = idle.full f in
         let last = get_or g.rows (k - 1) no_rank in
-        let is : last ≡ get_or (held_ranks g) (k - 1) no_rank = ranked_last busier no_rank k some most g.rows g.count h (rank j) full in
-        let there : Memᴰ (get_or (held_ranks g) (k - 1) no_rank) (held_ranks g) = member_at no_rank (held_ranks g) (k - 1) (omega (arith, h.long)) in
-        let id : (get_or (held_ranks g) (k - 1) no_rank).id < (rank j).id = below.below _ there in
-        let later : last.id ≤ (rank j).id = omega (arith, ap (λ (x : Rank). x.id) is) in
-        chamber_offered (rank j) refl g (offer_not k some most g h (rank j) full (not_busier (rank j) last (idle.fewer f) later))
+        let held = last_in_held busier no_rank k some most g h full in
+        let id : (get_or (held_ranks g) (k - 1) no_rank).id < (rank j).id = below.below _ held.1 in
+        let later : last.id ≤ (rank j).id = omega (arith, ap (λ (x : Rank). x.id) held.0) in
+        chamber_offered (rank j) refl g (offer_not busier no_rank k some most g h (rank j) busier_order full (not_busier (rank j) last (idle.fewer f) later))
 
 -- the rank of a chamber whose pairs are so many
 pub rank_found : (big : ℕ) (t : Terms) (P Q : List ℤ) (np mp : ℕ) → Opens P np mp → (j : ℕ) (b : List ℕ) (found : ℕ)
@@ -332,36 +288,36 @@ found_fits rule pair j np b found on h = omega (arith, on.counted, row_short rul
 -- ---- the loop over the chambers
 
 module _ (has : ℕ → Bool) (rank : ℕ → Rank) (k n : ℕ) where
-  pub record Going (g : Ranks) (j : ℕ) : Type 0 where
+  pub record Going (g : Firsts Rank) (j : ℕ) : Type 0 where
     pub upto : j ≤ n
     pub held : HeldRanks k g
     pub left : first_by busier k (ranks_from has rank n 0) ≡ gathered busier k (ranks_from has rank (n - j) j) (held_ranks g)
     pub passed : (v : Rank) → Memᴰ v (held_ranks g) → (x : ℕ) × (x < j) × (v ≡ rank x)
 
   module _ (rises : (x y : ℕ) → x < y → y < n → (rank x).id < (rank y).id) where
-    pub rank_start : Going (ranks_of []) 0
+    pub rank_start : (g : Firsts Rank) → g ≡ ranks_of [] → Going g 0
     unfolding Sorted
-    rank_start =
-        let none : held_ranks (ranks_of []) ≡ [] = refl in
+    rank_start g e =
+        let none : held_ranks g ≡ [] = held_is busier no_rank [] g e in
         let all : n - 0 ≡ n = omega arith in
         record {
           upto = omega arith;
-          held = held_of busier no_rank k [] (omega arith) tt;
-          left = sym (gathered_first busier busier_order k (ranks_from has rank n 0) (ranks_apart has rank n rises n 0 (omega arith))) ∙ ap (λ (m : ℕ). gathered busier k (ranks_from has rank m 0) []) (sym all);
-          passed = λ v m. absurd (mathlib.Core.List.Memᴰ.not-nil m);
+          held = firsts_held busier no_rank k [] (omega arith) tt g e;
+          left = sym (gathered_first busier busier_order k (ranks_from has rank n 0) (ranks_apart has rank n rises n 0 (omega arith))) ∙ ap (λ (m : ℕ). gathered busier k (ranks_from has rank m 0) []) (sym all) ∙ ap (gathered busier k (ranks_from has rank (n - 0) 0)) (sym none);
+          passed = λ v m. absurd (mathlib.Core.List.Memᴰ.not-nil (subst (Memᴰ v) none m));
         }
 
-    module _ (g : Ranks) (j : ℕ) (s : Going g j) (h : j < n) where
+    module _ (g : Firsts Rank) (j : ℕ) (s : Going g j) (h : j < n) where
       pub ranks_below : Below (rank j).id (held_ranks g)
       ranks_below = record { below = λ v m. let z = s.passed v m in rw z.2 (rises z.0 j z.1 h) }
 
-      pub rank_turn : (r : Ranks) → r ≡ ranks_of (gathered busier k (ranks_from has rank 1 j) (held_ranks g)) → Going r (j + 1)
+      pub rank_turn : (r : Firsts Rank) → r ≡ ranks_of (gathered busier k (ranks_from has rank 1 j) (held_ranks g)) → Going r (j + 1)
       rank_turn r e =
           let t = gathered busier k (ranks_from has rank 1 j) (held_ranks g) in
-          let is : held_ranks r ≡ t = held_ranks_lem t r e in
+          let is : held_ranks r ≡ t = held_gathered busier no_rank k (ranks_from has rank 1 j) g r e in
           record {
             upto = omega arith;
-            held = ranks_held k t (gathered_short busier k (ranks_from has rank 1 j) (held_ranks g) (omega (arith, s.held.few, s.held.long))) (gathered_sorted busier busier_order k (ranks_from has rank 1 j) (held_ranks g) s.held.sorted) r e;
+            held = fair_gathered busier no_rank k (ranks_from has rank 1 j) g r e busier_order s.held;
             left = s.left
                 ∙ ap (λ (l : List Rank). gathered busier k l (held_ranks g)) (ranks_next has rank n j h)
                 ∙ gathered_two busier k (ranks_from has rank 1 j) (ranks_from has rank (n - (j + 1)) (j + 1)) (held_ranks g)
@@ -373,15 +329,15 @@ module _ (has : ℕ → Bool) (rank : ℕ → Rank) (k n : ℕ) where
                 (gathered_only busier k (ranks_from has rank 1 j) (held_ranks g) v (subst (Memᴰ v) is m));
           }
 
-  pub rank_done : (g : Ranks) (j : ℕ) → Going g j → n ≤ j → g ≡ ranks_of (first_by busier k (ranks_from has rank n 0))
+  pub rank_done : (g : Firsts Rank) (j : ℕ) → Going g j → n ≤ j → g ≡ ranks_of (first_by busier k (ranks_from has rank n 0))
   unfolding gathered
   rank_done g j s h =
-      ranks_whole k g s.held ∙ ap ranks_of (sym (s.left ∙ ap (λ (l : List Rank). gathered busier k l (held_ranks g)) (ranks_end has rank n j h)))
+      firsts_whole busier no_rank k g s.held ∙ ap ranks_of (sym (s.left ∙ ap (λ (l : List Rank). gathered busier k l (held_ranks g)) (ranks_end has rank n j h)))
 
 -- the answer
-pub busy_given_lem : (l : List Rank) (g : Ranks) → g ≡ ranks_of l → ◌≡◌ {A = Busy} (record { number = 0; count = g.count; rows = g.rows }) (busy_given l)
+pub busy_given_lem : (l : List Rank) (g : Firsts Rank) → g ≡ ranks_of l → ◌≡◌ {A = Busy} (record { number = 0; count = g.count; rows = g.rows }) (busy_given l)
 unfolding busy_given
-busy_given_lem l g e = ap (λ (x : Ranks). record { number = 0; count = x.count; rows = x.rows }) e
+busy_given_lem l g e = ap (λ (x : Firsts Rank). record { number = 0; count = x.count; rows = x.rows }) e
 
 pub busy_same : (r : Busy) (l m : List Rank) → r ≡ busy_given l → l ≡ m → r ≡ busy_given m
 busy_same r l m e f = e ∙ ap busy_given f

@@ -9,13 +9,14 @@ use native.Mathlib.Omega.{arith}
 use native.Mathlib.Nat.{eq-or-lt_of_le}
 use lib.Dec.{eqb, leb}
 use lib.ListN.{length, get_or}
-use borrow.Author.Tests.{eqb-true, eq-eqb, ne_eqb, leb-true}
-use Rattle.integers.proofs.Bools.{and_left, and_right}
+use borrow.Author.Tests.{eqb-true, eq-eqb, ne_eqb, leb-true, le-leb}
+use Rattle.integers.proofs.Bools.{and_left, and_right, test_iff}
 use lib.IntN.{ℤ}
+use Rattle.std.specs.Prelude.{◌↔◌, IsTrue, EachIndex}
 use Rattle.words.specs.All.{all_b}
 use Rattle.words.specs.First.{first}
 use Rattle.words.proofs.FirstLaws.{first_passes, first_stops, first_last, first_front, none_applies, given_held}
-use Rattle.words.proofs.AllLaws.{all_at}
+use Rattle.words.proofs.AllLaws.{all_at, all_make}
 use Rattle.sheet.specs.Layout.{points}
 use Rattle.sheet.specs.Open.{Opens, sheet_no}
 use Rattle.list.specs.Pages.{size_no, contractor_no, owners_no}
@@ -40,6 +41,13 @@ scores_other s n ne = sym (ap (λ (b : Bool). b && all_b n (within s)) (ne_eqb (
 pub scores_by : (s : List ℕ) (n : ℕ) (b : Bool) → length s ≡ n → b ≡ all_b n (within s) → b ≡ scores_ok s n
 unfolding scores_ok
 scores_by s n b e f = f ∙ sym (ap (λ (x : Bool). x && all_b n (within s)) (eq-eqb (length s) n e))
+
+-- that each is, of so many
+pub scores_all : (s : List ℕ) (n : ℕ) (r : Bool) → length s ≡ n → IsTrue r ↔ EachIndex s (λ i. get_or s i 0 ≤ last_score) → r ≡ all_b n (within s)
+scores_all s n r e f =
+    test_iff r (all_b n (within s))
+    (λ (t : r ≡ true). all_make (within s) n (λ i h. le-leb (get_or s i 0) last_score (f.0 t i (omega arith))))
+    (λ (t : all_b n (within s) ≡ true). f.1 (λ i h. leb-true (get_or s i 0) last_score (all_at (within s) n t i (omega arith))))
 
 pub scores_scored : (s : List ℕ) (n : ℕ) → scores_ok s n ≡ true → Scored s n
 unfolding scores_ok

@@ -12,11 +12,11 @@ use mathlib.Core.Logic.{◌⊎◌, inl, inr, ⊎_elim}
 use mathlib.Core.List.{List, [], ◌∷◌, ◌++◌, map, Memᴰ}
 use Prim.Native.Nat.{ℕ, zero, suc, ◌+◌, ◌-◌, ◌≤◌, ◌<◌}
 use native.Mathlib.Omega.{arith}
-use native.Mathlib.Numerals.{add-one}
 use lib.Dec.{eqb, leb, ltb}
 use lib.IntN.{ℤ}
 use lib.ListN.{length, take, get_or}
 use borrow.Author.Tests.{ltb-true, lt-ltb, le-ltb, eqb-true, eq-eqb, ne_eqb, leb-true, le-leb, lt-leb}
+use Rattle.std.proofs.Common.{Option, None, Some, MatchOption}
 use Rattle.integers.proofs.Bools.{decide, and_both, or_both_false, clash, failed, passed}
 use Rattle.plane.specs.Point.{Point, id_at, spot_at}
 use Rattle.plane.specs.Profile.{profile_of}
@@ -45,24 +45,18 @@ use Rattle.chamber.proofs.KeepLaws.{row_nil, row_yes, row_no, rest, rest_yes, re
 use Rattle.chamber.proofs.ListedLaws.{points_many, row_empty, rows_next, rows_end, list_of_sheets}
 use Rattle.ranked.specs.declared.Visit.{Visit}
 use Rattle.ranked.specs.declared.Urgent.{Urgent}
-use Rattle.ranked.specs.declared.tops.Tops.{Tops}
-use Rattle.sorting.specs.Ranking.{put_by, first_by, gathered, Sorted, Apart, Order}
+use Rattle.sorting.specs.declared.Firsts.{Firsts}
+use Rattle.sorting.specs.Firsts.{last_of, enters}
+use Rattle.sorting.specs.Ranking.{put_by, first_by, gathered, Sorted, Apart}
 use Rattle.ranked.specs.Urgent.{ahead, Ahead, no_visit, score_of, visit_of, urgent_given}
-use Rattle.ranked.specs.Visits.{tops_of, held_visits, HeldVisits, visit_put, Past, Scored, Greatest, Late, Enters, Listed, scored, with_score}
-use Rattle.sorting.proofs.RankingLaws.{ranked_stays, gathered_first, gathered_two, gathered_short, gathered_sorted, gathered_only}
-use Rattle.sorting.proofs.HeldLaws.{of_sixteen, held_of, held_put, held_over, held_same, ranked_last, put_asks}
-use Rattle.sorting.proofs.LexLaws.{or_first, or_second, or_and, and_none, less_order, less_total, more_order, more_total, above, number_order, lex_order}
+pub use Rattle.ranked.specs.Orders.{ahead_order}
+use Rattle.ranked.specs.Visits.{tops_of, held_visits, HeldVisits, Past, Scored, Greatest, Late, Listed, scored, with_score}
+use Rattle.sorting.proofs.RankingLaws.{ranked_stays, gathered_first, gathered_two, gathered_only}
+use Rattle.sorting.proofs.FirstsLaws.{firsts_whole, held_is, firsts_held, held_gathered, fair_gathered, last_some, last_in_held, never_enters, offer_not}
+use Rattle.sorting.proofs.LexLaws.{or_first, or_second, or_and, and_none, more_total}
 use Rattle.ranked.proofs.BusyLaws.{listed_mine, listed_not}
 
 -- ---- the order
-
-follow_order : Order (λ (v w : Visit). follows (key_of v.pair) (key_of w.pair))
-unfolding follows
-follow_order = lex_order (λ (v : Visit). v.pair.q) ltb less_order less_total (λ (v w : Visit). ltb v.pair.p w.pair.p) (number_order (λ (v : Visit). v.pair.p) ltb less_order)
-
-pub ahead_order : Order ahead
-unfolding ahead
-ahead_order = lex_order (λ (v : Visit). v.score) above more_order more_total (λ (v w : Visit). follows (key_of v.pair) (key_of w.pair)) follow_order
 
 pub ahead_says : (v w : Visit) → ahead v w ≡ true → Ahead v w
 unfolding ahead
@@ -152,51 +146,16 @@ score_of_lem w n m o sc s i h =
 
 -- ---- those held
 
-pub tops_whole : (k : ℕ) (g : Tops) → HeldVisits k g → g ≡ tops_of (held_visits g)
-tops_whole k g h = λ i. record { rows = h.whole i; count = sym h.long i }
-
-held_visits_lem : (s : List Visit) (r : Tops) → r ≡ tops_of s → held_visits r ≡ s
-held_visits_lem s r e = ap held_visits e ∙ of_sixteen ahead no_visit s
-
-visits_held : (k : ℕ) (s : List Visit) → length s ≤ k → Sorted ahead s → (r : Tops) → r ≡ tops_of s → HeldVisits k r
-visits_held k s h o r e = subst (HeldVisits k) (sym e) (held_of ahead no_visit k s h o)
-
-pub urgent_made : (l : List Visit) (g : Tops) → g ≡ tops_of l → ◌≡◌ {A = Urgent} (record { number = 0; count = g.count; rows = g.rows }) (urgent_given l)
+pub urgent_made : (l : List Visit) (g : Firsts Visit) → g ≡ tops_of l → ◌≡◌ {A = Urgent} (record { number = 0; count = g.count; rows = g.rows }) (urgent_given l)
 unfolding urgent_given
-urgent_made l g e = ap (λ (x : Tops). record { number = 0; count = x.count; rows = x.rows }) e
+urgent_made l g e = ap (λ (x : Firsts Visit). record { number = 0; count = x.count; rows = x.rows }) e
 
-module _ (k : ℕ) (some : 1 ≤ k) (most : k ≤ 16) (g : Tops) (h : HeldVisits k g) (v : Visit) where
-  pub taken_asks : (n : ℕ) → n ≤ g.count → n < k → (n < 16) × Sorted ahead (take n g.rows)
-  taken_asks = put_asks ahead no_visit k some most g.rows g.count h v
-
-  pub taken_put : g.count < k → (r : Tops) → r ≡ visit_put g.count v g → r ≡ tops_of (take k (put_by ahead v (held_visits g)))
-  unfolding visit_put
-  taken_put f r e =
-      let z = held_put ahead no_visit k some most g.rows g.count h v f _ refl in
-      e ∙ (λ i. record { rows = z.0 i; count = (sym (add-one g.count) ∙ z.1) i })
-
-  module _ (full : k ≤ g.count) where
-    pub taken_over : ahead v (get_or g.rows (k - 1) no_visit) ≡ true → (r : Tops) → r ≡ visit_put (k - 1) v g → r ≡ tops_of (take k (put_by ahead v (held_visits g)))
-    unfolding visit_put
-    taken_over b r e =
-        let z = held_over ahead no_visit k some most g.rows g.count h v full b _ refl in
-        let s : suc (k - 1) ≡ k = omega arith in
-        e ∙ (λ i. record { rows = z.0 i; count = (s ∙ z.1) i })
-
-    pub taken_not : ahead v (get_or g.rows (k - 1) no_visit) ≡ false → g ≡ tops_of (take k (put_by ahead v (held_visits g)))
-    taken_not b = tops_whole k g h ∙ ap tops_of (sym (held_same ahead no_visit k some most g.rows g.count h v full ahead_order b))
-
-pub enters_yes : (k : ℕ) (v : Visit) (g : Tops) → Enters k v g true
-enters_yes k v g = record { full = λ e. clash refl e; behind = λ e. clash refl e }
-
-pub enters_by : (k : ℕ) (v : Visit) (g : Tops) → k ≤ g.count → (t : Bool) → t ≡ ahead v (get_or g.rows (k - 1) no_visit) → Enters k v g t
-enters_by k v g full t e = record { full = λ f. full; behind = λ f. sym e ∙ f }
-
-pub late_not : (most k : ℕ) (g : Tops) → Late most k g false
-late_not most k g = record { full = λ e. clash e refl; lower = λ e. clash e refl }
-
-pub late_by : (most k : ℕ) (g : Tops) → k ≤ g.count → Late most k g (leb most (get_or g.rows (k - 1) no_visit).score)
-late_by most k g full = record { full = λ e. full; lower = λ e. leb-true most (get_or g.rows (k - 1) no_visit).score e }
+-- said of the last of k, where k are held
+pub late_by : (most k : ℕ) (g : Firsts Visit) (o : Option Visit) → o ≡ last_of k g → (t : Bool) → MatchOption o (t ≡ false) (λ (w : Visit). t ≡ leb most w.score) → Late most k g t
+late_by most k g None e t m = record { full = λ y. clash y m; lower = λ y. clash y m }
+late_by most k g (Some w) e t m =
+    let z = last_some ahead no_visit k g w (sym e) in
+    record { full = λ y. z.0; lower = λ y. leb-true most (get_or g.rows (k - 1) no_visit).score (sym (m ∙ ap (λ (v : Visit). leb most v.score) z.1) ∙ y) }
 
 -- ---- one pair
 
@@ -227,7 +186,7 @@ walked : (g : Bool) (P Q : List ℤ) (np mp nq mq : ℕ) → Opens P np mp → O
 walked g P Q np mp nq mq op oq j i a b x e t f =
     f ∙ ap (λ (y : Answer). clear y.hit) e ∙ pair_clear (profile_of g) (profile_lawful g) P Q (by_counts op) (by_counts oq) j i (omega (arith, oq.n_is)) (omega (arith, op.n_is))
 
-module _ (rule : ℕ → ℕ → Bool) (pair : ℕ → ℕ → Pair) (k j i score : ℕ) (g : Tops) (h : HeldVisits k g) where
+module _ (rule : ℕ → ℕ → Bool) (pair : ℕ → ℕ → Pair) (k j i score : ℕ) (g : Firsts Visit) (h : HeldVisits k g) where
   one_yes : rule j i ≡ true → map (scored score) (row rule pair j 1 i) ≡ scored score (pair j i) ∷ []
   one_yes e = ap (map (scored score)) (row_yes rule pair j 0 i e ∙ ap (λ (l : List Pair). pair j i ∷ l) (row_nil rule pair j (i + 1)))
 
@@ -237,25 +196,25 @@ module _ (rule : ℕ → ℕ → Bool) (pair : ℕ → ℕ → Pair) (k j i scor
   -- it is not of the list
   pub pair_not : rule j i ≡ false → g ≡ tops_of (gathered ahead k (map (scored score) (row rule pair j 1 i)) (held_visits g))
   unfolding gathered
-  pair_not e = tops_whole k g h ∙ ap (λ (l : List Visit). tops_of (gathered ahead k l (held_visits g))) (sym (one_no e))
+  pair_not e = firsts_whole ahead no_visit k g h ∙ ap (λ (l : List Visit). tops_of (gathered ahead k l (held_visits g))) (sym (one_no e))
 
   -- it is of the list, and offered
-  pub pair_joins : rule j i ≡ true → (v : Visit) → v ≡ scored score (pair j i) → (r : Tops) → r ≡ tops_of (take k (put_by ahead v (held_visits g))) → r ≡ tops_of (gathered ahead k (map (scored score) (row rule pair j 1 i)) (held_visits g))
+  pub pair_joins : rule j i ≡ true → (v : Visit) → v ≡ scored score (pair j i) → (r : Firsts Visit) → r ≡ tops_of (take k (put_by ahead v (held_visits g))) → r ≡ tops_of (gathered ahead k (map (scored score) (row rule pair j 1 i)) (held_visits g))
   unfolding gathered
   pair_joins e v f r d = d ∙ ap (λ (x : Visit). tops_of (take k (put_by ahead x (held_visits g)))) f ∙ ap (λ (l : List Visit). tops_of (gathered ahead k l (held_visits g))) (sym (one_yes e))
 
   -- it would not be among the k, whether it is of the list or not
-  pub pair_behind : 1 ≤ k → k ≤ 16 → (v : Visit) → v ≡ scored score (pair j i) → (t : Bool) → Enters k v g t → not t ≡ true → g ≡ tops_of (gathered ahead k (map (scored score) (row rule pair j 1 i)) (held_visits g))
+  pub pair_behind : 1 ≤ k → k ≤ 16 → (v : Visit) → v ≡ scored score (pair j i) → (t : Bool) → t ≡ enters ahead no_visit k v g → not t ≡ true → g ≡ tops_of (gathered ahead k (map (scored score) (row rule pair j 1 i)) (held_visits g))
   pair_behind some most v f t e n =
-      let no : t ≡ false = failed refl n in
+      let no = never_enters ahead no_visit k g v t e (failed refl n) in
       ⊎_elim
-      (λ (x : rule j i ≡ true). pair_joins x v f g (taken_not k some most g h v (e.full no) (e.behind no)))
+      (λ (x : rule j i ≡ true). pair_joins x v f g (offer_not ahead no_visit k some most g h v ahead_order no.0 no.1))
       (λ (x : rule j i ≡ false). pair_not x)
       (decide (rule j i))
 
 -- one pair, as the code has it
 module _ (big : ℕ) (a : Terms) (P Q : List ℤ) (np mp nq mq : ℕ) (op : Opens P np mp) (oq : Opens Q nq mq) (own : a.own ≡ false) (j i : ℕ) (j_in : j < nq) (i_in : i < np)
-    (k : ℕ) (g : Tops) (h : HeldVisits k g) (score : ℕ) (v : Pair) (is : v ≡ pair_by (profile_for a) (points_of P) (points_of Q) j i) where
+    (k : ℕ) (g : Firsts Visit) (h : HeldVisits k g) (score : ℕ) (v : Pair) (is : v ≡ pair_by (profile_for a) (points_of P) (points_of Q) j i) where
   abbrev small : ℕ → ℕ → Bool
   small = small_for big a (points_of P) (points_of Q)
 
@@ -275,18 +234,18 @@ module _ (big : ℕ) (a : Terms) (P Q : List ℤ) (np mp nq mq : ℕ) (op : Open
     pub pair_blocked : not t ≡ true → g ≡ tops_of (gathered ahead k (map (scored score) (row small pairing j 1 i)) (held_visits g))
     pair_blocked n = pair_not small pairing k j i score g h (small_blocked big a (points_of P) (points_of Q) j i (failed ring_is n))
 
-    pub pair_taken : not t ≡ false → v.size ≤ big → (r : Tops) → r ≡ tops_of (take k (put_by ahead (scored score v) (held_visits g))) → r ≡ tops_of (gathered ahead k (map (scored score) (row small pairing j 1 i)) (held_visits g))
+    pub pair_taken : not t ≡ false → v.size ≤ big → (r : Firsts Visit) → r ≡ tops_of (take k (put_by ahead (scored score v) (held_visits g))) → r ≡ tops_of (gathered ahead k (map (scored score) (row small pairing j 1 i)) (held_visits g))
     pair_taken n l r d = pair_joins small pairing k j i score g h (small_clear big a (points_of P) (points_of Q) j i own (omega (arith, size_is)) (passed ring_is n)) (scored score v) (ap (scored score) is) r d
 
 -- ---- a chamber's candidates, one after the other
 
-module _ (rule : ℕ → ℕ → Bool) (pair : ℕ → ℕ → Pair) (f : Pair → Visit) (k j n : ℕ) (g : Tops) where
-  pub record Picking (r : Tops) (i : ℕ) : Type 0 where
+module _ (rule : ℕ → ℕ → Bool) (pair : ℕ → ℕ → Pair) (f : Pair → Visit) (k j n : ℕ) (g : Firsts Visit) where
+  pub record Picking (r : Firsts Visit) (i : ℕ) : Type 0 where
     pub held : HeldVisits k r
     pub left : gathered ahead k (map f (row rule pair j n 0)) (held_visits g) ≡ gathered ahead k (map f (rest rule pair j n i)) (held_visits r)
 
   module _ (b : List ℕ) (sure : (y : ℕ) → y < n → rule j y ≡ true → kept b y ≡ true) where
-    pub pick_next : (r : Tops) (x u : ℕ) → u ≡ next_from b x → Picking r x → Picking r u
+    pub pick_next : (r : Firsts Visit) (x u : ℕ) → u ≡ next_from b x → Picking r x → Picking r u
     pick_next r x u e s = record { held = s.held; left = s.left ∙ ap (λ (l : List Pair). gathered ahead k (map f l) (held_visits r)) (rest_skip rule pair j n b sure x u e) }
 
     pub pick_start : HeldVisits k g → (u : ℕ) → u ≡ next_from b 0 → Picking g u
@@ -295,13 +254,14 @@ module _ (rule : ℕ → ℕ → Bool) (pair : ℕ → ℕ → Pair) (f : Pair �
         pick_next g 0 u e (record { held = h; left = ap (λ (m : ℕ). gathered ahead k (map f (row rule pair j m 0)) (held_visits g)) (sym z) })
 
   -- one turn
-  pub pick_turn : (r : Tops) (i : ℕ) → Picking r i → i < n → (score : ℕ) → scored score (pair j i) ≡ f (pair j i) → (r' : Tops) → r' ≡ tops_of (gathered ahead k (map (scored score) (row rule pair j 1 i)) (held_visits r)) → Picking r' (i + 1)
+  pub pick_turn : (r : Firsts Visit) (i : ℕ) → Picking r i → i < n → (score : ℕ) → scored score (pair j i) ≡ f (pair j i) → (r' : Firsts Visit) → r' ≡ tops_of (gathered ahead k (map (scored score) (row rule pair j 1 i)) (held_visits r)) → Picking r' (i + 1)
   unfolding gathered
   pick_turn r i s h score e r' d =
       let t = gathered ahead k (map (scored score) (row rule pair j 1 i)) (held_visits r) in
-      let is : held_visits r' ≡ t = held_visits_lem t r' d in
+      let l = map (scored score) (row rule pair j 1 i) in
+      let is : held_visits r' ≡ t = held_gathered ahead no_visit k l r r' d in
       record {
-        held = visits_held k t (gathered_short ahead k (map (scored score) (row rule pair j 1 i)) (held_visits r) (omega (arith, s.held.few, s.held.long))) (gathered_sorted ahead ahead_order k (map (scored score) (row rule pair j 1 i)) (held_visits r) s.held.sorted) r' d;
+        held = fair_gathered ahead no_visit k l r r' d ahead_order s.held;
         left = s.left
             ∙ ⊎_elim
             (λ (y : rule j i ≡ true).
@@ -315,9 +275,9 @@ module _ (rule : ℕ → ℕ → Bool) (pair : ℕ → ℕ → Pair) (f : Pair �
             ∙ ap (gathered ahead k (map f (rest rule pair j n (i + 1)))) (sym is);
       }
 
-  pub pick_end : (r : Tops) (i : ℕ) → Picking r i → n ≤ i → r ≡ tops_of (gathered ahead k (map f (row rule pair j n 0)) (held_visits g))
+  pub pick_end : (r : Firsts Visit) (i : ℕ) → Picking r i → n ≤ i → r ≡ tops_of (gathered ahead k (map f (row rule pair j n 0)) (held_visits g))
   unfolding gathered
-  pick_end r i s h = tops_whole k r s.held ∙ ap tops_of (sym (s.left ∙ ap (λ (l : List Pair). gathered ahead k (map f l) (held_visits r)) (chamber_rest_end rule pair j n i h)))
+  pick_end r i s h = firsts_whole ahead no_visit k r s.held ∙ ap tops_of (sym (s.left ∙ ap (λ (l : List Pair). gathered ahead k (map f l) (held_visits r)) (chamber_rest_end rule pair j n i h)))
 
 -- the candidates of a chamber have all its pairs
 pub pick_sure : (big : ℕ) (t : Terms) (P Q : List ℤ) (np mp : ℕ) → Opens P np mp → (j : ℕ) (b : List ℕ) → Covers t.grid P Q j b → (y : ℕ) → y < np → small_for big t (points_of P) (points_of Q) j y ≡ true → kept b y ≡ true
@@ -360,13 +320,8 @@ all_behind k m (v ∷ l) s f e o b =
     ap (gathered ahead k l) (ranked_stays ahead k v s no_visit m f e ahead_order o (b v (mathlib.Core.List.Memᴰ.head refl)))
     ∙ all_behind k m l s f e o (λ w n. b w (mathlib.Core.List.Memᴰ.tail n))
 
-member_in : {A : Type 0} (z : A) (l : List A) (i : ℕ) → i < length l → Memᴰ (get_or l i z) l
-member_in z [] i h = absurd (omega arith)
-member_in z (x ∷ l) zero h = mathlib.Core.List.Memᴰ.head refl
-member_in z (x ∷ l) (suc i) h = mathlib.Core.List.Memᴰ.tail (member_in z l i (omega arith))
-
 module _ (big : ℕ) (a : Terms) (o : List ℕ) (P Q : List ℤ) (np mp nq mq : ℕ) (op : Opens P np mp) (oq : Opens Q nq mq) (li : Listed a) (ps qs : List ℕ) (sp : Scored ps np) (sq : Scored qs nq) (j : ℕ) (j_in : j < nq)
-    (k : ℕ) (g : Tops) (h : HeldVisits k g) where
+    (k : ℕ) (g : Firsts Visit) (h : HeldVisits k g) where
   abbrev listed : ℕ → ℕ → Bool
   listed = listed_to big a o (points_of P) (points_of Q)
 
@@ -380,7 +335,7 @@ module _ (big : ℕ) (a : Terms) (o : List ℕ) (P Q : List ℤ) (np mp nq mq : 
   pub next_other : (m : Bool) → m ≡ mine a.contractor o j → not m ≡ true → g ≡ tops_of (gathered ahead k (map visit (row listed couple j np 0)) (held_visits g))
   unfolding gathered
   next_other m e n =
-      tops_whole k g h
+      firsts_whole ahead no_visit k g h
       ∙ ap (λ (l : List Pair). tops_of (gathered ahead k (map visit l) (held_visits g))) (sym (row_empty listed couple j np 0 (λ x. listed_not big a li.all o (points_of P) (points_of Q) j (failed e n) x)))
 
   module _ (own : ℕ) (is : own ≡ get_or qs j 0) where
@@ -392,7 +347,7 @@ module _ (big : ℕ) (a : Terms) (o : List ℕ) (P Q : List ℤ) (np mp nq mq : 
     visit_is x = λ t. record { pair = couple j x; score = own_is t + score_of (points_of P) ps (id_at (points_of P) x) }
 
     -- gone through
-    pub next_done : (m : Bool) → m ≡ mine a.contractor o j → not m ≡ false → (r : Tops) → r ≡ tops_of (gathered ahead k (map (with_score (points_of P) ps own) (row (small_for big a (points_of P) (points_of Q)) couple j np 0)) (held_visits g)) → r ≡ tops_of (gathered ahead k (map visit (row listed couple j np 0)) (held_visits g))
+    pub next_done : (m : Bool) → m ≡ mine a.contractor o j → not m ≡ false → (r : Firsts Visit) → r ≡ tops_of (gathered ahead k (map (with_score (points_of P) ps own) (row (small_for big a (points_of P) (points_of Q)) couple j np 0)) (held_visits g)) → r ≡ tops_of (gathered ahead k (map visit (row listed couple j np 0)) (held_visits g))
     next_done m e n r d =
         d ∙ ap (λ (l : List Visit). tops_of (gathered ahead k l (held_visits g)))
         (row_map (small_for big a (points_of P) (points_of Q)) couple (with_score (points_of P) ps own) visit j np 0 visit_is
@@ -406,10 +361,10 @@ module _ (big : ℕ) (a : Terms) (o : List ℕ) (P Q : List ℤ) (np mp nq mq : 
         let m : k ≡ suc (k - 1) = omega arith in
         let s = held_visits g in
         let last = get_or s (k - 1) no_visit in
-        let at : get_or g.rows (k - 1) no_visit ≡ last = ranked_last ahead no_visit k some k-most g.rows g.count h no_visit full in
+        let at = last_in_held ahead no_visit k some k-most g h full in
         let many : length s ≡ suc (k - 1) = omega (arith, h.long, h.few) in
-        let id : last.pair.q < id_at (points_of Q) j = past.below last (member_in no_visit s (k - 1) (omega arith)) in
-        let score : most ≤ last.score = omega (arith, late.lower f, ap (λ (x : Visit). x.score) at) in
+        let id : last.pair.q < id_at (points_of Q) j = past.below last at.1 in
+        let score : most ≤ last.score = omega (arith, late.lower f, ap (λ (x : Visit). x.score) at.0) in
         let behind : (v : Visit) → Memᴰ v (map visit (row listed couple j np 0)) → ahead v last ≡ false = λ v n.
         let z = map_only visit v (row listed couple j np 0) n in
         let y = row_places listed couple j np 0 z.0 z.1 in
@@ -417,39 +372,42 @@ module _ (big : ℕ) (a : Terms) (o : List ℕ) (P Q : List ℤ) (np mp nq mq : 
         let in_p : y.0 < np = omega (arith, y.1) in
         let low : score_of (points_of P) ps (id_at (points_of P) y.0) ≤ top = omega (arith, score_of_lem P np mp op ps sp y.0 in_p, gr.most y.0 (omega (arith, sp.long))) in
         subst (λ (u : Visit). ahead u last ≡ false) (sym is_at) (not_ahead (with_score (points_of P) ps own (couple j y.0)) last (omega arith) id) in
-        tops_whole k g h ∙ ap tops_of (sym (all_behind k (k - 1) (map visit (row listed couple j np 0)) s many m h.sorted behind))
+        firsts_whole ahead no_visit k g h ∙ ap tops_of (sym (all_behind k (k - 1) (map visit (row listed couple j np 0)) s many m h.sorted behind))
 
 -- ---- the loop over the chambers
 
 module _ (rule : ℕ → ℕ → Bool) (pair : ℕ → ℕ → Pair) (f : Pair → Visit) (same : (v : Pair) → (f v).pair ≡ v) (qid : ℕ → ℕ) (named : (j i : ℕ) → (pair j i).q ≡ qid j) (k np nq : ℕ) where
-  pub record Visiting (g : Tops) (j : ℕ) : Type 0 where
+  pub record Visiting (g : Firsts Visit) (j : ℕ) : Type 0 where
     pub upto : j ≤ nq
     pub held : HeldVisits k g
     pub left : first_by ahead k (map f (list_by rule pair np nq)) ≡ gathered ahead k (map f (rows rule pair np (nq - j) j)) (held_visits g)
     pub passed : (v : Visit) → Memᴰ v (held_visits g) → (x : ℕ) × (x < j) × (v.pair.q ≡ qid x)
 
-  pub visit_start : ascends start (list_by rule pair np nq) ≡ true → Visiting (tops_of []) 0
+  pub visit_start : ascends start (list_by rule pair np nq) ≡ true → (g : Firsts Visit) → g ≡ tops_of [] → Visiting g 0
   unfolding Sorted list_by
-  visit_start asc =
+  visit_start asc g e =
+      let none : held_visits g ≡ [] = held_is ahead no_visit [] g e in
       let all : nq - 0 ≡ nq = omega arith in
       record {
         upto = omega arith;
-        held = held_of ahead no_visit k [] (omega arith) tt;
-        left = sym (gathered_first ahead ahead_order k (map f (rows rule pair np nq 0)) (visits_apart f same start (rows rule pair np nq 0) asc)) ∙ ap (λ (m : ℕ). gathered ahead k (map f (rows rule pair np m 0)) []) (sym all);
-        passed = λ v m. absurd (mathlib.Core.List.Memᴰ.not-nil m);
+        held = firsts_held ahead no_visit k [] (omega arith) tt g e;
+        left = sym (gathered_first ahead ahead_order k (map f (rows rule pair np nq 0)) (visits_apart f same start (rows rule pair np nq 0) asc))
+            ∙ ap (λ (m : ℕ). gathered ahead k (map f (rows rule pair np m 0)) []) (sym all)
+            ∙ ap (gathered ahead k (map f (rows rule pair np (nq - 0) 0))) (sym none);
+        passed = λ v m. absurd (mathlib.Core.List.Memᴰ.not-nil (subst (Memᴰ v) none m));
       }
 
-  module _ (g : Tops) (j : ℕ) (s : Visiting g j) (h : j < nq) where
+  module _ (g : Firsts Visit) (j : ℕ) (s : Visiting g j) (h : j < nq) where
     pub visit_past : ((x y : ℕ) → x < y → y < nq → qid x < qid y) → Past (qid j) (held_visits g)
     visit_past rises = record { below = λ v m. let z = s.passed v m in omega (arith, z.2, rises z.0 j z.1 h) }
 
-    pub visit_turn : (r : Tops) → r ≡ tops_of (gathered ahead k (map f (row rule pair j np 0)) (held_visits g)) → Visiting r (j + 1)
+    pub visit_turn : (r : Firsts Visit) → r ≡ tops_of (gathered ahead k (map f (row rule pair j np 0)) (held_visits g)) → Visiting r (j + 1)
     visit_turn r e =
         let t = gathered ahead k (map f (row rule pair j np 0)) (held_visits g) in
-        let is : held_visits r ≡ t = held_visits_lem t r e in
+        let is : held_visits r ≡ t = held_gathered ahead no_visit k (map f (row rule pair j np 0)) g r e in
         record {
           upto = omega arith;
-          held = visits_held k t (gathered_short ahead k (map f (row rule pair j np 0)) (held_visits g) (omega (arith, s.held.few, s.held.long))) (gathered_sorted ahead ahead_order k (map f (row rule pair j np 0)) (held_visits g) s.held.sorted) r e;
+          held = fair_gathered ahead no_visit k (map f (row rule pair j np 0)) g r e ahead_order s.held;
           left = s.left
               ∙ ap (λ (l : List Pair). gathered ahead k (map f l) (held_visits g)) (rows_next rule pair np nq j h)
               ∙ ap (λ (l : List Visit). gathered ahead k l (held_visits g)) (map_two f (row rule pair j np 0) (rows rule pair np (nq - (j + 1)) (j + 1)))
@@ -465,10 +423,10 @@ module _ (rule : ℕ → ℕ → Bool) (pair : ℕ → ℕ → Pair) (f : Pair �
               (gathered_only ahead k (map f (row rule pair j np 0)) (held_visits g) v (subst (Memᴰ v) is m));
         }
 
-  pub visit_done : (g : Tops) (j : ℕ) → Visiting g j → nq ≤ j → g ≡ tops_of (first_by ahead k (map f (list_by rule pair np nq)))
+  pub visit_done : (g : Firsts Visit) (j : ℕ) → Visiting g j → nq ≤ j → g ≡ tops_of (first_by ahead k (map f (list_by rule pair np nq)))
   unfolding gathered
   visit_done g j s h =
-      tops_whole k g s.held ∙ ap tops_of (sym (s.left ∙ ap (λ (l : List Pair). gathered ahead k (map f l) (held_visits g)) (rows_end rule pair np nq j h)))
+      firsts_whole ahead no_visit k g s.held ∙ ap tops_of (sym (s.left ∙ ap (λ (l : List Pair). gathered ahead k (map f l) (held_visits g)) (rows_end rule pair np nq j h)))
 
 -- of two sheets
 module _ (big : ℕ) (a : Terms) (o : List ℕ) (P Q : List ℤ) (np mp nq mq : ℕ) (op : Opens P np mp) (oq : Opens Q nq mq) where

@@ -1,6 +1,6 @@
 -- The ranks held, as the code has them. No promise of an open call cites this.
-use Rattle.std.specs.Prelude.{◌≡◌, Bool, true, ℕ, suc, ◌-◌, ◌≤◌, ◌<◌, ℤ, length, take, drop, get_or}
-use mathlib.Core.List.{List, ◌++◌, Memᴰ}
+use Rattle.std.specs.Prelude.{◌≡◌, Bool, true, ℕ, ◌-◌, ◌≤◌, ◌<◌, ℤ, length, get_or}
+use mathlib.Core.List.{List, Memᴰ}
 use Rattle.plane.specs.Point.{Point, id_at}
 use Rattle.sheet.specs.declared.Size.{Size}
 use Rattle.sheet.specs.Open.{Opens}
@@ -10,31 +10,27 @@ use Rattle.list.specs.RingList.{pair_by}
 use Rattle.list.specs.Terms.{profile_for}
 use Rattle.chamber.specs.Sized.{small_for}
 use Rattle.ranked.specs.declared.Rank.{Rank}
-use Rattle.ranked.specs.declared.ranks.Ranks.{Ranks}
-use Rattle.sorting.specs.Ranking.{put_by, sixteen, Held}
+use Rattle.sorting.specs.declared.Firsts.{Firsts}
+use Rattle.sorting.specs.Firsts.{firsts_of, held_firsts, HeldFirsts}
 use Rattle.ranked.specs.Busiest.{busier, no_rank}
 
 -- those that hold these ranks; the ranks held
-abbrev pub ranks_of : List Rank → Ranks
-ranks_of s = record { rows = sixteen no_rank s; count = length s }
+abbrev pub ranks_of : List Rank → Firsts Rank
+ranks_of s = firsts_of no_rank s
 
-abbrev pub held_ranks : Ranks → List Rank
-held_ranks g = take g.count g.rows
+abbrev pub held_ranks : Firsts Rank → List Rank
+held_ranks g = held_firsts g
 
 -- at most k are held, in order, and the unused ones are zeros
-abbrev pub HeldRanks : ℕ → Ranks → Type 0
-HeldRanks k g = Held busier no_rank k g.rows g.count
-
--- a rank put among the first n
-unfoldable pub rank_put : ℕ → Rank → Ranks → Ranks
-rank_put n v g = record { rows = put_by busier v (take n g.rows) ++ drop (suc n) g.rows; count = suc n }
+abbrev pub HeldRanks : ℕ → Firsts Rank → Type 0
+HeldRanks k g = HeldFirsts busier no_rank k g
 
 -- each rank held has an id below this one
 pub record Below (id : ℕ) (s : List Rank) : Type 0 where
   pub below : (v : Rank) → Memᴰ v s → v.id < id
 
 -- a chamber with so many pairs that it cannot be among the k busiest: where that is said, k are held, and the last of them has at least as many
-pub record Idle (pairs k : ℕ) (g : Ranks) (t : Bool) : Type 0 where
+pub record Idle (pairs k : ℕ) (g : Firsts Rank) (t : Bool) : Type 0 where
   pub full : t ≡ true → k ≤ g.count
   pub fewer : t ≡ true → pairs ≤ (get_or g.rows (k - 1) no_rank).pairs
 

@@ -1,28 +1,24 @@
 -- The visits held, as the code has them. No promise of an open call cites this.
-use Rattle.std.specs.Prelude.{◌≡◌, Bool, true, false, ℕ, suc, ◌+◌, ◌-◌, ◌≤◌, ◌<◌, length, take, drop, get_or}
-use mathlib.Core.List.{List, ◌++◌, Memᴰ}
+use Rattle.std.specs.Prelude.{◌≡◌, Bool, true, false, ℕ, ◌+◌, ◌-◌, ◌≤◌, ◌<◌, length, get_or}
+use mathlib.Core.List.{List, Memᴰ}
 use Rattle.plane.specs.Point.{Point}
 use Rattle.list.specs.declared.Pair.{Pair}
 use Rattle.list.specs.declared.Terms.{Terms}
 use Rattle.ranked.specs.declared.Visit.{Visit}
-use Rattle.ranked.specs.declared.tops.Tops.{Tops}
-use Rattle.sorting.specs.Ranking.{put_by, sixteen, Held}
+use Rattle.sorting.specs.declared.Firsts.{Firsts}
+use Rattle.sorting.specs.Firsts.{firsts_of, held_firsts, HeldFirsts}
 use Rattle.ranked.specs.Urgent.{ahead, no_visit, last_score, score_of}
 
 -- those that hold these visits; the visits held
-abbrev pub tops_of : List Visit → Tops
-tops_of s = record { rows = sixteen no_visit s; count = length s }
+abbrev pub tops_of : List Visit → Firsts Visit
+tops_of s = firsts_of no_visit s
 
-abbrev pub held_visits : Tops → List Visit
-held_visits g = take g.count g.rows
+abbrev pub held_visits : Firsts Visit → List Visit
+held_visits g = held_firsts g
 
 -- at most k are held, in order, and the unused ones are zeros
-abbrev pub HeldVisits : ℕ → Tops → Type 0
-HeldVisits k g = Held ahead no_visit k g.rows g.count
-
--- a visit put among the first n
-unfoldable pub visit_put : ℕ → Visit → Tops → Tops
-visit_put n v g = record { rows = put_by ahead v (take n g.rows) ++ drop (suc n) g.rows; count = suc n }
+abbrev pub HeldVisits : ℕ → Firsts Visit → Type 0
+HeldVisits k g = HeldFirsts ahead no_visit k g
 
 -- each visit held has a chamber with an id below this one
 pub record Past (id : ℕ) (s : List Visit) : Type 0 where
@@ -39,14 +35,9 @@ pub record Greatest (s : List ℕ) (top : ℕ) : Type 0 where
   pub fits : top ≤ last_score
 
 -- a chamber whose pairs have at most this score cannot have one among the k: where that is said, k are held, and the last of them has at least that score
-pub record Late (most k : ℕ) (g : Tops) (t : Bool) : Type 0 where
+pub record Late (most k : ℕ) (g : Firsts Visit) (t : Bool) : Type 0 where
   pub full : t ≡ true → k ≤ g.count
   pub lower : t ≡ true → most ≤ (get_or g.rows (k - 1) no_visit).score
-
--- a visit that does not enter: k are held, and it is not ahead of the last
-pub record Enters (k : ℕ) (v : Visit) (g : Tops) (t : Bool) : Type 0 where
-  pub full : t ≡ false → k ≤ g.count
-  pub behind : t ≡ false → ahead v (get_or g.rows (k - 1) no_visit) ≡ false
 
 -- a pair with a score
 abbrev pub scored : ℕ → Pair → Visit

@@ -1,32 +1,35 @@
 // The chambers, or the pump houses, that are in the most pairs of a list.
 ghost use Rattle.std.specs.Prelude.{◌≡◌, true, ◌≤◌, ◌<◌, length};
 ghost use Rattle.plane.specs.Point.{id_at};
-ghost use Rattle.sheet.specs.Open.{Opens};
 ghost use Rattle.sheet.specs.Places.{points_of};
 ghost use Rattle.bits.specs.Set.{words_for, none, Holds, Numbered, card};
 ghost use Rattle.list.specs.Contractor.{mine};
 ghost use Rattle.join.specs.Sheets.{Alone};
 ghost use Rattle.sorting.specs.Ranking.{first_by, gathered};
-ghost use Rattle.ranked.specs.Busiest.{busier, ranks_from, busy_given, busy_refused, busy_answer, busy_bits, pump_answer, pump_bits};
+ghost use Rattle.ranked.specs.Orders.{busier_order};
+ghost use Rattle.ranked.specs.Busiest.{busier, no_rank, ranks_from, busy_given, busy_refused, busy_answer, busy_bits, pump_answer, pump_bits};
 ghost use Rattle.ranked.specs.Ranks.{ranks_of, held_ranks, HeldRanks, Below, Idle, row_rank};
 
-use crate::ranks::Ranks;
 use crate::{Busy, Question, Rank};
 use list::Terms;
-use sheet::Size;
+use sheet::Sheet;
+use sorting::{Comparison, Firsts};
 
-fn wide(t: u32) -> usize
-    ensures { result ≡ t }
-{
-    t as usize
-}
+// The busiest first: by the number of pairs, then by the lower id.
+#[derive(Clone, Copy)]
+struct ByPairs;
 
-// A number of pairs of one chamber: no sheet has more than 60,000 points.
-fn narrow(k: usize) -> u32
-    requires { k ≤ 60000 }
-    ensures { result ≡ k }
-{
-    k as u32
+impl Comparison<Rank> for ByPairs {
+    ghost unused = { no_rank };
+
+    ghost before = { busier };
+
+    ghost lawful = { busier_order };
+
+    #[tactic(auto, unfolding(crate::specs::Busiest::busier))]
+    fn is_before(self, v: Rank, w: Rank) -> bool {
+        (w.pairs < v.pairs) | ((v.pairs == w.pairs) & (v.id < w.id))
+    }
 }
 
 // Whether no more than so many positions are kept: they are counted until one is too many.
@@ -37,6 +40,7 @@ fn has_at_most(bits: &[u64], most: usize) -> bool
     let n = 64 * bits.len();
     let mut left = most;
     let mut i = seeds::scan::next_from(bits, 0);
+    // Kept: each step goes to the next kept bit: the loop counts no index.
     while i < n {
         if left == 0 {
             return false;
@@ -49,99 +53,88 @@ fn has_at_most(bits: &[u64], most: usize) -> bool
 
 // Whether a chamber cannot be among the k busiest whose candidates are kept on the words: k are held, and the candidates are no more than the last of them has pairs. The chambers come in the
 // order of their ids, so that with as many pairs it would stand behind that one.
-fn is_idle(k: usize, g: Ranks, bits: &[u64]) -> bool
+fn is_idle(k: usize, g: Firsts<Rank>, bits: &[u64]) -> bool
     requires { Numbered bits.now × (1 ≤ k) × (k ≤ 16) }
     ensures { Idle (card bits.now) k g result }
 {
-    if g.count < k {
-        return false;
+    match g.last(k) {
+        Some(last) => has_at_most(bits, last.pairs as usize),
+        None => false,
     }
-    let last = g.rows[k - 1];
-    has_at_most(bits, wide(last.pairs))
 }
 
 // The chamber at position j is ranked, where it is the contractor's and may be among the k busiest. Its candidates are found once: to be counted, and then to be judged.
 fn of_chamber(
-    p: &[i32],
-    hp: Size,
-    q: &[i32],
-    hq: Size,
+    p: Sheet<'_>,
+    q: Sheet<'_>,
     owners: &[u8],
     terms: Terms,
     largest: u64,
     k: usize,
     j: usize,
-    g: Ranks,
+    g: Firsts<Rank>,
     bits: &mut [u64],
-) -> Ranks
-    requires { Opens p.now hp.n hp.m × Opens q.now hq.n hq.m × Alone terms p.now q.now × (j < hq.n) × Holds bits.old hp.n × (1 ≤ k) × (k ≤ 16) × HeldRanks k g × Below (id_at (points_of q.now) j) (held_ranks g) }
-    ensures { result ≡ ranks_of (gathered busier k (ranks_from (mine terms.contractor owners.now) (row_rank largest terms (points_of p.now) (points_of q.now)) 1 j) (held_ranks g)) }
+) -> Firsts<Rank>
+    requires { Alone terms p.words.now q.words.now × (j < q.n) × Holds bits.old p.n × (1 ≤ k) × (k ≤ 16) × HeldRanks k g × Below (id_at (points_of q.words.now) j) (held_ranks g) }
+    ensures { result ≡ ranks_of (gathered busier k (ranks_from (mine terms.contractor owners.now) (row_rank largest terms (points_of p.entry.words.now) (points_of q.entry.words.now)) 1 j) (held_ranks g)) }
 {
     if !list::is_mine(owners, terms.contractor, j) {
         return g;
     }
-    seeds::candidates(p, hp, q, hq, j, bits, terms.grid);
+    seeds::candidates(p, q, j, bits, terms.grid);
     if is_idle(k, g, bits) {
         return g;
     }
-    let found = chamber::keep_pairs(p, hp, q, hq, terms, largest, j, bits);
+    let found = chamber::keep_pairs(p, q, terms, largest, j, bits);
+    // no sheet has more than 60,000 points
     let v = Rank {
-        id: sheet::reads::id_at(q, hq.n, hq.m, j),
-        pairs: narrow(found),
+        id: q.id_at(j),
+        pairs: found as u32,
     };
-    crate::ranks::offered(g, k, v)
+    g.offered(k, v, ByPairs)
 }
 
 // The k busiest of all chambers, one after the other.
 fn of_all(
-    p: &[i32],
-    hp: Size,
-    q: &[i32],
-    hq: Size,
+    p: Sheet<'_>,
+    q: Sheet<'_>,
     owners: &[u8],
     terms: Terms,
     largest: u64,
     k: usize,
     bits: &mut [u64],
-) -> Ranks
-    requires { Opens p.now hp.n hp.m × Opens q.now hq.n hq.m × Alone terms p.now q.now × Holds bits.old hp.n × (1 ≤ k) × (k ≤ 16) }
-    ensures { result ≡ ranks_of (first_by busier k (ranks_from (mine terms.contractor owners.now) (row_rank largest terms (points_of p.now) (points_of q.now)) hq.n 0)) }
+) -> Firsts<Rank>
+    requires { Alone terms p.words.now q.words.now × Holds bits.old p.n × (1 ≤ k) × (k ≤ 16) }
+    ensures { result ≡ ranks_of (first_by busier k (ranks_from (mine terms.contractor owners.now) (row_rank largest terms (points_of p.entry.words.now) (points_of q.entry.words.now)) q.entry.n 0)) }
 {
-    let n = hq.n;
-    let mut g = Ranks {
-        rows: [Rank { id: 0, pairs: 0 }; 16],
-        count: 0,
-    };
-    let mut j: usize = 0;
-    while j < n {
-        g = of_chamber(p, hp, q, hq, owners, terms, largest, k, j, g, bits);
-        j += 1;
+    let n = q.n;
+    let mut g = sorting::Firsts::new(Rank { id: 0, pairs: 0 });
+    for j in 0..n {
+        g = of_chamber(p, q, owners, terms, largest, k, j, g, bits);
     }
     g
 }
 
 // The answer for sheets that open. The words lent are as many as are needed, and zeros after it.
 fn given(
-    p: &[i32],
-    hp: Size,
-    q: &[i32],
-    hq: Size,
+    p: Sheet<'_>,
+    q: Sheet<'_>,
     owners: &[u8],
     terms: Terms,
     largest: u64,
     k: usize,
     bits: &mut [u64],
 ) -> Busy
-    requires { Opens p.now hp.n hp.m × Opens q.now hq.n hq.m × Alone terms p.now q.now × (length bits.old ≡ words_for hp.n) × (1 ≤ k) × (k ≤ 16) }
-    ensures { (result ≡ busy_given (first_by busier k (ranks_from (mine terms.contractor owners.now) (row_rank largest terms (points_of p.now) (points_of q.now)) hq.n 0))) × (bits.new ≡ none (length bits.old)) }
+    requires { Alone terms p.words.now q.words.now × (length bits.old ≡ words_for p.n) × (1 ≤ k) × (k ≤ 16) }
+    ensures { (result ≡ busy_given (first_by busier k (ranks_from (mine terms.contractor owners.now) (row_rank largest terms (points_of p.entry.words.now) (points_of q.entry.words.now)) q.entry.n 0))) × (bits.new ≡ none (length bits.old)) }
 {
-    let g = of_all(p, hp, q, hq, owners, terms, largest, k, bits);
+    let g = of_all(p, q, owners, terms, largest, k, bits);
     bits::clear(bits);
     let rows = g.rows;
     Busy {
         number: 0,
         count: g.count,
-        rows: rows,
+        rows,
     }
 }
 
@@ -150,7 +143,7 @@ fn refused(number: u32) -> Busy
     ensures { result ≡ busy_refused number }
 {
     Busy {
-        number: number,
+        number,
         count: 0,
         rows: [Rank { id: 0, pairs: 0 }; 16],
     }
@@ -167,9 +160,17 @@ pub fn busiest(p: &[i32], q: &[i32], owners: &[u8], asked: Question, bits: &mut 
     if c.number != 0 {
         return refused(c.number);
     }
-    let hp = c.hp;
-    let hq = c.hq;
-    let w = bits::words_for(hp.n);
+    let ps = Sheet {
+        words: p,
+        n: c.hp.n,
+        m: c.hp.m,
+    };
+    let qs = Sheet {
+        words: q,
+        n: c.hq.n,
+        m: c.hq.m,
+    };
+    let w = bits::words_for(ps.n);
     if bits.len() < w {
         return refused(24);
     }
@@ -180,10 +181,8 @@ pub fn busiest(p: &[i32], q: &[i32], owners: &[u8], asked: Question, bits: &mut 
         grid: asked.grid,
     };
     given(
-        p,
-        hp,
-        q,
-        hq,
+        ps,
+        qs,
         owners,
         terms,
         asked.largest,
@@ -206,18 +205,26 @@ pub fn busiest_pumps(
     ensures { (result ≡ pump_answer p.now q.now k largest grid (length bits.old)) × (bits.new ≡ pump_bits p.now q.now k largest grid bits.old) }
 {
     let asked = Question {
-        k: k,
-        largest: largest,
+        k,
+        largest,
         contractor: 2,
-        grid: grid,
+        grid,
     };
     let c = crate::check::checked(p, q, b"", asked);
     if c.number != 0 {
         return refused(c.number);
     }
-    let hp = c.hp;
-    let hq = c.hq;
-    let w = bits::words_for(hq.n);
+    let ps = Sheet {
+        words: p,
+        n: c.hp.n,
+        m: c.hp.m,
+    };
+    let qs = Sheet {
+        words: q,
+        n: c.hq.n,
+        m: c.hq.m,
+    };
+    let w = bits::words_for(qs.n);
     if bits.len() < w {
         return refused(24);
     }
@@ -225,7 +232,7 @@ pub fn busiest_pumps(
         threshold: 0,
         contractor: 2,
         own: false,
-        grid: grid,
+        grid,
     };
-    given(q, hq, p, hp, b"", terms, largest, k, &mut bits[..w])
+    given(qs, ps, b"", terms, largest, k, &mut bits[..w])
 }

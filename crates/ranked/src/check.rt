@@ -62,7 +62,7 @@ fn shut(number: u32) -> Passed
     ensures { result.number ≡ number }
 {
     Passed {
-        number: number,
+        number,
         hp: Size { n: 0, m: 0 },
         hq: Size { n: 0, m: 0 },
     }

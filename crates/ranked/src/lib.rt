@@ -3,15 +3,13 @@
 
 pub mod busiest;
 mod check;
-mod ranks;
-mod tops;
 pub mod visits;
 
 use list::Pair;
 
 // What is asked for: how many, of the list to the largest size, of a contractor's chambers (2: of all), of a profile.
 #[repr(C)]
-#[derive(Clone, Copy)]
+#[derive(Clone, Copy, Debug, PartialEq, Eq)]
 pub struct Question {
     pub k: usize,
     pub largest: u64,
@@ -21,15 +19,16 @@ pub struct Question {
 
 // A chamber or a pump house by its id, and how many pairs of the list it is in.
 #[repr(C)]
-#[derive(Clone, Copy)]
+#[derive(Clone, Copy, Debug, PartialEq, Eq)]
 pub struct Rank {
     pub id: u32,
     pub pairs: u32,
 }
 
 // What the calls for the busiest answer: 0, how many rows and the rows, the unused ones zeros; or the number of refusal and zeros.
+// Kept: the C interface; `ring_busiest` and `ring_busiest_pumps` of ffi hand it to C as it stands.
 #[repr(C)]
-#[derive(Clone, Copy)]
+#[derive(Clone, Copy, Debug, PartialEq, Eq)]
 pub struct Busy {
     pub number: u32,
     pub count: usize,
@@ -38,15 +37,16 @@ pub struct Busy {
 
 // A pair of the list, and the sum of the scores of its two ends.
 #[repr(C)]
-#[derive(Clone, Copy)]
+#[derive(Clone, Copy, Debug, PartialEq, Eq)]
 pub struct Visit {
     pub pair: Pair,
     pub score: u64,
 }
 
 // What the call for the most urgent visits answers: 0, how many rows and the rows, the unused ones zeros; or the number of refusal and zeros.
+// Kept: the C interface; `ring_urgent` of ffi hands it to C as it stands.
 #[repr(C)]
-#[derive(Clone, Copy)]
+#[derive(Clone, Copy, Debug, PartialEq, Eq)]
 pub struct Urgent {
     pub number: u32,
     pub count: usize,

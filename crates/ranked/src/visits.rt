@@ -1,7 +1,6 @@
 // The visits of a list with the highest sum of scores.
-ghost use Rattle.std.specs.Prelude.{◌≡◌, false, [], ◌∷◌, map, ◌≤◌, ◌<◌, length};
+ghost use Rattle.std.specs.Prelude.{◌≡◌, ◌↔◌, false, [], ◌∷◌, map, ◌≤◌, ◌<◌, length, IsTrue, EachIndex, slice_index};
 ghost use Rattle.plane.specs.Point.{id_at};
-ghost use Rattle.sheet.specs.Open.{Opens};
 ghost use Rattle.sheet.specs.Places.{points_of};
 ghost use Rattle.bits.specs.Set.{words_for, none, Holds};
 ghost use Rattle.list.specs.Rows.{row};
@@ -11,35 +10,45 @@ ghost use Rattle.chamber.specs.Sized.{small_for, listed_to, list_to};
 ghost use Rattle.words.specs.First.{first};
 ghost use Rattle.ring.specs.Lent.{bits_no};
 ghost use Rattle.sorting.specs.Ranking.{first_by, gathered};
-ghost use Rattle.ranked.specs.Urgent.{ahead, scores_ok, scores_no, visit_of, urgent_given, urgent_refused, urgent_answer, urgent_bits};
-ghost use Rattle.ranked.specs.Visits.{tops_of, held_visits, HeldVisits, Past, Scored, Greatest, Listed, scored, with_score};
+ghost use Rattle.ranked.specs.Orders.{ahead_order};
+ghost use Rattle.ranked.specs.Urgent.{ahead, no_visit, scores_ok, scores_no, visit_of, urgent_given, urgent_refused, urgent_answer, urgent_bits};
+ghost use Rattle.ranked.specs.Visits.{tops_of, held_visits, HeldVisits, Past, Scored, Greatest, Late, Listed, scored, with_score};
 
-use crate::tops::Tops;
 use crate::{Question, Urgent, Visit};
 use list::{Pair, Terms};
-use sheet::Size;
+use sheet::Sheet;
+use sorting::{Comparison, Firsts};
 
-fn wide(x: u32) -> u64
-    ensures { result ≡ x }
+// The most urgent first: by the score, then q id, then p id.
+#[derive(Clone, Copy)]
+struct ByScore;
+
+impl Comparison<Visit> for ByScore {
+    ghost unused = { no_visit };
+
+    ghost before = { ahead };
+
+    ghost lawful = { ahead_order };
+
+    #[tactic(auto, unfolding(crate::specs::Urgent::ahead))]
+    fn is_before(self, v: Visit, w: Visit) -> bool {
+        let later = list::is_after(list::key_of(v.pair), list::key_of(w.pair));
+        (w.score < v.score) | ((v.score == w.score) & later)
+    }
+}
+
+// Whether each score is one of 0 to 1,000,000,000.
+fn are_scores(scores: &[u32]) -> bool
+    ensures { IsTrue result ↔ EachIndex scores.now (λ i. slice_index scores.now i ≤ 1000000000) }
 {
-    x as u64
+    scores.iter().all(|x| *x <= 1_000_000_000)
 }
 
 // Whether the scores are one of 0 to 1,000,000,000 for each of n points.
 fn scores_ok(scores: &[u32], n: usize) -> bool
     ensures { result ≡ scores_ok scores.now n }
 {
-    if scores.len() != n {
-        return false;
-    }
-    let mut i: usize = 0;
-    while i < n {
-        if scores[i] > 1_000_000_000 {
-            return false;
-        }
-        i += 1;
-    }
-    true
+    scores.len() == n && are_scores(scores)
 }
 
 // The number for scores that are not, or 0.
@@ -52,94 +61,89 @@ fn scores_no(number: u32, scores: &[u32], n: usize) -> u32
     0
 }
 
-// The greatest score.
-fn greatest(scores: &[u32], n: usize) -> u32
-    requires { Scored scores.now n }
+// The greatest score, 0 where there is none.
+fn greatest(scores: &[u32]) -> u32
+    requires { Scored scores.now (length scores.now) }
     ensures { Greatest scores.now result }
 {
-    let mut top: u32 = 0;
-    let mut i: usize = 0;
-    while i < n {
-        let x = scores[i];
-        if top < x {
-            top = x;
-        }
-        i += 1;
+    let mut top = 0;
+    for x in scores {
+        top = top.max(*x);
     }
     top
 }
 
 // The pair of position j of Q and position i of P, with its score, is offered where it is one of the list. One that would not be among the k is not ring-walked.
 fn of_pair(
-    p: &[i32],
-    hp: Size,
-    q: &[i32],
-    hq: Size,
+    p: Sheet<'_>,
+    q: Sheet<'_>,
     terms: Terms,
     largest: u64,
     k: usize,
     j: usize,
     i: usize,
     score: u64,
-    g: Tops,
-) -> Tops
-    requires { Opens p.now hp.n hp.m × Opens q.now hq.n hq.m × (terms.own ≡ false) × (j < hq.n) × (i < hp.n) × (1 ≤ k) × (k ≤ 16) × HeldVisits k g }
-    ensures { result ≡ tops_of (gathered ahead k (map (scored score) (row (small_for largest terms (points_of p.now) (points_of q.now)) (pair_by (profile_for terms) (points_of p.now) (points_of q.now)) j 1 i)) (held_visits g)) }
+    g: Firsts<Visit>,
+) -> Firsts<Visit>
+    requires { (terms.own ≡ false) × (j < q.n) × (i < p.n) × (1 ≤ k) × (k ≤ 16) × HeldVisits k g }
+    ensures { result ≡ tops_of (gathered ahead k (map (scored score) (row (small_for largest terms (points_of p.entry.words.now) (points_of q.entry.words.now)) (pair_by (profile_for terms) (points_of p.entry.words.now) (points_of q.entry.words.now)) j 1 i)) (held_visits g)) }
 {
-    let pair = walk::pair::pair_by(p, hp, q, hq, j, i, terms.grid);
+    let pair = walk::pair::pair_by(p, q, j, i, terms.grid);
     if largest < pair.size {
         return g;
     }
-    let v = Visit {
-        pair: pair,
-        score: score,
-    };
-    if !crate::tops::enters(g, k, v) {
+    let v = Visit { pair, score };
+    if !g.enters(k, v, ByScore) {
         return g;
     }
-    let x = walk::ring::pair_walk_by(p, hp, q, hq, j, i, terms.grid);
+    let x = walk::ring::pair_walk_by(p, q, j, i, terms.grid);
     if !walk::clear_after(x) {
         return g;
     }
-    crate::tops::taken(g, k, v)
+    g.offered(k, v, ByScore)
 }
 
 // The pairs of the chamber at position j, which has this score, one candidate after the other.
 fn of_chamber(
-    p: &[i32],
-    hp: Size,
-    q: &[i32],
-    hq: Size,
+    p: Sheet<'_>,
+    q: Sheet<'_>,
     p_scores: &[u32],
     terms: Terms,
     largest: u64,
     k: usize,
     j: usize,
     own: u64,
-    g: Tops,
+    g: Firsts<Visit>,
     bits: &mut [u64],
-) -> Tops
-    requires { Opens p.now hp.n hp.m × Opens q.now hq.n hq.m × (terms.own ≡ false) × (j < hq.n) × Holds bits.old hp.n × Scored p_scores.now hp.n × (own ≤ 1000000000) × (1 ≤ k) × (k ≤ 16) × HeldVisits k g }
-    ensures { result ≡ tops_of (gathered ahead k (map (with_score (points_of p.now) p_scores.now own) (row (small_for largest terms (points_of p.now) (points_of q.now)) (pair_by (profile_for terms) (points_of p.now) (points_of q.now)) j hp.n 0)) (held_visits g)) }
+) -> Firsts<Visit>
+    requires { (terms.own ≡ false) × (j < q.n) × Holds bits.old p.n × Scored p_scores.now p.n × (own ≤ 1000000000) × (1 ≤ k) × (k ≤ 16) × HeldVisits k g }
+    ensures { result ≡ tops_of (gathered ahead k (map (with_score (points_of p.entry.words.now) p_scores.now own) (row (small_for largest terms (points_of p.entry.words.now) (points_of q.entry.words.now)) (pair_by (profile_for terms) (points_of p.entry.words.now) (points_of q.entry.words.now)) j p.entry.n 0)) (held_visits g)) }
 {
-    let n = hp.n;
-    seeds::candidates(p, hp, q, hq, j, bits, terms.grid);
+    let n = p.n;
+    seeds::candidates(p, q, j, bits, terms.grid);
     let mut r = g;
     let mut i = bits::next_from(bits, 0);
+    // Kept: each step goes to the next kept bit: the loop counts no index.
     while i < n {
-        let score = own + wide(p_scores[i]);
-        r = of_pair(p, hp, q, hq, terms, largest, k, j, i, score, r);
+        let score = own + u64::from(p_scores[i]);
+        r = of_pair(p, q, terms, largest, k, j, i, score, r);
         i = bits::next_from(bits, i + 1);
     }
     r
 }
 
+// Whether no visit of a later chamber with at most this score would be among the k.
+fn is_late(g: Firsts<Visit>, k: usize, most: u64) -> bool
+    requires { (1 ≤ k) × (k ≤ 16) }
+    ensures { Late most k g result }
+{
+    g.last(k).is_some_and(|last| most <= last.score)
+}
+
 // The chamber at position j: where it is the contractor's, and a pair of it may be among the k.
 fn of_next(
-    p: &[i32],
-    hp: Size,
-    q: &[i32],
-    hq: Size,
+    p: Sheet<'_>,
+    q: Sheet<'_>,
     owners: &[u8],
     p_scores: &[u32],
     q_scores: &[u32],
@@ -148,28 +152,26 @@ fn of_next(
     k: usize,
     top: u32,
     j: usize,
-    g: Tops,
+    g: Firsts<Visit>,
     bits: &mut [u64],
-) -> Tops
-    requires { Opens p.now hp.n hp.m × Opens q.now hq.n hq.m × Listed terms × (j < hq.n) × Holds bits.old hp.n × Scored p_scores.now hp.n × Scored q_scores.now hq.n × Greatest p_scores.now top × (1 ≤ k) × (k ≤ 16) × HeldVisits k g × Past (id_at (points_of q.now) j) (held_visits g) }
-    ensures { result ≡ tops_of (gathered ahead k (map (visit_of (points_of p.now) (points_of q.now) p_scores.now q_scores.now) (row (listed_to largest terms owners.now (points_of p.now) (points_of q.now)) (pair_by (profile_for terms) (points_of p.now) (points_of q.now)) j hp.n 0)) (held_visits g)) }
+) -> Firsts<Visit>
+    requires { Listed terms × (j < q.n) × Holds bits.old p.n × Scored p_scores.now p.n × Scored q_scores.now q.n × Greatest p_scores.now top × (1 ≤ k) × (k ≤ 16) × HeldVisits k g × Past (id_at (points_of q.words.now) j) (held_visits g) }
+    ensures { result ≡ tops_of (gathered ahead k (map (visit_of (points_of p.entry.words.now) (points_of q.entry.words.now) p_scores.now q_scores.now) (row (listed_to largest terms owners.now (points_of p.entry.words.now) (points_of q.entry.words.now)) (pair_by (profile_for terms) (points_of p.entry.words.now) (points_of q.entry.words.now)) j p.entry.n 0)) (held_visits g)) }
 {
     if !list::is_mine(owners, terms.contractor, j) {
         return g;
     }
-    let own = wide(q_scores[j]);
-    if crate::tops::is_late(g, k, own + wide(top)) {
+    let own = u64::from(q_scores[j]);
+    if is_late(g, k, own + u64::from(top)) {
         return g;
     }
-    of_chamber(p, hp, q, hq, p_scores, terms, largest, k, j, own, g, bits)
+    of_chamber(p, q, p_scores, terms, largest, k, j, own, g, bits)
 }
 
 // All chambers, one after the other.
 fn of_all(
-    p: &[i32],
-    hp: Size,
-    q: &[i32],
-    hq: Size,
+    p: Sheet<'_>,
+    q: Sheet<'_>,
     owners: &[u8],
     p_scores: &[u32],
     q_scores: &[u32],
@@ -177,39 +179,32 @@ fn of_all(
     largest: u64,
     k: usize,
     bits: &mut [u64],
-) -> Tops
-    requires { Opens p.now hp.n hp.m × Opens q.now hq.n hq.m × Listed terms × Holds bits.old hp.n × Scored p_scores.now hp.n × Scored q_scores.now hq.n × (1 ≤ k) × (k ≤ 16) }
-    ensures { result ≡ tops_of (first_by ahead k (map (visit_of (points_of p.now) (points_of q.now) p_scores.now q_scores.now) (list_to largest terms owners.now (points_of p.now) (points_of q.now)))) }
+) -> Firsts<Visit>
+    requires { Listed terms × Holds bits.old p.n × Scored p_scores.now p.n × Scored q_scores.now q.n × (1 ≤ k) × (k ≤ 16) }
+    ensures { result ≡ tops_of (first_by ahead k (map (visit_of (points_of p.entry.words.now) (points_of q.entry.words.now) p_scores.now q_scores.now) (list_to largest terms owners.now (points_of p.entry.words.now) (points_of q.entry.words.now)))) }
 {
-    let n = hq.n;
-    let top = greatest(p_scores, hp.n);
-    let mut g = Tops {
-        rows: [Visit {
-            pair: Pair {
-                q: 0,
-                p: 0,
-                size: 0,
-            },
-            score: 0,
-        }; 16],
-        count: 0,
-    };
-    let mut j: usize = 0;
-    while j < n {
+    let n = q.n;
+    let top = greatest(p_scores);
+    let mut g = sorting::Firsts::new(Visit {
+        pair: Pair {
+            q: 0,
+            p: 0,
+            size: 0,
+        },
+        score: 0,
+    });
+    for j in 0..n {
         g = of_next(
-            p, hp, q, hq, owners, p_scores, q_scores, terms, largest, k, top, j, g, bits,
+            p, q, owners, p_scores, q_scores, terms, largest, k, top, j, g, bits,
         );
-        j += 1;
     }
     g
 }
 
 // The answer for sheets that open. The words lent are as many as are needed, and zeros after it.
 fn given(
-    p: &[i32],
-    hp: Size,
-    q: &[i32],
-    hq: Size,
+    p: Sheet<'_>,
+    q: Sheet<'_>,
     owners: &[u8],
     p_scores: &[u32],
     q_scores: &[u32],
@@ -218,18 +213,16 @@ fn given(
     k: usize,
     bits: &mut [u64],
 ) -> Urgent
-    requires { Opens p.now hp.n hp.m × Opens q.now hq.n hq.m × Listed terms × (length bits.old ≡ words_for hp.n) × Scored p_scores.now hp.n × Scored q_scores.now hq.n × (1 ≤ k) × (k ≤ 16) }
-    ensures { (result ≡ urgent_given (first_by ahead k (map (visit_of (points_of p.now) (points_of q.now) p_scores.now q_scores.now) (list_to largest terms owners.now (points_of p.now) (points_of q.now))))) × (bits.new ≡ none (length bits.old)) }
+    requires { Listed terms × (length bits.old ≡ words_for p.n) × Scored p_scores.now p.n × Scored q_scores.now q.n × (1 ≤ k) × (k ≤ 16) }
+    ensures { (result ≡ urgent_given (first_by ahead k (map (visit_of (points_of p.entry.words.now) (points_of q.entry.words.now) p_scores.now q_scores.now) (list_to largest terms owners.now (points_of p.entry.words.now) (points_of q.entry.words.now))))) × (bits.new ≡ none (length bits.old)) }
 {
-    let g = of_all(
-        p, hp, q, hq, owners, p_scores, q_scores, terms, largest, k, bits,
-    );
+    let g = of_all(p, q, owners, p_scores, q_scores, terms, largest, k, bits);
     bits::clear(bits);
     let rows = g.rows;
     Urgent {
         number: 0,
         count: g.count,
-        rows: rows,
+        rows,
     }
 }
 
@@ -238,7 +231,7 @@ fn refused(number: u32) -> Urgent
     ensures { result ≡ urgent_refused number }
 {
     Urgent {
-        number: number,
+        number,
         count: 0,
         rows: [Visit {
             pair: Pair {
@@ -296,10 +289,18 @@ pub fn urgent(
     if c.number != 0 {
         return refused(c.number);
     }
-    let hp = c.hp;
-    let hq = c.hq;
-    let w = bits::words_for(hp.n);
-    let no = last_no(p_scores, hp.n, q_scores, hq.n, w, bits.len());
+    let ps = Sheet {
+        words: p,
+        n: c.hp.n,
+        m: c.hp.m,
+    };
+    let qs = Sheet {
+        words: q,
+        n: c.hq.n,
+        m: c.hq.m,
+    };
+    let w = bits::words_for(ps.n);
+    let no = last_no(p_scores, ps.n, q_scores, qs.n, w, bits.len());
     if no != 0 {
         return refused(no);
     }
@@ -310,10 +311,8 @@ pub fn urgent(
         grid: asked.grid,
     };
     given(
-        p,
-        hp,
-        q,
-        hq,
+        ps,
+        qs,
         owners,
         p_scores,
         q_scores,

@@ -1,4 +1,5 @@
 -- Wrong answers of the calls on plain slices: the check, the point reader, the ring walk, the position of an id, and slots of an array.
+use Rattle.std.specs.Prelude.{Result, Ok}
 use mathlib.Core.Path.{◌≡◌, refl}
 use mathlib.Core.Bool.{Bool, true, false}
 use mathlib.Core.List.{List}
@@ -26,13 +27,12 @@ use Rattle.walk.specs.RingWalk.{pair_walk_by}
 use Rattle.ring.specs.declared.Asset.{Asset}
 use Rattle.ring.specs.declared.Head.{Head}
 use Rattle.ring.specs.declared.Placed.{Placed}
-use Rattle.ring.specs.declared.Walked.{Walked}
-use Rattle.ring.specs.declared.Walked.TheVariants.{Done}
 use Rattle.ring.specs.Numbers.{position_no, ring_no}
 use Rattle.ring.specs.Answers.{head_of, asset_of, walked_clear, walked}
 use Rattle.ring.specs.Partners.{id_no}
 use Rattle.ring.specs.Position.{place_no, place_given, place_refused, placed}
 use Rattle.refuted.proofs.Cases.{chamber_sheet, no_form}
+use Rattle.walk.specs.declared.Answer.{Answer}
 
 -- ---- the check
 
@@ -73,8 +73,8 @@ position_n_wrong = (refl, refl)
 -- ---- the ring walk
 
 -- A walk over words that are no sheet says that the pair is clear. [W17, N2]
-abbrev refused_clear : List ℤ → List ℤ → ℕ → ℕ → Bool → Walked
-refused_clear P Q j i g = answer (ring_no P Q j i g) (Done (pair_walk_by (profile_of g) P Q j i)) (λ k. Done (record { hit = Clear; opened = 0 }))
+abbrev refused_clear : List ℤ → List ℤ → ℕ → ℕ → Bool → Result Answer ℕ
+refused_clear P Q j i g = answer (ring_no P Q j i g) (Ok (pair_walk_by (profile_of g) P Q j i)) (λ k. Ok (record { hit = Clear; opened = 0 }))
 
 pub refused_clear_wrong : (walked_clear (refused_clear no_form chamber_sheet 0 0 false) ≡ true) × (walked_clear (walked no_form chamber_sheet 0 0 false) ≡ false)
 unfolding walked ring_no answer open_no trailer_no first given eq_z limits_of form1

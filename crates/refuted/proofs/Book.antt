@@ -6,6 +6,7 @@ use Prim.Native.Nat.{ℕ, ◌+◌, ◌-◌}
 use lib.Dec.{eqb, leb, ltb}
 use lib.Seq.{paste}
 use lib.ListN.{length, get_or, replicate}
+use Rattle.std.specs.Prelude.{Result, Ok, Err}
 use Rattle.words.specs.Range.{id_ok, edition_ok}
 use Rattle.words.specs.First.{given, first, answer}
 use Rattle.plane.specs.Profile.{size_ok}
@@ -18,8 +19,6 @@ use Rattle.list.specs.Pairs.{start, none, key_of, follows, ascends}
 use Rattle.list.specs.Pages.{threshold_no, contractor_no, source_no, page_pairs}
 use Rattle.list.specs.Terms.{full, with_t, alone}
 use Rattle.book.specs.declared.Book.{Book}
-use Rattle.book.specs.declared.Begun.{Begun}
-use Rattle.book.specs.declared.Begun.TheVariants as begun
 use Rattle.book.specs.Rules.{begin_no, begun_book, begun_for, last_key, next_no, pair_ok, pairs_ok, same_key, page_bad, take_no_at, take_no, advanced, accepted, refused, decided, taken, taken_slots}
 use Rattle.refuted.proofs.Cases.{to, key}
 
@@ -38,12 +37,12 @@ slots = to 5 1 16 ∷ to 1 1 1 ∷ to 2 2 2 ∷ []
 
 -- ---- begin
 
-abbrev is_shut : Begun → Bool
-is_shut (begun.Open b) = b.closed
-is_shut (begun.Refused n) = false
+abbrev is_shut : Result Book ℕ → Bool
+is_shut (Ok b) = b.closed
+is_shut (Err n) = false
 
 -- A book is begun closed. "A book is begun for two editions with nothing held, open, key (0, 0)." [K1, D5]
-pub begun_closed_wrong : begun_for (source 7 9 full) ≡ begun.Open (book 0 true) → ⊥
+pub begun_closed_wrong : begun_for (source 7 9 full) ≡ Ok (book 0 true) → ⊥
 unfolding begun_for begin_no first given answer begun_book edition_ok threshold_no contractor_no
 begun_closed_wrong e = true≢false (sym (ap is_shut e))
 

@@ -5,6 +5,7 @@ use mathlib.Core.List.{List, [], ◌∷◌, ◌++◌, map}
 use Prim.Native.Nat.{ℕ, ◌-◌}
 use lib.Dec.{eqb, leb, ltb}
 use lib.ListN.{length, take, get_or, set, replicate}
+use Rattle.std.specs.Prelude.{Result, Ok, Err}
 use Rattle.plane.specs.Profile.{size_ok}
 use Rattle.words.specs.Range.{id_ok, edition_ok}
 use Rattle.words.specs.All.{all_b}
@@ -16,10 +17,10 @@ use Rattle.list.specs.Rows.{row, rows, at_least, list_by}
 use Rattle.list.specs.RingList.{unblocked, ring_pair_by}
 use Rattle.list.specs.Terms.{with_t, pair_for, listed_for, list_for}
 use Rattle.book.specs.declared.Book.{Book}
+use Rattle.depot.specs.declared.Receipt.{Receipt}
+use Rattle.depot.specs.declared.Receipt.TheVariants.{Issued, Known}
 use Rattle.depot.specs.declared.Form.{Form}
 use Rattle.depot.specs.declared.Depot.{Depot}
-use Rattle.depot.specs.declared.Outcome.{Outcome}
-use Rattle.depot.specs.declared.Outcome.TheVariants.{Issued, Known, Refused}
 use Rattle.depot.specs.Forms.{form_of, forms_no, forms_of, forms_out}
 use Rattle.depot.specs.Depot.{begun_depot, same_form, key_in, form_ok, store_no_at, judged, is_known, store_no, verdict, stored, stored_slots}
 use Rattle.refuted.proofs.Cases.{to, pumps, chambers}
@@ -138,7 +139,7 @@ unfolding form_ok id_ok edition_ok
 any_contractor_wrong = (refl, refl)
 
 -- A form that lies in a slot past the held ones is known. "`known` for a key it holds". [I5]
-pub past_known_wrong : (key_in two (order 5 2 36) ≡ true) × ((stored (holding 1) two (order 5 2 36)).outcome ≡ Issued)
+pub past_known_wrong : (key_in two (order 5 2 36) ≡ true) × ((stored (holding 1) two (order 5 2 36)).outcome ≡ Ok Issued)
 unfolding stored verdict judged store_no_at is_known key_in same_form form_ok id_ok edition_ok first given answer
 past_known_wrong = (refl, refl)
 
@@ -161,13 +162,13 @@ pub issued_again_wrong : (one_key (issued_again (holding 1) two (order 5 1 16)) 
 unfolding stored_slots verdict judged store_no_at is_known key_in same_form form_ok id_ok edition_ok first given answer
 issued_again_wrong = (refl, refl)
 
-abbrev is_new : Outcome → Bool
-is_new Issued = true
-is_new Known = false
-is_new (Refused n) = false
+abbrev is_new : Result Receipt ℕ → Bool
+is_new (Ok Issued) = true
+is_new (Ok Known) = false
+is_new (Err n) = false
 
 -- A depot that says `known` to all. [I5]
-pub known_to_all_wrong : (stored (holding 0) two (order 5 1 16)).outcome ≡ Known → ⊥
+pub known_to_all_wrong : (stored (holding 0) two (order 5 1 16)).outcome ≡ Ok Known → ⊥
 unfolding stored verdict judged store_no_at is_known key_in same_form form_ok id_ok edition_ok first given answer
 known_to_all_wrong e = true≢false (ap is_new e)
 

@@ -16,8 +16,7 @@ use Rattle.walk.specs.FilterWalk.{Kept, filter_kept}
 use Rattle.walk.proofs.Meaning.{kept_words}
 use Rattle.ring.specs.Lent.{need, bits_no}
 use Rattle.ring.specs.Numbers.{filter_no}
-use Rattle.ring.specs.Answers.{heads_of, filtered_to, unfiltered, kept_for, filtered, filtered_bits}
-use Rattle.ring.specs.declared.Heads.{Heads}
+use Rattle.ring.specs.Answers.{Heads, heads_of, filtered_to, unfiltered, kept_for, filtered, filtered_bits}
 use Rattle.ring.specs.declared.Filtered.{Filtered}
 use Rattle.ring.proofs.NumberLaws.{position_past, ring_position_in}
 use Rattle.ring.proofs.LentLaws.{bits_short, bits_enough, kept_refused, kept_given}

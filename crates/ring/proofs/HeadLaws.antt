@@ -1,5 +1,6 @@
 -- What a check finds of one sheet, and of two: its number is the sheets', and with 0 the sheets open and the counts are theirs.
 -- Assumes nothing.
+use Rattle.std.specs.Prelude.{Result, Ok, Err, IsErrAnd, MatchResult}
 use mathlib.Core.Path.{◌≡◌, refl, sym, ap, subst, ◌∙◌}
 use mathlib.Core.List.{List, [], ◌∷◌}
 use Prim.Native.Nat.{ℕ, ◌≤◌}
@@ -11,9 +12,17 @@ use Rattle.sheet.specs.Layout.{points, nodes}
 use Rattle.sheet.specs.Open.{sheet_no, Opens}
 use Rattle.sheet.proofs.SheetLaws.{sheet_facts, sheet_long}
 use Rattle.ring.specs.Numbers.{sheets_no}
-use Rattle.ring.specs.Answers.{head_of, heads_of}
+use Rattle.ring.specs.Answers.{head_of, Heads, heads_opened, heads_shut, heads_of}
 use Rattle.ring.specs.declared.Head.{Head}
-use Rattle.ring.specs.declared.Heads.{Heads}
+
+-- the number that `?` hands on
+pub handed_on : {T : Type 0} (r : Result T ℕ) (k : ℕ) (P : T → Type 0) (Q : ℕ → Type 0) → IsErrAnd r (λ n. n ≡ k) → Q k → MatchResult r P Q
+handed_on (Ok x) k P Q h q = absurd h
+handed_on (Err n) k P Q h q = subst Q (sym h) q
+
+pub handed_as : {T : Type 0} (r : Result T ℕ) (k : ℕ) → IsErrAnd r (λ n. n ≡ k) → r ≡ Err k
+handed_as (Ok x) k h = absurd h
+handed_as (Err n) k h = ap Err h
 
 -- a sheet has its trailer
 pub long : (w : List ℤ) → sheet_no w ≡ 0 → 6 ≤ length w
@@ -33,6 +42,13 @@ head_found w e = sym (answer_given (found w) shut _ e)
 pub head_shut : (w : List ℤ) (k : ℕ) → sheet_no w ≡ k → (k ≡ 0 → ⊥) → shut k ≡ head_of w
 unfolding head_of
 head_shut w k e ne = sym (answer_refused (found w) shut _ k e ne)
+
+-- the head of a sheet as it opens, and with it the counts
+pub head_opened : (w v : List ℤ) (n m : ℕ) → sheet_no w ≡ 0 → v ≡ w → Opens v n m → record { number = 0; len = length w; n = n; m = m } ≡ head_of w
+head_opened w v n m e f o =
+    let n_is : n ≡ points w = sym o.n_is ∙ ap points f in
+    let m_is : m ≡ nodes w = sym o.m_is ∙ ap nodes f in
+    (λ t. record { number = 0; len = length w; n = n_is t; m = m_is t }) ∙ head_found w e
 
 pub head_number : (w : List ℤ) (h : Head) → h ≡ head_of w → h.number ≡ sheet_no w
 unfolding head_of
@@ -93,6 +109,17 @@ module _ (P Q : List ℤ) (a : Head) (e : a ≡ head_of P) where
         let g = headed P a e z in
         let h = headed Q b f y in
         (λ t. record { number = 0; np = g.n_is t; mp = g.m_is t; nq = h.n_is t; mq = h.m_is t }) ∙ heads_both P Q (second ∙ y)
+
+-- the heads of two sheets as they open one by one
+module _ (P Q : List ℤ) where
+  pub heads_shut_p : (k : ℕ) → k ≡ sheet_no P → (k ≡ 0 → ⊥) → heads_shut k ≡ heads_of P Q
+  heads_shut_p k e ne = heads_p P Q (shut k) (head_shut P k (sym e) ne) ne
+
+  pub heads_shut_q : sheet_no P ≡ 0 → (k : ℕ) → k ≡ sheet_no Q → (k ≡ 0 → ⊥) → heads_shut k ≡ heads_of P Q
+  heads_shut_q o k e ne = heads_q P Q (found P) (head_found P o) refl (shut k) (head_shut Q k (sym e) ne) ne
+
+  pub heads_opened_both : (p q : List ℤ) (np mp nq mq : ℕ) → sheet_no P ≡ 0 → p ≡ P → Opens p np mp → sheet_no Q ≡ 0 → q ≡ Q → Opens q nq mq → heads_opened np mp nq mq ≡ heads_of P Q
+  heads_opened_both p q np mp nq mq a b c d e f = heads_open P Q _ (head_opened P p np mp a b c) refl _ (head_opened Q q nq mq d e f) refl
 
 pub heads_number : (P Q : List ℤ) (h : Heads) → h ≡ heads_of P Q → h.number ≡ sheets_no P Q
 unfolding heads_of

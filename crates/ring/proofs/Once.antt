@@ -1,5 +1,6 @@
 -- One input, one answer: from each promise alone. And the number of each answer.
 -- Assumes nothing.
+use Rattle.std.specs.Prelude.{Result, Ok, Err}
 use mathlib.Core.Path.{◌≡◌, refl, sym, ap, ◌∙◌}
 use mathlib.Core.Bool.{Bool, false}
 use mathlib.Core.List.{List}
@@ -12,12 +13,10 @@ use Rattle.plane.specs.Profile.{profile_of}
 use Rattle.ring.specs.Numbers.{point_no, filter_no, ring_no}
 use Rattle.ring.specs.Answers.{head_of, asset_of, pointed_no, pointed, filtered_to, unfiltered, kept_for, filtered, walked_no, walked_clear, walked}
 use Rattle.ring.specs.declared.Head.{Head}
-use Rattle.ring.specs.declared.Pointed.{Pointed}
-use Rattle.ring.specs.declared.Pointed.TheVariants.{At, Refused as NoPoint}
 use Rattle.ring.specs.declared.Filtered.{Filtered}
-use Rattle.ring.specs.declared.Walked.{Walked}
-use Rattle.ring.specs.declared.Walked.TheVariants.{Done, Refused}
 use Rattle.ring.proofs.RingLaws.{ring_refused}
+use Rattle.ring.specs.declared.Asset.{Asset}
+use Rattle.walk.specs.declared.Answer.{Answer}
 
 pub ring_open_once : (w : List ℤ) (r r' : ℕ) → r ≡ sheet_no w → r' ≡ sheet_no w → r ≡ r'
 ring_open_once w r r' e f = e ∙ sym f
@@ -25,10 +24,10 @@ ring_open_once w r r' e f = e ∙ sym f
 pub ring_head_once : (w : List ℤ) (r r' : Head) → r ≡ head_of w → r' ≡ head_of w → r ≡ r'
 ring_head_once w r r' e f = e ∙ sym f
 
-pub ring_point_once : (w : List ℤ) (i : ℕ) (r r' : Pointed) → r ≡ pointed w i → r' ≡ pointed w i → r ≡ r'
+pub ring_point_once : (w : List ℤ) (i : ℕ) (r r' : Result Asset ℕ) → r ≡ pointed w i → r' ≡ pointed w i → r ≡ r'
 ring_point_once w i r r' e f = e ∙ sym f
 
-pub ring_walk_once : (P Q : List ℤ) (j i : ℕ) (g : Bool) (r r' : Walked) → r ≡ walked P Q j i g → r' ≡ walked P Q j i g → r ≡ r'
+pub ring_walk_once : (P Q : List ℤ) (j i : ℕ) (g : Bool) (r r' : Result Answer ℕ) → r ≡ walked P Q j i g → r' ≡ walked P Q j i g → r ≡ r'
 ring_walk_once P Q j i g r r' e f = e ∙ sym f
 
 pub ring_filter_once : (P Q : List ℤ) (j len : ℕ) (r r' : Filtered) → r ≡ filtered P Q j len → r' ≡ filtered P Q j len → r ≡ r'
@@ -38,11 +37,11 @@ ring_filter_once P Q j len r r' e f = e ∙ sym f
 
 pub ring_point_no : (w : List ℤ) (i : ℕ) → pointed_no (pointed w i) ≡ point_no w i
 unfolding pointed
-ring_point_no w i = answer_number (At (asset_of w i)) NoPoint pointed_no refl (λ k. refl) (point_no w i)
+ring_point_no w i = answer_number (Ok (asset_of w i)) Err pointed_no refl (λ k. refl) (point_no w i)
 
 pub ring_walk_no : (P Q : List ℤ) (j i : ℕ) (g : Bool) → walked_no (walked P Q j i g) ≡ ring_no P Q j i g
 unfolding walked
-ring_walk_no P Q j i g = answer_number (Done (pair_walk_by (profile_of g) P Q j i)) Refused walked_no refl (λ k. refl) (ring_no P Q j i g)
+ring_walk_no P Q j i g = answer_number (Ok (pair_walk_by (profile_of g) P Q j i)) Err walked_no refl (λ k. refl) (ring_no P Q j i g)
 
 -- a refused walk is never clear
 pub refused_not_clear : (P Q : List ℤ) (j i : ℕ) (g : Bool) → (ring_no P Q j i g ≡ 0 → ⊥) → walked_clear (walked P Q j i g) ≡ false

@@ -49,10 +49,9 @@ use Rattle.join.specs.Walks.{Walks}
 use Rattle.join.specs.Sheets.{Alone}
 use Rattle.join.specs.Only.{page_walks}
 use Rattle.join.proofs.Meaning.{points_rise, points_sound, join_page_pairs, join_page_opened, sheet_pages, join_list_by_points}
-use Rattle.ring.specs.declared.Heads.{Heads}
 use Rattle.ring.specs.declared.Paged.{Paged}
 use Rattle.ring.specs.Numbers.{sheets_no, grid_no}
-use Rattle.ring.specs.Answers.{heads_of}
+use Rattle.ring.specs.Answers.{Heads, heads_of}
 use Rattle.ring.specs.Lent.{need, bits_no}
 use Rattle.ring.specs.Page.{key_no, asked_no, request_no, page_no, source_of, page_given, page_refused, terms_of, page_answer, page_bits}
 use Rattle.ring.proofs.LentLaws.{bits_short, bits_enough, wiped_refused, wiped_given}

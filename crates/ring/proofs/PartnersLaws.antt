@@ -30,10 +30,9 @@ use Rattle.sheet.specs.Find.{position_of}
 use Rattle.join.specs.Threshold.{smaller}
 use Rattle.sheet.proofs.FindLaws.{has}
 use Rattle.join.proofs.Meaning.{points_rise}
-use Rattle.ring.specs.declared.Heads.{Heads}
 use Rattle.ring.specs.declared.Partnered.{Partnered}
 use Rattle.ring.specs.Numbers.{sheets_no}
-use Rattle.ring.specs.Answers.{heads_of}
+use Rattle.ring.specs.Answers.{Heads, heads_of}
 use Rattle.ring.specs.Lent.{need, bits_no}
 use Rattle.ring.specs.Partners.{id_no, least_no, partners_no, partners_count, partners_given, partners_refused, partners_answer, partners_bits}
 use Rattle.ring.proofs.LentLaws.{bits_short, bits_enough, wiped_refused, wiped_given}

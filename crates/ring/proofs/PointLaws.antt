@@ -1,5 +1,6 @@
 -- The point reader's answers.
 -- Assumes nothing.
+use Rattle.std.specs.Prelude.{Ok, Err}
 use mathlib.Core.Path.{◌≡◌, sym, ap, ◌∙◌}
 use mathlib.Core.List.{List}
 use Prim.Native.Nat.{ℕ, ◌<◌, ◌≤◌}
@@ -18,33 +19,32 @@ use Rattle.ring.specs.Numbers.{point_no}
 use Rattle.ring.specs.Answers.{head_of, asset_of, pointed}
 use Rattle.ring.specs.declared.Head.{Head}
 use Rattle.ring.specs.declared.Asset.{Asset}
-use Rattle.ring.specs.declared.Pointed.TheVariants.{At, Refused}
 use Rattle.ring.proofs.NumberLaws.{position_past, ring_position_in}
 use Rattle.ring.proofs.HeadLaws.{head_number, headed}
 
-pub point_refused : (w : List ℤ) (i k : ℕ) → point_no w i ≡ k → (k ≡ 0 → ⊥) → Refused k ≡ pointed w i
+pub point_refused : (w : List ℤ) (i k : ℕ) → point_no w i ≡ k → (k ≡ 0 → ⊥) → Err k ≡ pointed w i
 unfolding pointed
-point_refused w i k e ne = sym (answer_refused (At (asset_of w i)) Refused _ k e ne)
+point_refused w i k e ne = sym (answer_refused (Ok (asset_of w i)) Err _ k e ne)
 
-pub point_given : (w : List ℤ) (i : ℕ) (a : Asset) → point_no w i ≡ 0 → a ≡ asset_of w i → At a ≡ pointed w i
+pub point_given : (w : List ℤ) (i : ℕ) (a : Asset) → point_no w i ≡ 0 → a ≡ asset_of w i → Ok a ≡ pointed w i
 unfolding pointed
-point_given w i a e f = ap At f ∙ sym (answer_given (At (asset_of w i)) Refused _ e)
+point_given w i a e f = ap Ok f ∙ sym (answer_given (Ok (asset_of w i)) Err _ e)
 
 -- from what the check found
 module _ (w : List ℤ) (i : ℕ) (h : Head) (e : h ≡ head_of w) where
-  pub point_sheet : (h.number ≡ 0 → ⊥) → Refused h.number ≡ pointed w i
+  pub point_sheet : (h.number ≡ 0 → ⊥) → Err h.number ≡ pointed w i
   unfolding point_no
   point_sheet ne =
       let n : h.number ≡ sheet_no w = head_number w h e in
       point_refused w i h.number (first_stops (sheet_no w) _ (λ z. ne (n ∙ z)) ∙ sym n) ne
 
-  pub point_past : h.number ≡ 0 → h.n ≤ i → Refused 9 ≡ pointed w i
+  pub point_past : h.number ≡ 0 → h.n ≤ i → Err 9 ≡ pointed w i
   unfolding point_no
   point_past z past =
       let o = headed w h e z in
       point_refused w i 9 (first_passes (sheet_no w) _ o.opens ∙ first_last _ ∙ position_past w i (omega (arith, o.n_is))) (λ y. omega arith)
 
-  pub point_read : (a : Asset) → h.number ≡ 0 → i < h.n → a ≡ asset_of w i → At a ≡ pointed w i
+  pub point_read : (a : Asset) → h.number ≡ 0 → i < h.n → a ≡ asset_of w i → Ok a ≡ pointed w i
   unfolding point_no
   point_read a z within is =
       let o = headed w h e z in

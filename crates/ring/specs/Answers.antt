@@ -1,5 +1,5 @@
 -- What the calls answer. "Every refusal gives only its number [..]. An array or number in a refused answer is all zero."
-use Rattle.std.specs.Prelude.{Bool, false, List, ℕ, ℤ, length}
+use Rattle.std.specs.Prelude.{◌≡◌, Bool, false, List, ℕ, ℤ, length, Result, Ok, Err}
 use Rattle.words.specs.Word.{num}
 use Rattle.plane.specs.Profile.{profile_of}
 use Rattle.words.specs.First.{answer}
@@ -13,18 +13,35 @@ use Rattle.bits.specs.Set.{card}
 use Rattle.walk.specs.FilterWalk.{Kept, filter_kept}
 use Rattle.walk.specs.RingWalk.{clear, pair_walk_by}
 use Rattle.ring.specs.declared.Head.{Head}
-use Rattle.ring.specs.declared.Heads.{Heads}
 use Rattle.ring.specs.declared.Asset.{Asset}
-use Rattle.ring.specs.declared.Pointed.{Pointed}
 use Rattle.ring.specs.declared.Filtered.{Filtered}
-use Rattle.ring.specs.declared.Walked.{Walked}
-use Rattle.ring.specs.declared.Walked.TheVariants.{Done, Refused}
-use Rattle.ring.specs.declared.Pointed.TheVariants.{At, Refused as NoPoint}
+use Rattle.walk.specs.declared.Answer.{Answer}
 
 -- of words: 0 with the length and the counts, or the number with zeros [N2, N4]
 unfoldable pub head_of : List ℤ → Head
 head_of w =
     answer (sheet_no w) (record { number = 0; len = length w; n = points w; m = nodes w }) (λ k. record { number = k; len = 0; n = 0; m = 0 })
+
+-- what a check of two sheets finds, P first: 0 and the counts of both, or the number of refusal and zeros
+pub record Heads : Type 0 where
+  pub number : ℕ
+  pub np : ℕ
+  pub mp : ℕ
+  pub nq : ℕ
+  pub mq : ℕ
+
+-- both open, with these counts
+abbrev pub heads_opened : ℕ → ℕ → ℕ → ℕ → Heads
+heads_opened np mp nq mq = record { number = 0; np = np; mp = mp; nq = nq; mq = mq }
+
+-- one is refused, by this number
+abbrev pub heads_shut : ℕ → Heads
+heads_shut k = record { number = k; np = 0; mp = 0; nq = 0; mq = 0 }
+
+-- two sheets have the words P and Q
+pub record Both (p q P Q : List ℤ) : Type 0 where
+  pub p_is : p ≡ P
+  pub q_is : q ≡ Q
 
 -- of two sheets: 0 with the counts of both, or the number with zeros
 unfoldable pub heads_of : List ℤ → List ℤ → Heads
@@ -37,13 +54,13 @@ unfoldable pub asset_of : List ℤ → ℕ → Asset
 asset_of w i = record { id = num (id_at w i); x = x_at w i; y = y_at w i }
 
 -- the point reader's answer: the number of each case [F10]
-abbrev pub pointed_no : Pointed → ℕ
-pointed_no (At a) = 0
-pointed_no (NoPoint k) = k
+abbrev pub pointed_no : Result Asset ℕ → ℕ
+pointed_no (Ok a) = 0
+pointed_no (Err k) = k
 
 -- [N2]
-unfoldable pub pointed : List ℤ → ℕ → Pointed
-pointed w i = answer (point_no w i) (At (asset_of w i)) NoPoint
+unfoldable pub pointed : List ℤ → ℕ → Result Asset ℕ
+pointed w i = answer (point_no w i) (Ok (asset_of w i)) Err
 
 -- the filter walk's answer beside its kept set: "the number of bits set and the nodes opened" [W6]
 unfoldable pub filtered_to : Kept → Filtered
@@ -66,15 +83,15 @@ unfoldable pub filtered_bits : List ℤ → List ℤ → ℕ → List ℕ → Li
 filtered_bits P Q j ws = kept_by (filter_no P Q j (length ws)) (kept_for P Q j).bits ws
 
 -- the ring walk's answer: the number of each case, and whether it says that the pair is clear: a refused walk never does [F10]
-abbrev pub walked_no : Walked → ℕ
-walked_no (Done a) = 0
-walked_no (Refused k) = k
+abbrev pub walked_no : Result Answer ℕ → ℕ
+walked_no (Ok a) = 0
+walked_no (Err k) = k
 
 -- [F10]
-abbrev pub walked_clear : Walked → Bool
-walked_clear (Done a) = clear a.hit
-walked_clear (Refused k) = false
+abbrev pub walked_clear : Result Answer ℕ → Bool
+walked_clear (Ok a) = clear a.hit
+walked_clear (Err k) = false
 
 -- q is position j of Q, p is position i of P, of a profile [W17, W18, N2, N20]
-unfoldable pub walked : List ℤ → List ℤ → ℕ → ℕ → Bool → Walked
-walked P Q j i g = answer (ring_no P Q j i g) (Done (pair_walk_by (profile_of g) P Q j i)) Refused
+unfoldable pub walked : List ℤ → List ℤ → ℕ → ℕ → Bool → Result Answer ℕ
+walked P Q j i g = answer (ring_no P Q j i g) (Ok (pair_walk_by (profile_of g) P Q j i)) Err

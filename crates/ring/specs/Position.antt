@@ -16,6 +16,10 @@ place_no w id = first (sheet_no w ∷ id_no (points_of w) id ∷ [])
 unfoldable pub place_given : List ℤ → ℕ → Placed
 place_given w id = record { number = 0; position = position_of (points_of w) id }
 
+-- served, 0 and the position
+abbrev pub place_at : ℕ → Placed
+place_at i = record { number = 0; position = i }
+
 -- refused, the number and 0
 unfoldable pub place_refused : ℕ → Placed
 place_refused k = record { number = k; position = 0 }

@@ -2,12 +2,12 @@
 ghost use Rattle.std.specs.Prelude.{◌≡◌, length};
 ghost use Rattle.bits.specs.Set.{Holds};
 ghost use Rattle.plane.specs.Rule.{SpotIn};
-ghost use Rattle.sheet.specs.Open.{Opens};
 ghost use Rattle.walk.specs.FilterWalk.{filter_kept};
 ghost use Rattle.ring.specs.Answers.{filtered_to, unfiltered, filtered, filtered_bits};
 
 use crate::Filtered;
 use plane::Spot;
+use sheet::Sheet;
 use walk::filter::ROOM;
 
 // A refused answer: the number and zeros.
@@ -15,23 +15,23 @@ fn refused(number: u32) -> Filtered
     ensures { result ≡ unfiltered number }
 {
     Filtered {
-        number: number,
+        number,
         count: 0,
         opened: 0,
     }
 }
 
 // The walk over a sheet that opens for the place q: the words lent are its kept set.
-fn kept_on(p: &[i32], n: usize, m: usize, q: Spot, bits: &mut [u64]) -> Filtered
-    requires { Opens p.now n m × SpotIn q × Holds bits.old n }
-    ensures { (result ≡ filtered_to (filter_kept (length bits.old) p.now q)) × (bits.new ≡ (filter_kept (length bits.old) p.now q).bits) }
+fn kept_on(p: Sheet<'_>, q: Spot, bits: &mut [u64]) -> Filtered
+    requires { SpotIn q × Holds bits.old p.n }
+    ensures { (result ≡ filtered_to (filter_kept (length bits.old) p.entry.words.now q)) × (bits.new ≡ (filter_kept (length bits.old) p.entry.words.now q).bits) }
 {
     let mut latest = [0u32; ROOM];
-    let opened = walk::filter::filter_kept(p, n, m, q, bits, &mut latest);
+    let opened = walk::filter::filter_kept(p, q, bits, &mut latest);
     Filtered {
         number: 0,
         count: bits::len(bits),
-        opened: opened,
+        opened,
     }
 }
 
@@ -40,17 +40,16 @@ fn kept_on(p: &[i32], n: usize, m: usize, q: Spot, bits: &mut [u64]) -> Filtered
 pub fn filter_walk(p: &[i32], q: &[i32], j: usize, bits: &mut [u64]) -> Filtered
     ensures { (result ≡ filtered p.now q.now j (length bits.old)) × (bits.new ≡ filtered_bits p.now q.now j bits.old) }
 {
-    let h = crate::open::heads_of(p, q);
-    if h.number != 0 {
-        return refused(h.number);
-    }
-    if h.nq <= j {
+    let (ps, qs) = match crate::open::heads_of(p, q) {
+        Ok(both) => both,
+        Err(no) => return refused(no),
+    };
+    if qs.n <= j {
         return refused(9);
     }
-    let w = bits::words_for(h.np);
+    let w = bits::words_for(ps.n);
     if bits.len() < w {
         return refused(24);
     }
-    let at = sheet::reads::spot_at(q, h.nq, h.mq, j);
-    kept_on(p, h.np, h.mp, at, &mut bits[..w])
+    kept_on(ps, qs.spot_at(j), &mut bits[..w])
 }

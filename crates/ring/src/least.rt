@@ -1,7 +1,6 @@
 // Whether a chamber has at least t partners.
 ghost use Rattle.std.specs.Prelude.{◌≡◌, ◌<◌, length};
 ghost use Rattle.bits.specs.Set.{Holds, none};
-ghost use Rattle.sheet.specs.Open.{Opens};
 ghost use Rattle.sheet.specs.Places.{points_of};
 ghost use Rattle.list.specs.RingList.{partners_of};
 ghost use Rattle.join.specs.Threshold.{smaller};
@@ -9,14 +8,14 @@ ghost use Rattle.ring.specs.Partners.{least_no, partners_refused, partners_answe
 
 use crate::Partnered;
 use list::Terms;
-use sheet::Size;
+use sheet::Sheet;
 
 // A refused question: its number, and zeros.
 fn refused(number: u32) -> Partnered
     ensures { result ≡ partners_refused number }
 {
     Partnered {
-        number: number,
+        number,
         count: 0,
         enough: false,
     }
@@ -42,9 +41,9 @@ fn lesser(t: usize, count: usize) -> usize
 }
 
 // How many ring partners the q at position j has, or t where it has more. Its pairs are found as for the fast list: a place that many records share is tried once. The words lent are zeros after it.
-fn counted(p: &[i32], hp: Size, q: &[i32], hq: Size, j: usize, t: usize, bits: &mut [u64]) -> usize
-    requires { Opens p.now hp.n hp.m × Opens q.now hq.n hq.m × (j < hq.n) × Holds bits.old hp.n }
-    ensures { (result ≡ smaller t (partners_of (points_of p.now) (points_of q.now) j)) × (bits.new ≡ none (length bits.old)) }
+fn counted(p: Sheet<'_>, q: Sheet<'_>, j: usize, t: usize, bits: &mut [u64]) -> usize
+    requires { (j < q.n) × Holds bits.old p.n }
+    ensures { (result ≡ smaller t (partners_of (points_of p.entry.words.now) (points_of q.entry.words.now) j)) × (bits.new ≡ none (length bits.old)) }
 {
     let terms = Terms {
         threshold: 0,
@@ -52,7 +51,7 @@ fn counted(p: &[i32], hp: Size, q: &[i32], hq: Size, j: usize, t: usize, bits: &
         own: false,
         grid: false,
     };
-    let found = chamber::pairs_of(p, hp, q, hq, terms, 8_000_000_000_000_000_000, j, bits);
+    let found = chamber::pairs_of(p, q, terms, 8_000_000_000_000_000_000, j, bits);
     bits::clear(bits);
     lesser(t, found)
 }
@@ -64,28 +63,26 @@ fn counted(p: &[i32], hp: Size, q: &[i32], hq: Size, j: usize, t: usize, bits: &
 pub fn partners(p: &[i32], q: &[i32], id: u32, t: u32, bits: &mut [u64]) -> Partnered
     ensures { (result ≡ partners_answer p.now q.now id t (length bits.old)) × (bits.new ≡ partners_bits p.now q.now id t bits.old) }
 {
-    let h = crate::open::heads_of(p, q);
-    if h.number != 0 {
-        return refused(h.number);
-    }
-    let j = sheet::find::position_of(q, h.nq, h.mq, id);
-    if h.nq <= j {
+    let (ps, qs) = match crate::open::heads_of(p, q) {
+        Ok(both) => both,
+        Err(no) => return refused(no),
+    };
+    let j = qs.position_of(id);
+    if qs.n <= j {
         return refused(20);
     }
     let no = least_no(t);
     if no != 0 {
         return refused(no);
     }
-    let w = bits::words_for(h.np);
+    let w = bits::words_for(ps.n);
     if bits.len() < w {
         return refused(24);
     }
-    let hp = Size { n: h.np, m: h.mp };
-    let hq = Size { n: h.nq, m: h.mq };
-    let count = counted(p, hp, q, hq, j, t as usize, &mut bits[..w]);
+    let count = counted(ps, qs, j, t as usize, &mut bits[..w]);
     Partnered {
         number: 0,
-        count: count,
+        count,
         enough: count == t as usize,
     }
 }

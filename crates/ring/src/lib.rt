@@ -12,9 +12,9 @@ pub mod reader;
 pub mod ringwalk;
 
 use list::Page;
-use walk::Answer;
 
 // What a check of words finds: 0, how many words the sheet covers, its points and its nodes; or the number of refusal and zeros.
+// Kept: the number beside the counts, which `head_of` of specs/Answers gives and `ring_head_once` and `open_head` of view go by.
 #[repr(C)]
 #[derive(Clone, Copy)]
 pub struct Head {
@@ -22,16 +22,6 @@ pub struct Head {
     pub len: usize,
     pub n: usize,
     pub m: usize,
-}
-
-// What a check of two sheets finds, P first: 0 and the counts of both, or the number of refusal and zeros.
-#[derive(Clone, Copy)]
-pub struct Heads {
-    pub number: u32,
-    pub np: usize,
-    pub mp: usize,
-    pub nq: usize,
-    pub mq: usize,
 }
 
 // A record of a sheet, a pump house or a chamber: its id and where it stands.
@@ -43,14 +33,8 @@ pub struct Asset {
     pub y: i32,
 }
 
-// What the point reader answers: the record, or the number of refusal.
-#[derive(Clone, Copy)]
-pub enum Pointed {
-    At(Asset),
-    Refused(u32),
-}
-
 // What the question for the position of an id answers: 0 and the position, or the number of refusal and 0.
+// Kept: the C interface; `ring_position` of ffi hands it to C as it stands.
 #[repr(C)]
 #[derive(Clone, Copy)]
 pub struct Placed {
@@ -59,6 +43,7 @@ pub struct Placed {
 }
 
 // What the filter walk answers beside the kept set in the words lent: 0, how many bits are set and the nodes opened; or the number of refusal and zeros. [Y12, F7]
+// Kept: the C interface; `ring_filter_walk` of ffi hands it to C as it stands.
 #[repr(C)]
 #[derive(Clone, Copy)]
 pub struct Filtered {
@@ -67,14 +52,8 @@ pub struct Filtered {
     pub opened: u64,
 }
 
-// What the ring walk answers: clear or what it hit first with the nodes opened, or the number of refusal.
-#[derive(Clone, Copy)]
-pub enum Walked {
-    Done(Answer),
-    Refused(u32),
-}
-
 // What a page request answers: 0, the count of nodes opened and the page; or the number of refusal and zeros. [Y12, U8, F6]
+// Kept: the C interface; `ring_page` and `ring_own_page` of ffi hand it to C as it stands.
 #[repr(C)]
 #[derive(Clone, Copy)]
 pub struct Paged {
@@ -84,6 +63,7 @@ pub struct Paged {
 }
 
 // What the question for a chamber's partners answers: 0, the smaller of t and the number of its pairs in the list, and whether that is t; or the number of refusal and zeros.
+// Kept: the C interface; `ring_partners` of ffi hands it to C as it stands.
 #[repr(C)]
 #[derive(Clone, Copy)]
 pub struct Partnered {

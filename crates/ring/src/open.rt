@@ -1,9 +1,10 @@
 // Opening a sheet.
-ghost use Rattle.std.specs.Prelude.{◌≡◌};
+ghost use Rattle.std.specs.Prelude.{◌≡◌, ◌≢◌, MatchResult};
 ghost use Rattle.sheet.specs.Open.{sheet_no};
-ghost use Rattle.ring.specs.Answers.{head_of, heads_of};
+ghost use Rattle.ring.specs.Answers.{head_of, heads_of, heads_opened, heads_shut, Both};
 
-use crate::{Head, Heads};
+use crate::Head;
+use sheet::Sheet;
 
 // The number of the first refusal that applies to the words, 0 where they are a sheet.
 pub fn open_no(words: &[i32]) -> u32
@@ -16,53 +17,27 @@ pub fn open_no(words: &[i32]) -> u32
 pub fn head_of(words: &[i32]) -> Head
     ensures { result ≡ head_of words.now }
 {
-    let number = sheet::open_no(words);
-    if number != 0 {
-        return Head {
-            number: number,
+    match Sheet::open(words) {
+        Ok(s) => Head {
+            number: 0,
+            len: words.len(),
+            n: s.n,
+            m: s.m,
+        },
+        Err(number) => Head {
+            number,
             len: 0,
             n: 0,
             m: 0,
-        };
-    }
-    let len = words.len();
-    Head {
-        number: 0,
-        len: len,
-        n: words::num_at(words, len - 4),
-        m: words::num_at(words, len - 3),
+        },
     }
 }
 
-// Both sheets of a call, P checked first, then Q, each once.
-pub(crate) fn heads_of(p: &[i32], q: &[i32]) -> Heads
-    ensures { result ≡ heads_of p.now q.now }
+// Both sheets of a call, P checked first, then Q, each once; or the number that the call is refused by.
+pub(crate) fn heads_of<'a>(p: &'a [i32], q: &'a [i32]) -> Result<(Sheet<'a>, Sheet<'a>), u32>
+    ensures { MatchResult result (λ b. Both b.0.words.now b.1.words.now p.now q.now × (heads_opened b.0.n b.0.m b.1.n b.1.m ≡ heads_of p.now q.now)) (λ k. (k ≢ 0) × (heads_shut k ≡ heads_of p.now q.now)) }
 {
-    let a = head_of(p);
-    if a.number != 0 {
-        return Heads {
-            number: a.number,
-            np: 0,
-            mp: 0,
-            nq: 0,
-            mq: 0,
-        };
-    }
-    let b = head_of(q);
-    if b.number != 0 {
-        return Heads {
-            number: b.number,
-            np: 0,
-            mp: 0,
-            nq: 0,
-            mq: 0,
-        };
-    }
-    Heads {
-        number: 0,
-        np: a.n,
-        mp: a.m,
-        nq: b.n,
-        mq: b.m,
-    }
+    let ps = Sheet::open(p)?;
+    let qs = Sheet::open(q)?;
+    Ok((ps, qs))
 }

@@ -5,7 +5,6 @@ ghost use Rattle.ring.specs.Own.{own_answer, own_bits};
 use crate::Paged;
 use join::Ask;
 use list::{Key, Terms};
-use sheet::Size;
 
 // The first `size` pairs of the sheet's self join strictly after the key, lower id first, of a profile, and the nodes opened to find them. It is undivided: its pages say contractor 2.
 // The words lent for kept sets, as many as the points need, are zeros after an answer.
@@ -13,29 +12,24 @@ use sheet::Size;
 pub fn own_page(s: &[i32], key: Key, size: usize, grid: bool, bits: &mut [u64]) -> Paged
     ensures { (result ≡ own_answer s.now key size grid (length bits.old)) × (bits.new ≡ own_bits s.now key size grid bits.old) }
 {
-    let h = crate::open::head_of(s);
-    if h.number != 0 {
-        return crate::pages::refused(h.number);
-    }
+    let own = match sheet::Sheet::open(s) {
+        Ok(own) => own,
+        Err(no) => return crate::pages::refused(no),
+    };
     let asked = crate::pages::asked_no(s, s, grid, key, size, 0);
     if asked != 0 {
         return crate::pages::refused(asked);
     }
-    let w = bits::words_for(h.n);
+    let w = bits::words_for(own.n);
     if bits.len() < w {
         return crate::pages::refused(24);
     }
-    let hs = Size { n: h.n, m: h.m };
     let terms = Terms {
         threshold: 0,
         contractor: 2,
         own: true,
-        grid: grid,
+        grid,
     };
-    let ask = Ask {
-        key: key,
-        size: size,
-        terms: terms,
-    };
-    crate::pages::given(s, hs, s, hs, b"", ask, &mut bits[..w])
+    let ask = Ask { key, size, terms };
+    crate::pages::given(own, own, b"", ask, &mut bits[..w])
 }

@@ -1,7 +1,6 @@
 // The page request.
 ghost use Rattle.std.specs.Prelude.{◌≡◌, ◌≤◌, length};
 ghost use Rattle.bits.specs.Set.{words_for, none};
-ghost use Rattle.sheet.specs.Open.{Opens};
 ghost use Rattle.join.specs.Sheets.{Alone};
 ghost use Rattle.ring.specs.Numbers.{grid_no};
 ghost use Rattle.ring.specs.Page.{asked_no, request_no, source_of, page_given, page_refused, page_answer, page_bits};
@@ -9,14 +8,14 @@ ghost use Rattle.ring.specs.Page.{asked_no, request_no, source_of, page_given, p
 use crate::Paged;
 use join::Ask;
 use list::{Key, Page, Pair, Request, Source, Terms};
-use sheet::Size;
+use sheet::Sheet;
 
 // A refused request: its number, and zeros.
 pub(crate) fn refused(number: u32) -> Paged
     ensures { result ≡ page_refused number }
 {
     Paged {
-        number: number,
+        number,
         opened: 0,
         page: Page {
             source: Source {
@@ -94,40 +93,31 @@ fn request_no(p: &[i32], q: &[i32], owners: &[u8], n: usize, request: Request) -
 }
 
 // The editions of two sheets that open, and the terms.
-fn source_of(p: &[i32], hp: Size, q: &[i32], hq: Size, terms: Terms) -> Source
-    requires { Opens p.now hp.n hp.m × Opens q.now hq.n hq.m }
-    ensures { result ≡ source_of p.now q.now terms }
+fn source_of(p: Sheet<'_>, q: Sheet<'_>, terms: Terms) -> Source
+    ensures { result ≡ source_of p.entry.words.now q.entry.words.now terms }
 {
     Source {
-        p_edition: words::num_at(p, p.len() - 2) as u32,
-        q_edition: words::num_at(q, q.len() - 2) as u32,
-        terms: terms,
+        p_edition: words::num_at(p.words, p.words.len() - 2) as u32,
+        q_edition: words::num_at(q.words, q.words.len() - 2) as u32,
+        terms,
     }
 }
 
 // The page that two sheets that open give, or one in both places, by the owner bytes. The words lent are as many as the kept set needs, and zeros after it.
-pub(crate) fn given(
-    p: &[i32],
-    hp: Size,
-    q: &[i32],
-    hq: Size,
-    owners: &[u8],
-    ask: Ask,
-    bits: &mut [u64],
-) -> Paged
-    requires { Opens p.now hp.n hp.m × Opens q.now hq.n hq.m × (ask.size ≤ 16) × (length bits.old ≡ words_for hp.n) × Alone ask.terms p.now q.now }
-    ensures { (result ≡ page_given ask.terms owners.now p.now q.now ask.key ask.size) × (bits.new ≡ none (length bits.old)) }
+pub(crate) fn given(p: Sheet<'_>, q: Sheet<'_>, owners: &[u8], ask: Ask, bits: &mut [u64]) -> Paged
+    requires { (ask.size ≤ 16) × (length bits.old ≡ words_for p.n) × Alone ask.terms p.words.now q.words.now }
+    ensures { (result ≡ page_given ask.terms owners.now p.entry.words.now q.entry.words.now ask.key ask.size) × (bits.new ≡ none (length bits.old)) }
 {
     let key = ask.key;
     let terms = ask.terms;
-    let d = join::made_on(p, hp, q, hq, owners, ask, bits);
+    let d = join::made_on(p, q, owners, ask, bits);
     bits::clear(bits);
-    let source = source_of(p, hp, q, hq, terms);
+    let source = source_of(p, q, terms);
     let page = join::page_from(source, key, d);
     Paged {
         number: 0,
         opened: d.opened,
-        page: page,
+        page,
     }
 }
 
@@ -139,20 +129,18 @@ pub(crate) fn given(
 pub fn page(p: &[i32], q: &[i32], owners: &[u8], request: Request, bits: &mut [u64]) -> Paged
     ensures { (result ≡ page_answer p.now q.now owners.now request (length bits.old)) × (bits.new ≡ page_bits p.now q.now owners.now request bits.old) }
 {
-    let h = crate::open::heads_of(p, q);
-    if h.number != 0 {
-        return refused(h.number);
-    }
-    let asked = request_no(p, q, owners, h.nq, request);
+    let (ps, qs) = match crate::open::heads_of(p, q) {
+        Ok(both) => both,
+        Err(no) => return refused(no),
+    };
+    let asked = request_no(p, q, owners, qs.n, request);
     if asked != 0 {
         return refused(asked);
     }
-    let w = bits::words_for(h.np);
+    let w = bits::words_for(ps.n);
     if bits.len() < w {
         return refused(24);
     }
-    let hp = Size { n: h.np, m: h.mp };
-    let hq = Size { n: h.nq, m: h.mq };
     let terms = Terms {
         threshold: request.threshold,
         contractor: request.contractor,
@@ -161,9 +149,9 @@ pub fn page(p: &[i32], q: &[i32], owners: &[u8], request: Request, bits: &mut [u
     };
     let key = request.key;
     let ask = Ask {
-        key: key,
+        key,
         size: request.size,
-        terms: terms,
+        terms,
     };
-    given(p, hp, q, hq, owners, ask, &mut bits[..w])
+    given(ps, qs, owners, ask, &mut bits[..w])
 }

@@ -2,7 +2,7 @@
 ghost use Rattle.std.specs.Prelude.{◌≡◌, ◌≤◌};
 ghost use Rattle.ring.specs.Answers.{asset_of, pointed};
 
-use crate::{Asset, Pointed};
+use crate::Asset;
 
 // The record at a position, of any words.
 fn asset_at(words: &[i32], i: usize) -> Asset
@@ -17,15 +17,12 @@ fn asset_at(words: &[i32], i: usize) -> Asset
 }
 
 // The record at a position of a sheet; refused by 1 to 8, then by 9 where the position is not below the sheet's n.
-pub fn point(words: &[i32], position: usize) -> Pointed
+pub fn point(words: &[i32], position: usize) -> Result<Asset, u32>
     ensures { result ≡ pointed words.now position }
 {
-    let h = crate::open::head_of(words);
-    if h.number != 0 {
-        return Pointed::Refused(h.number);
+    let s = sheet::Sheet::open(words)?;
+    if s.n <= position {
+        return Err(9);
     }
-    if h.n <= position {
-        return Pointed::Refused(9);
-    }
-    Pointed::At(asset_at(words, position))
+    Ok(asset_at(words, position))
 }

@@ -2,7 +2,7 @@
 --     leaf_past, leaf_inner, leaf_here     the number of the leaf, as it is read
 --     run_passes, run_lacks    with two sheets that open and a leaf of Q: with enough words the room for the pairs decides, else the number is 24
 --     refused_is       an answer that is refused by the call's number
---     number_p, number_q, number_leaf, number_short    that number, at each return of the code
+--     number_sheets, number_leaf, number_short    that number, at each return of the code
 --     made_asked       what the maker of a run asks: the sheets open, the leaf is there, and the words are enough
 --     made_is          from what the maker answered: the answer, and that the run can be read from the first of the lent words
 --     put_back, made_room, made_fits       the maker: words that are put back from their copy; its answer where the pairs outnumber the slots, and else
@@ -34,10 +34,9 @@ use Rattle.leaf.specs.Room.{Sets}
 use Rattle.leaf.proofs.RunCode.{run_left_lem}
 use Rattle.ring.specs.Numbers.{sheets_no}
 use Rattle.ring.specs.Lent.{need, bits_no, wiped_by}
-use Rattle.ring.specs.Answers.{head_of}
-use Rattle.ring.specs.declared.Head.{Head}
+use Rattle.ring.specs.Answers.{Heads, heads_of}
 use Rattle.ring.proofs.LentLaws.{bits_short, bits_enough, wiped_given}
-use Rattle.ring.proofs.HeadLaws.{headed, heads_p, heads_q, heads_open, heads_number, sheets_open, sheets_stop}
+use Rattle.ring.proofs.HeadLaws.{both_open, HeadedBoth, headed_both, sheets_open, sheets_stop, sheets_pass}
 use Rattle.runs.specs.declared.Run.{Run}
 use Rattle.runs.specs.Run.{leaf_no, room_no, run_need, run_no, run_given, run_refused, run_answer}
 use Rattle.runs.specs.Ready.{Handed, run_on, MadeOn, run_left, Ready, Worked}
@@ -96,23 +95,14 @@ refused_is P Q v len ws r k n ne x = (
   record { ready = λ z. absurd (ne (sym (ap (λ (w : Run). w.number) x) ∙ z)); past = refl; stands = λ _. refl },
 )
 
-module _ (P Q : List ℤ) (v len bits : ℕ) (a : Head) (e : a ≡ head_of P) where
-  pub number_p : (a.number ≡ 0 → ⊥) → run_no P Q v len bits ≡ a.number
+module _ (P Q : List ℤ) (v len bits : ℕ) (h : Heads) (e : h ≡ heads_of P Q) where
+  pub number_sheets : (h.number ≡ 0 → ⊥) → run_no P Q v len bits ≡ h.number
   unfolding run_no
-  number_p ne = sheets_stop P Q _ _ (heads_p P Q a e ne) ne
+  number_sheets ne = sheets_stop P Q h _ e ne
 
-  module _ (z : a.number ≡ 0) (b : Head) (f : b ≡ head_of Q) where
-    pub number_q : (b.number ≡ 0 → ⊥) → run_no P Q v len bits ≡ b.number
-    unfolding run_no
-    number_q ne = sheets_stop P Q _ _ (heads_q P Q a e z b f ne) ne
-
-    module _ (y : b.number ≡ 0) (k : ℕ) (g : k ≡ leaf_no Q v) where
-      both : sheets_no P Q ≡ 0
-      both = sym (heads_number P Q _ (heads_open P Q a e z b f y))
-
-      pub number_leaf : (k ≡ 0 → ⊥) → run_no P Q v len bits ≡ k
-      unfolding run_no
-      number_leaf ne = sheets_open P Q _ both ∙ first_stops (leaf_no Q v) _ (λ x. ne (g ∙ x)) ∙ sym g
+  pub number_leaf : h.number ≡ 0 → (k : ℕ) → k ≡ leaf_no Q v → (k ≡ 0 → ⊥) → run_no P Q v len bits ≡ k
+  unfolding run_no
+  number_leaf z k g ne = sheets_pass P Q h _ e z ∙ first_stops (leaf_no Q v) _ (λ x. ne (g ∙ x)) ∙ sym g
 
 -- ---- the words that a run needs
 
@@ -125,9 +115,12 @@ module _ (P : List ℤ) (n words : ℕ) (n_is : n ≡ points P) (words-is : word
   all_is = ap (λ (k : ℕ). 16 * k) counted_is
 
 -- where two sheets open and the leaf is there
-module _ (P Q : List ℤ) (v : ℕ) (a : Head) (e : a ≡ head_of P) (z : a.number ≡ 0) (b : Head) (f : b ≡ head_of Q) (y : b.number ≡ 0) (k : ℕ) (g : k ≡ leaf_no Q v) (x : k ≡ 0) (words : ℕ) (words-is : words ≡ words_for a.n) where
+module _ (P Q : List ℤ) (v : ℕ) (h : Heads) (e : h ≡ heads_of P Q) (z : h.number ≡ 0) (k : ℕ) (g : k ≡ leaf_no Q v) (x : k ≡ 0) (words : ℕ) (words-is : words ≡ words_for h.np) where
+  found : HeadedBoth P Q h
+  found = headed_both P Q h e z
+
   opened : sheets_no P Q ≡ 0
-  opened = sym (heads_number P Q _ (heads_open P Q a e z b f y))
+  opened = found.opens
 
   there : leaf_no Q v ≡ 0
   there = sym g ∙ x
@@ -136,10 +129,10 @@ module _ (P Q : List ℤ) (v : ℕ) (a : Head) (e : a ≡ head_of P) (z : a.numb
   here = leaf_is Q v there
 
   every : 16 * words ≡ run_need P
-  every = all_is P a.n words (headed P a e z).n_is words-is
+  every = all_is P h.np words found.np_is words-is
 
   pub few_words : words ≤ 938
-  few_words = omega (arith, words-is, words_few a.n, (headed P a e z).facts.n_le)
+  few_words = omega (arith, words-is, words_few h.np, found.p_facts.n_le)
 
   module _ (len : ℕ) (ws : List ℕ) where
     pub number_short : length ws < 16 * words → run_no P Q v len (length ws) ≡ 24
@@ -149,16 +142,12 @@ module _ (P Q : List ℤ) (v : ℕ) (a : Head) (e : a ≡ head_of P) (z : a.numb
       lent_all : run_need P ≤ length ws
       lent_all = subst (λ (n : ℕ). n ≤ length ws) every fits
 
-      pub made_asked : Handed P Q (record { n = a.n; m = a.m }) (record { n = b.n; m = b.m }) v words (take (16 * words) ws)
+      pub made_asked : Handed Q h.np h.nq h.mq v words (take (16 * words) ws)
       made_asked =
-          let p = headed P a e z in
-          let q = headed Q b f y in
-          let enough : a.n ≤ 64 * words = omega (arith, words-is, words_enough a.n) in
+          let enough : h.np ≤ 64 * words = omega (arith, words-is, words_enough h.np) in
           record {
-            p_opens = p.facts;
-            q_opens = q.facts;
-            here = subst (λ (m : ℕ). v < m) (sym q.m_is) here.0;
-            level = ap (λ (n : ℕ). level_of Q n v) q.n_is ∙ here.1;
+            here = subst (λ (m : ℕ). v < m) found.q_facts.m_is here.0;
+            level = ap (λ (n : ℕ). level_of Q n v) found.nq_is ∙ here.1;
             sets = record { long = part_long ws (16 * words) fits; enough = enough; small = omega (arith, few_words) };
             few = few_words;
           }
@@ -166,7 +155,7 @@ module _ (P Q : List ℤ) (v : ℕ) (a : Head) (e : a ≡ head_of P) (z : a.numb
       -- what the maker answered is the answer, and what it left is the run on the first of the lent words
       module _ (r : Run) (last : List ℕ) (long : length last ≡ length (take (16 * words) ws)) (m : MadeOn P Q v words len r (take (16 * words) ws) last) where
         as_many : words ≡ need P
-        as_many = counted_is P a.n words (headed P a e z).n_is words-is
+        as_many = counted_is P h.np words found.np_is words-is
 
         exactly : length last ≡ 16 * words
         exactly = long ∙ part_long ws (16 * words) fits
@@ -184,8 +173,8 @@ module _ (P Q : List ℤ) (v : ℕ) (a : Head) (e : a ≡ head_of P) (z : a.numb
         unfolding run_left
         is_ready t =
             let set : RunSet P Q v (need P) (take (run_need P) now) = subst (RunSet P Q v (need P)) (sym first_part) (subst (λ (n : ℕ). RunSet P Q v n last) as_many (m.set t)) in
-            let p_opens = sheet_facts P (headed P a e z).opens in
-            let q_opens = sheet_facts Q (headed Q b f y).opens in
+            let p_opens = sheet_facts P (both_open P Q opened).0 in
+            let q_opens = sheet_facts Q (both_open P Q opened).1 in
             record {
               p_opens = p_opens;
               q_opens = q_opens;

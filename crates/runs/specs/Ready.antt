@@ -1,7 +1,6 @@
 -- What the functions of this crate hand to each other: a run on the lent words. No promise of an open call cites this.
 use Rattle.std.specs.Prelude.{◌≡◌, List, ℕ, ◌≤◌, ◌<◌, ℤ, length, take, drop}
 use Rattle.words.specs.First.{answer}
-use Rattle.sheet.specs.declared.Size.{Size}
 use Rattle.sheet.specs.Layout.{points, nodes}
 use Rattle.sheet.specs.Nodes.{level_of}
 use Rattle.sheet.specs.Open.{Opens}
@@ -12,13 +11,11 @@ use Rattle.ring.specs.Lent.{need}
 use Rattle.runs.specs.declared.Run.{Run}
 use Rattle.runs.specs.Run.{room_no, run_need, run_refused}
 
--- what the maker of a run is handed: two sheets that open with their counts, a leaf of Q, and just the words that the run needs, so many for each chamber
-pub record Handed (P Q : List ℤ) (hp hq : Size) (v words : ℕ) (b : List ℕ) : Type 0 where
-  pub p_opens : Opens P hp.n hp.m
-  pub q_opens : Opens Q hq.n hq.m
-  pub here : v < hq.m
-  pub level : level_of Q hq.n v ≡ 0
-  pub sets : Sets b words hp.n
+-- what the maker of a run is handed beside two sheets that open, P of np points and Q of nq points and mq nodes: a leaf of Q, and just the words that the run needs, so many for each chamber
+pub record Handed (Q : List ℤ) (np nq mq v words : ℕ) (b : List ℕ) : Type 0 where
+  pub here : v < mq
+  pub level : level_of Q nq v ≡ 0
+  pub sets : Sets b words np
   pub few : words ≤ 938
 
 -- the run with so many words for each chamber

@@ -1,7 +1,7 @@
 // One run per leaf: the ring pairs of a leaf's chambers, stored in a slice that the caller lends, over words that the caller lends.
 #![tactic(auto)]
 
-ghost use Rattle.std.specs.Prelude.{◌≡◌, [], ◌∷◌, ◌++◌, ◌≤◌, length, take, drop};
+ghost use Rattle.std.specs.Prelude.{◌≡◌, ◌*◌, [], ◌∷◌, ◌++◌, ◌≤◌, length, take, drop};
 ghost use Rattle.sheet.specs.Layout.{points, nodes};
 ghost use Rattle.sheet.specs.Open.{Opens};
 ghost use Rattle.list.specs.Lent.{lent_of};
@@ -11,9 +11,10 @@ ghost use Rattle.runs.specs.Ready.{Handed, MadeOn, run_left, Ready, Worked};
 
 use leaf::run::Step;
 use list::Pair;
-use sheet::Size;
+use sheet::Sheet;
 
 // What a leaf run answers: 0, how many pairs it stored and the nodes opened; or the number of refusal and zeros.
+// Kept: the C interface; `ring_leaf_run` of ffi hands it to C as it stands.
 #[repr(C)]
 #[derive(Clone, Copy)]
 pub struct Run {
@@ -27,21 +28,20 @@ fn refused(number: u32) -> Run
     ensures { result ≡ run_refused number }
 {
     Run {
-        number: number,
+        number,
         count: 0,
         opened: 0,
     }
 }
 
 // 19 where a sheet that opens has no such leaf, else 0.
-fn leaf_no(q: &[i32], n: usize, m: usize, leaf: usize) -> u32
-    requires { Opens q.now n m }
-    ensures { result ≡ leaf_no q.now leaf }
+fn leaf_no(q: Sheet<'_>, leaf: usize) -> u32
+    ensures { result ≡ leaf_no q.entry.words.now leaf }
 {
-    if m <= leaf {
+    if q.m <= leaf {
         return 19;
     }
-    if sheet::reads::level_at(q, n, m, leaf) != 0 {
+    if q.level_at(leaf) != 0 {
         return 19;
     }
     0
@@ -52,32 +52,28 @@ fn copy_words(from: &[u64], to: &mut [u64], k: usize)
     requires { (k ≤ length from.now) × (k ≤ length to.old) }
     ensures { to.new ≡ take k from.now ++ drop k to.old }
 {
-    let mut i: usize = 0;
-    while i < k {
+    for i in 0..k {
         to[i] = from[i];
-        i += 1;
     }
 }
 
 // The run for `len` slots, on just the words that it needs. That its pairs outnumber the slots is known only when they stand there:
 // the words are put back from their copy then.
 fn made_saved(
-    p: &[i32],
-    hp: Size,
-    q: &[i32],
-    hq: Size,
+    p: Sheet<'_>,
+    q: Sheet<'_>,
     leaf: usize,
     words: usize,
     len: usize,
     saved: &mut [u64],
     bits: &mut [u64],
 ) -> Run
-    requires { Handed p.now q.now hp hq leaf words bits.old × (length bits.old ≤ length saved.old) }
-    ensures { MadeOn p.now q.now leaf words len result bits.old bits.new }
+    requires { Handed q.words.now p.n q.n q.m leaf words bits.old × (length bits.old ≤ length saved.old) }
+    ensures { MadeOn p.entry.words.now q.entry.words.now leaf words len result bits.old bits.new }
 {
     let k = bits.len();
     copy_words(bits, saved, k);
-    let made = leaf::run::run_made(p, hp, q, hq, leaf, words, bits);
+    let made = leaf::run::run_made(p, q, leaf, words, bits);
     if len < made.count {
         copy_words(saved, bits, k);
         return refused(16);
@@ -89,71 +85,38 @@ fn made_saved(
     }
 }
 
-// Room for the copy: for sixteen kept sets of 1,024 positions, as many as form 1 has, and of 60,000.
-fn small_room() -> [u64; 256]
-    ensures { length result ≡ 256 }
-{
-    [0u64; 256]
-}
-
-fn large_room() -> [u64; 15008]
-    ensures { length result ≡ 15008 }
-{
-    [0u64; 15008]
-}
-
-fn made_small(
-    p: &[i32],
-    hp: Size,
-    q: &[i32],
-    hq: Size,
+// The same, with room for a copy of N words.
+fn made_in<const N: usize>(
+    p: Sheet<'_>,
+    q: Sheet<'_>,
     leaf: usize,
     words: usize,
     len: usize,
     bits: &mut [u64],
 ) -> Run
-    requires { Handed p.now q.now hp hq leaf words bits.old × (words ≤ 16) }
-    ensures { MadeOn p.now q.now leaf words len result bits.old bits.new }
+    requires { Handed q.words.now p.n q.n q.m leaf words bits.old × (16 * words ≤ N) × (N ≤ 15008) }
+    ensures { MadeOn p.entry.words.now q.entry.words.now leaf words len result bits.old bits.new }
 {
-    let mut saved = small_room();
-    made_saved(p, hp, q, hq, leaf, words, len, &mut saved, bits)
+    let mut saved = [0u64; N];
+    made_saved(p, q, leaf, words, len, &mut saved, bits)
 }
 
-fn made_large(
-    p: &[i32],
-    hp: Size,
-    q: &[i32],
-    hq: Size,
-    leaf: usize,
-    words: usize,
-    len: usize,
-    bits: &mut [u64],
-) -> Run
-    requires { Handed p.now q.now hp hq leaf words bits.old }
-    ensures { MadeOn p.now q.now leaf words len result bits.old bits.new }
-{
-    let mut saved = large_room();
-    made_saved(p, hp, q, hq, leaf, words, len, &mut saved, bits)
-}
-
-// The same, with no more room for the copy than the size of the sheet asks for.
+// The same, with no more room for the copy than the size of the sheet asks for: for sixteen kept sets of 1,024 positions, as many as form 1 has, or of 60,000.
 fn made_on(
-    p: &[i32],
-    hp: Size,
-    q: &[i32],
-    hq: Size,
+    p: Sheet<'_>,
+    q: Sheet<'_>,
     leaf: usize,
     words: usize,
     len: usize,
     bits: &mut [u64],
 ) -> Run
-    requires { Handed p.now q.now hp hq leaf words bits.old }
-    ensures { MadeOn p.now q.now leaf words len result bits.old bits.new }
+    requires { Handed q.words.now p.n q.n q.m leaf words bits.old }
+    ensures { MadeOn p.entry.words.now q.entry.words.now leaf words len result bits.old bits.new }
 {
     if words <= 16 {
-        return made_small(p, hp, q, hq, leaf, words, len, bits);
+        return made_in::<256>(p, q, leaf, words, len, bits);
     }
-    made_large(p, hp, q, hq, leaf, words, len, bits)
+    made_in::<15008>(p, q, leaf, words, len, bits)
 }
 
 // All that is decided of a run for `len` slots: its answer, and its pairs kept on the first of the lent words.
@@ -161,26 +124,24 @@ fn made_on(
 fn decide(p: &[i32], q: &[i32], leaf: usize, len: usize, bits: &mut [u64]) -> Run
     ensures { (result ≡ run_answer p.now q.now leaf len (length bits.old)) × Worked p.now q.now leaf result.number bits.old bits.new }
 {
-    let a = ring::open::head_of(p);
-    if a.number != 0 {
-        return refused(a.number);
-    }
-    let b = ring::open::head_of(q);
-    if b.number != 0 {
-        return refused(b.number);
-    }
-    let no = leaf_no(q, b.n, b.m, leaf);
+    let ps = match Sheet::open(p) {
+        Ok(ps) => ps,
+        Err(no) => return refused(no),
+    };
+    let qs = match Sheet::open(q) {
+        Ok(qs) => qs,
+        Err(no) => return refused(no),
+    };
+    let no = leaf_no(qs, leaf);
     if no != 0 {
         return refused(no);
     }
-    let words = bits::words_for(a.n);
+    let words = bits::words_for(ps.n);
     let w = 16 * words;
     if bits.len() < w {
         return refused(24);
     }
-    let hp = Size { n: a.n, m: a.m };
-    let hq = Size { n: b.n, m: b.m };
-    made_on(p, hp, q, hq, leaf, words, len, &mut bits[..w])
+    made_on(ps, qs, leaf, words, len, &mut bits[..w])
 }
 
 // The next pair of a run from bit `at` on, and the bit after it.
@@ -188,15 +149,11 @@ fn next_pair(p: &[i32], q: &[i32], leaf: usize, bits: &[u64], at: usize) -> Step
     requires { Ready p.now q.now leaf bits.now × (run_left p.now q.now leaf bits.now at ≡ [] → ⊥) }
     ensures { run_left p.now q.now leaf bits.now at ≡ result.pair ∷ run_left p.now q.now leaf bits.now result.next }
 {
-    let np = words::num_at(p, p.len() - 4);
-    let mp = words::num_at(p, p.len() - 3);
-    let nq = words::num_at(q, q.len() - 4);
-    let mq = words::num_at(q, q.len() - 3);
-    let each = bits::words_for(np);
+    let ps = Sheet::known(p);
+    let qs = Sheet::known(q);
+    let each = bits::words_for(ps.n);
     let w = 16 * each;
-    let hp = Size { n: np, m: mp };
-    let hq = Size { n: nq, m: mq };
-    leaf::run::pair_from(p, hp, q, hq, leaf, each, &bits[..w], at)
+    leaf::run::pair_from(ps, qs, leaf, each, &bits[..w], at)
 }
 
 // The answer, with zeros in the first of the lent words where it is one.
@@ -207,8 +164,8 @@ fn finish(r: Run, p: &[i32], bits: &mut [u64]) -> Run
     if r.number != 0 {
         return r;
     }
-    let np = words::num_at(p, p.len() - 4);
-    let w = 16 * bits::words_for(np);
+    let ps = Sheet::known(p);
+    let w = 16 * bits::words_for(ps.n);
     bits::clear(&mut bits[..w]);
     r
 }
@@ -223,12 +180,10 @@ pub fn leaf_run(p: &[i32], q: &[i32], leaf: usize, slots: &mut [Pair], bits: &mu
     let len = slots.len();
     let r = decide(p, q, leaf, len, bits);
     let mut at: usize = 0;
-    let mut k: usize = 0;
-    while k < r.count {
+    for k in 0..r.count {
         let s = next_pair(p, q, leaf, bits, at);
         slots[k] = s.pair;
         at = s.next;
-        k = k + 1;
     }
     finish(r, p, bits)
 }
@@ -250,10 +205,7 @@ fn lent_of(len: usize) -> usize
 fn with_slots(slots: [Pair; 256], run: Run) -> RunArray
     ensures { result ≡ with_slots slots run }
 {
-    RunArray {
-        slots: slots,
-        run: run,
-    }
+    RunArray { slots, run }
 }
 
 // `leaf_run` on the first `len` of 256 slots, which are lent for the call and come back; on all 256 where `len` exceeds that.

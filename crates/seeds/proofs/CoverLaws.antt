@@ -20,7 +20,7 @@ use Rattle.plane.specs.Profile.{circle}
 use Rattle.plane.proofs.RuleLaws.{box_drops}
 use Rattle.sheet.specs.Layout.{points}
 use Rattle.sheet.specs.Order.{order_of, rank_of}
-use Rattle.sheet.specs.Nodes.{level_of}
+use Rattle.sheet.specs.Nodes.{level_of, first_of, count_of}
 use Rattle.sheet.specs.Boxes.{Below}
 use Rattle.sheet.specs.Places.{spot_of, box_of, points_of}
 use Rattle.sheet.specs.Open.{Opens}
@@ -35,20 +35,18 @@ use Rattle.sheet.proofs.TreeLaws.{run_at}
 use Rattle.walk.specs.Claims.{Free}
 use Rattle.walk.proofs.NodeLaws.{Node, kid}
 use Rattle.walk.proofs.PairLaws.{unblocked_free, pair_rule}
+use Rattle.seeds.specs.declared.line.Line.{Line}
 use Rattle.seeds.specs.Line.{Lined, Among, Known, DroppedBy}
 use Rattle.seeds.specs.Covers.{Covers, On, OnEither, Settled, Deals, Retries}
-use Rattle.seeds.proofs.LineLaws.{known_in, among_in, lined_same, lined_count}
+use Rattle.seeds.proofs.LineLaws.{known_in, among_in}
 
 -- a record of a sheet that opens stands in range
 pub on_in : (w : List ℤ) (n m : ℕ) → Opens w n m → (z : Spot) → On w n z → SpotIn z
 on_in w n m o z x = subst SpotIn (sym x.2) (spot_in o x.0 x.1)
 
-pub either_in : (P : List ℤ) (n m : ℕ) (Q : List ℤ) (nq mq : ℕ) → Opens P n m → Opens Q nq mq → (z : Spot) → OnEither P n Q nq z → SpotIn z
-either_in P n m Q nq mq op oq z x = ⊎_elim (on_in P n m op z) (on_in Q nq mq oq z) x
-
--- a sheet with a point has a node
-pub has_nodes : (w : List ℤ) (n m : ℕ) → Opens w n m → (j : ℕ) → j < n → 0 < m
-has_nodes w n m o j h = pos_of_ne-zero (λ (z : m ≡ 0). omega (arith, o.empty z))
+-- a node whose three words are read
+pub node_read : {w : List ℤ} {n m j level first count : ℕ} → Opens w n m → j < m → level ≡ level_of w n j → first ≡ first_of w n j → count ≡ count_of w n j → Node w n m j level first count
+node_read o h l f c = record { table = o.table; here = h; is_level = l; is_first = f; is_count = c }
 
 -- a node above the leaves, as the code has read it, covers nodes, one level down
 module _ (w : List ℤ) (n m j level first count : ℕ) (d : Node w n m j level first count) (up : level ≡ 0 → ⊥) where
@@ -60,6 +58,9 @@ module _ (w : List ℤ) (n m j level first count : ℕ) (d : Node w n m j level 
 
   pub node_down : (v : ℕ) → first ≤ v → v < first + count → level_of w n v ≡ level - 1
   node_down v a b = let e : first + (v - first) ≡ v = omega arith in subst (λ (x : ℕ). level_of w n x ≡ level - 1) e (kid w n m j level first count d up (v - first) (omega arith)).1
+
+  pub node_below : (v : ℕ) → first ≤ v → v < first + count → (v < m) × (level_of w n v ≡ level - 1)
+  node_below v a b = (omega (arith, node_runs.1), node_down v a b)
 
 -- what is below a node, as the code has read it
 module _ (w : List ℤ) (n m j level first count : ℕ) (d : Node w n m j level first count) where
@@ -154,23 +155,11 @@ module _ (K : Spot → Type 0) (w : List ℤ) (n : ℕ) (q : Spot) where
         done = λ r x. inr (z, k, box_drops q z (box_of w n j) (spot_of w (order_of w n r)) (ap (drops_box q z) (sym e) ∙ d) (in_box_lem w n m op.table op.tight (level_of w n j) j h refl r x));
       }
 
--- the droppers and what is dealt with, of values said in another way
-pub turn_as : (K : Spot → Type 0) (w : List ℤ) (n : ℕ) (q : Spot) (C : ℕ → Type 0) (b₀ b b' : List ℕ) (xs xs' ys ys' : List ℤ) (c c' : ℕ) → b' ≡ b → xs' ≡ xs → ys' ≡ ys → c' ≡ c
-    → Lined K xs ys c → Deals K w n q C b₀ b → length b ≡ length b₀ → Lined K xs' ys' c' × Deals K w n q C b₀ b' × (length b' ≡ length b₀)
-turn_as K w n q C b₀ b b' xs xs' ys ys' c c' eb ex ey ec l d h = (
-  lined_count K xs' ys' c (lined_same K xs ys c l xs' ys' ex ey) c' ec,
-  subst (Deals K w n q C b₀) (sym eb) d,
-  ap length eb ∙ h,
-)
-
 -- ---- the candidates tried again
 
 module _ (K : Spot → Type 0) (w : List ℤ) (q : Spot) where
   pub retries_none : (b : List ℕ) → Retries K w q b b
   retries_none b = record { settled = λ i e. inl e }
-
-  pub retries_as : (b₀ b b' : List ℕ) → b' ≡ b → Retries K w q b₀ b → Retries K w q b₀ b'
-  retries_as b₀ b b' e x = subst (Retries K w q b₀) (sym e) x
 
   -- once, and then once more
   pub retries_after : (b₀ b b' : List ℕ) → Retries K w q b₀ b → Retries K w q b b' → Retries K w q b₀ b'
@@ -223,25 +212,25 @@ module _ (P : List ℤ) (n m : ℕ) (op : Opens P n m) (Q : List ℤ) (nq mq : �
           x
 
   -- droppers to begin with; the walk from the root, with the droppers after it; the candidates tried again
-  pub covers_walk : (xs ys : List ℤ) (c : ℕ) → Lined (OnEither P n Q nq) xs ys c → (b b' b'' : List ℕ) → (m ≡ 0 → ⊥)
-      → Deals (Known (On P n) xs ys c) P n z (Below P n (level_of P n (m - 1)) (m - 1)) b b'
-      → (xs' ys' : List ℤ) (c' : ℕ) → Lined (Known (On P n) xs ys c) xs' ys' c'
-      → Retries (Among xs' ys' c') P z b' b'' → Covers false P Q j b''
-  covers_walk xs ys c l b b' b'' some d xs' ys' c' l' t = record { partner = λ i h r. partner_kept b'' i h r (settled i (omega (arith, op.n_is))) }
+  pub covers_walk : (l : Line) → Lined (OnEither P n Q nq) l → (b b' b'' : List ℕ) → (m ≡ 0 → ⊥)
+      → Deals (Known (On P n) l) P n z (Below P n (level_of P n (m - 1)) (m - 1)) b b'
+      → (l' : Line) → Lined (Known (On P n) l) l'
+      → Retries (Among l') P z b' b'' → Covers false P Q j b''
+  covers_walk l a b b' b'' some d l' a' t = record { partner = λ i h r. partner_kept b'' i h r (settled i (omega (arith, op.n_is))) }
     where
-      known : (y : Spot) → Known (On P n) xs ys c y → OnEither P n Q nq y
-      known = known_in (OnEither P n Q nq) xs ys c l (On P n) (λ y x. inl x)
+      known : (y : Spot) → Known (On P n) l y → OnEither P n Q nq y
+      known = known_in (OnEither P n Q nq) l a (On P n) (λ y x. inl x)
 
-      met : (i : ℕ) → i < n → Settled (Known (On P n) xs ys c) P z b' i
+      met : (i : ℕ) → i < n → Settled (Known (On P n) l) P z b' i
       met i low =
-          subst (Settled (Known (On P n) xs ys c) P z b') (order_rank P n op.ordered i low)
+          subst (Settled (Known (On P n) l) P z b') (order_rank P n op.ordered i low)
           (d.done (rank_of P n i) (root_below P n m op.table (pos_of_ne-zero some) (rank_of P n i) (rank_below P n op.ordered i low)))
 
       settled : (i : ℕ) → i < n → Settled (OnEither P n Q nq) P z b'' i
       settled i low =
           ⊎_elim
-          (λ (e : kept b' i ≡ true). settled_all (Among xs' ys' c') (OnEither P n Q nq) (λ y x. known y (among_in (Known (On P n) xs ys c) xs' ys' c' l' y x)) P z b'' i (t.settled i e))
-          (λ (x : DroppedBy (Known (On P n) xs ys c) z (spot_of P i)). inr (x.0, known x.0 x.1, x.2))
+          (λ (e : kept b' i ≡ true). settled_all (Among l') (OnEither P n Q nq) (λ y x. known y (among_in (Known (On P n) l) l' a' y x)) P z b'' i (t.settled i e))
+          (λ (x : DroppedBy (Known (On P n) l) z (spot_of P i)). inr (x.0, known x.0 x.1, x.2))
           (met i low)
 
 -- of a profile that is the circle

@@ -1,35 +1,30 @@
--- The droppers in hand: at most 24 places, in two lists of coordinates. What the code goes by; of the candidates nothing is promised with it but what Covers says.
-use Rattle.std.specs.Prelude.{◌≡◌, Bool, true, ◌⊎◌, List, ℕ, ◌≤◌, ◌<◌, ℤ, pos, length, get_or}
+-- The droppers in hand: at most 24 places. What the code goes by; of the candidates nothing is promised with it but what Covers says.
+use Rattle.std.specs.Prelude.{◌≡◌, true, ◌⊎◌, ℕ, ◌<◌}
 use Rattle.plane.specs.declared.Spot.{Spot}
-use Rattle.plane.specs.Rule.{spot, drops}
+use Rattle.plane.specs.Rule.{drops}
+use Rattle.seeds.specs.declared.line.Line.{Line}
+use Rattle.seeds.specs.Places.{place_at}
 
--- the place of dropper k
-abbrev pub place_at : List ℤ → List ℤ → ℕ → Spot
-place_at xs ys k = spot (get_or xs k (pos 0)) (get_or ys k (pos 0))
+-- K holds of the place of each dropper
+pub record Lined (K : Spot → Type 0) (l : Line) : Type 0 where
+  pub each : (k : ℕ) → k < l.count → K (place_at l.at k)
 
--- there are c droppers, and K holds of the place of each
-pub record Lined (K : Spot → Type 0) (xs ys : List ℤ) (c : ℕ) : Type 0 where
-  pub x_long : length xs ≡ 24
-  pub y_long : length ys ≡ 24
-  pub few : c ≤ 24
-  pub each : (k : ℕ) → k < c → K (place_at xs ys k)
-
--- one of the c droppers stands at z
-pub record Among (xs ys : List ℤ) (c : ℕ) (z : Spot) : Type 0 where
+-- one of the droppers stands at z
+pub record Among (l : Line) (z : Spot) : Type 0 where
   pub by : ℕ
-  pub below : by < c
-  pub at : z ≡ place_at xs ys by
+  pub below : by < l.count
+  pub at : z ≡ place_at l.at by
 
 -- or z is new
-abbrev pub Known : (Spot → Type 0) → List ℤ → List ℤ → ℕ → Spot → Type 0
-Known New xs ys c z = Among xs ys c z ⊎ New z
+abbrev pub Known : (Spot → Type 0) → Line → Spot → Type 0
+Known New l z = Among l z ⊎ New z
 
 abbrev pub At : Spot → Spot → Type 0
 At y z = z ≡ y
 
--- where r is the number of a dropper, the test holds of its place
-pub record Drops (test : Spot → Bool) (xs ys : List ℤ) (c r : ℕ) : Type 0 where
-  pub holds : r < c → test (place_at xs ys r) ≡ true
+-- where r is the number of a dropper, K holds of its place
+pub record Drops (K : Spot → Type 0) (l : Line) (r : ℕ) : Type 0 where
+  pub holds : r < l.count → K (place_at l.at r)
 
 -- a place of K drops z, for q
 abbrev pub DroppedBy : (Spot → Type 0) → Spot → Spot → Type 0

@@ -1,31 +1,29 @@
 // Where to look for droppers: guesses that only speed hangs on.
 ghost use Rattle.std.specs.Prelude.{◌+◌, ◌≤◌, ◌<◌};
 ghost use Rattle.plane.specs.Rule.{SpotIn, BoxIn};
-ghost use Rattle.sheet.specs.Open.{Opens};
 
 use plane::{Boxed, Spot};
+use sheet::Sheet;
 
 // Whether node j is a leaf whose places begin at this one or before it.
-fn begins_by(w: &[i32], n: usize, m: usize, j: usize, place: usize) -> bool
-    requires { Opens w.now n m × (j < m) }
+fn begins_by(w: Sheet<'_>, j: usize, place: usize) -> bool
+    requires { j < w.m }
 {
-    if sheet::reads::level_at(w, n, m, j) > 0 {
-        return false;
-    }
-    sheet::reads::first_at(w, n, m, j) <= place
+    w.level_at(j) == 0 && w.first_at(j) <= place
 }
 
 // The leaf that covers the place of position j. Leaves are the first nodes of the table.
-pub(crate) fn leaf_of(w: &[i32], n: usize, m: usize, j: usize) -> usize
-    requires { Opens w.now n m × (j < n) }
-    ensures { result < m }
+pub(crate) fn leaf_of(w: Sheet<'_>, j: usize) -> usize
+    requires { j < w.n }
+    ensures { result < w.entry.m }
 {
-    let place = words::num_at(w, 4 * n + j);
+    let place = words::num_at(w.words, 4 * w.n + j);
     let mut low: usize = 0;
-    let mut high = m;
+    let mut high = w.m;
+    // Kept: the search halves what is left: the loop counts no index.
     while high - low > 1 {
         let mid = low + (high - low) / 2;
-        if begins_by(w, n, m, mid, place) {
+        if begins_by(w, mid, place) {
             low = mid;
         } else {
             high = mid;
@@ -40,40 +38,39 @@ fn away(q: Spot, o: Boxed) -> i64
 {
     let x = plane::outside(o.xmin, o.xmax, q.x);
     let y = plane::outside(o.ymin, o.ymax, q.y);
-    if x < y { y } else { x }
+    x.max(y)
 }
 
 // Of so many nodes from the first on, one whose box is the nearest to q.
-fn node_near(w: &[i32], n: usize, m: usize, q: Spot, first: usize, count: usize) -> usize
-    requires { Opens w.now n m × SpotIn q × (0 < count) × (first + count ≤ m) }
+fn node_near(w: Sheet<'_>, q: Spot, first: usize, count: usize) -> usize
+    requires { SpotIn q × (0 < count) × (first + count ≤ w.m) }
     ensures { (first ≤ result) × (result < first + count) }
 {
     let mut near = first;
-    let mut least = away(q, sheet::reads::box_at(w, n, m, first));
-    let mut k = first + 1;
-    while k < first + count {
-        let d = away(q, sheet::reads::box_at(w, n, m, k));
+    let mut least = away(q, w.box_at(first));
+    for k in first + 1..first + count {
+        let d = away(q, w.box_at(k));
         if d < least {
             least = d;
             near = k;
         }
-        k += 1;
     }
     near
 }
 
 // A leaf near q: from the root down, each time into the nearest box.
-pub(crate) fn leaf_near(w: &[i32], n: usize, m: usize, q: Spot) -> usize
-    requires { Opens w.now n m × SpotIn q × (0 < m) }
-    ensures { result < m }
+pub(crate) fn leaf_near(w: Sheet<'_>, q: Spot) -> usize
+    requires { SpotIn q × (0 < w.m) }
+    ensures { result < w.entry.m }
 {
-    let mut at = m - 1;
-    let mut level = sheet::reads::level_at(w, n, m, at);
+    let mut at = w.m - 1;
+    let mut level = w.level_at(at);
+    // Kept: each step goes down a level of the tree: the loop counts no index.
     while level > 0 {
-        let first = sheet::reads::first_at(w, n, m, at);
-        let count = sheet::reads::count_at(w, n, m, at);
-        at = node_near(w, n, m, q, first, count);
-        level = sheet::reads::level_at(w, n, m, at);
+        let first = w.first_at(at);
+        let count = w.count_at(at);
+        at = node_near(w, q, first, count);
+        level = w.level_at(at);
     }
     at
 }

@@ -9,11 +9,8 @@ fn is_blank(bits: &[u64], w: usize) -> bool
     ensures { result ≡ true → Blank bits.now w 16 }
 {
     let mut blank = true;
-    let mut k: usize = 0;
-    while k < 16 {
-        let word = bits[w + k];
-        blank = blank & (word == 0);
-        k += 1;
+    for word in &bits[w..w + 16] {
+        blank = blank & (*word == 0);
     }
     blank
 }
@@ -25,6 +22,7 @@ fn past_blank(bits: &[u64], w: usize) -> usize
 {
     let n = bits.len();
     let mut at = w;
+    // Kept: each step passes sixteen words at once, and where it stops is the answer: `chunks` would have to count them again, and is no plainer.
     while at + 16 <= n {
         if !is_blank(bits, at) {
             return at;

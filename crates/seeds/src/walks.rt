@@ -1,330 +1,213 @@
 // The walks of a sheet for q, with the droppers in hand.
-ghost use Rattle.std.specs.Prelude.{◌≡◌, ◌+◌, ◌≤◌, ◌<◌};
-ghost use Rattle.plane.specs.Rule.{SpotIn, drops_box};
+ghost use Rattle.std.specs.Prelude.{◌≡◌, true, ◌+◌, ◌≤◌, ◌<◌};
+ghost use Rattle.plane.specs.Rule.{SpotIn, drops, drops_box};
 ghost use Rattle.sheet.specs.Nodes.{level_of};
 ghost use Rattle.sheet.specs.Places.{box_of};
 ghost use Rattle.sheet.specs.Boxes.{Below};
-ghost use Rattle.sheet.specs.Open.{Opens};
 ghost use Rattle.bits.specs.Set.{Holds};
 ghost use Rattle.seeds.specs.Line.{Lined, Known, At, Among, Drops};
 ghost use Rattle.seeds.specs.Covers.{On, Deals, Retries};
 
 use crate::line::Line;
 use plane::Spot;
+use sheet::Sheet;
 
-// What the walk carries: the droppers in hand, and how many candidates are noted. Where that is more than there is room for, not all of them are.
-#[derive(Clone, Copy)]
-pub struct Course {
+// How many candidates there are, and the first of them: there is room for 64.
+#[derive(Drop)]
+struct Found {
+    at: [usize; 64],
+    count: usize,
+}
+
+// What the walk carries: the droppers in hand, and the candidates that are noted.
+#[derive(Drop)]
+pub(crate) struct Course {
     pub line: Line,
-    pub noted: usize,
+    found: Found,
+}
+
+impl Found {
+    // One more candidate, which is noted where there is room.
+    fn note(&mut self, at: usize) {
+        if self.count < 64 {
+            self.at[self.count] = at;
+        }
+        self.count = self.count.saturating_add(1);
+    }
+}
+
+impl Course {
+    // No dropper and no candidate yet.
+    pub(crate) fn new() -> Course
+        ensures { result.line.count ≡ 0 }
+    {
+        Course {
+            line: Line::new(),
+            found: Found {
+                at: [0; 64],
+                count: 0,
+            },
+        }
+    }
+}
+
+// A dropper that drops the place z, for q, or their number.
+fn spot_by(q: Spot, z: Spot, line: &Line) -> usize
+    requires { SpotIn q × SpotIn z }
+    ensures { Drops (λ y. drops q y z ≡ true) line.now result }
+{
+    line.dropper(|d| plane::does_block(q, z, d))
+}
+
+// The same of the box of node j.
+fn box_by(w: Sheet<'_>, q: Spot, j: usize, line: &Line) -> usize
+    requires { SpotIn q × (j < w.m) }
+    ensures { Drops (λ z. drops_box q z (box_of w.entry.words.now w.entry.n j) ≡ true) line.now result }
+{
+    let o = w.box_at(j);
+    line.dropper(|z| plane::drops_box(q, z, o))
 }
 
 // The place z is tried: a dropper drops it, or it is one from now on.
-fn seed_place(q: Spot, z: Spot, xs: &mut [i64; 24], ys: &mut [i64; 24], line: Line) -> Line
-    requires { SpotIn q × SpotIn z × Lined SpotIn xs.old ys.old line.count }
-    ensures { Lined (Known (At z) xs.old ys.old line.count) xs.new ys.new result.count }
+fn seed_place(q: Spot, z: Spot, line: &mut Line)
+    requires { SpotIn q × SpotIn z }
+    ensures { Lined (Known (At z) line.old) line.new }
 {
-    let by = crate::line::spot_dropper(q, z, xs, ys, line);
+    let by = spot_by(q, z, line);
     if by < line.count {
-        return Line {
-            count: line.count,
-            last: by,
-        };
+        line.last = by;
+        return;
     }
-    Line {
-        count: crate::line::joined(q, z, xs, ys, line.count),
-        last: line.last,
-    }
+    line.join(q, z);
 }
 
-// The places of a leaf are tried; the line after them.
-fn seed_places(
-    w: &[i32],
-    n: usize,
-    m: usize,
-    q: Spot,
-    first: usize,
-    count: usize,
-    xs: &mut [i64; 24],
-    ys: &mut [i64; 24],
-    line: Line,
-) -> Line
-    requires { Opens w.now n m × SpotIn q × (first + count ≤ n) × Lined SpotIn xs.old ys.old line.count }
-    ensures { Lined (Known (On w.now n) xs.old ys.old line.count) xs.new ys.new result.count }
+// The places of a leaf are tried.
+fn seed_places(w: Sheet<'_>, q: Spot, first: usize, count: usize, line: &mut Line)
+    requires { SpotIn q × (first + count ≤ w.n) }
+    ensures { Lined (Known (On w.entry.words.now w.entry.n) line.old) line.new }
 {
-    let mut on = line;
-    let mut i: usize = 0;
-    while i < count {
-        let at = sheet::reads::order_at(w, n, m, first + i);
-        let z = sheet::reads::spot_at(w, n, m, at);
-        on = seed_place(q, z, xs, ys, on);
-        i += 1;
+    for i in 0..count {
+        let at = w.order_at(first + i);
+        let z = w.spot_at(at);
+        seed_place(q, z, line);
     }
-    on
-}
-
-// A dropper that drops the box of node j, or their number.
-fn box_by(
-    w: &[i32],
-    n: usize,
-    m: usize,
-    q: Spot,
-    j: usize,
-    xs: &[i64; 24],
-    ys: &[i64; 24],
-    line: Line,
-) -> usize
-    requires { Opens w.now n m × SpotIn q × (j < m) × Lined SpotIn xs.now ys.now line.count }
-    ensures { Drops (λ z. drops_box q z (box_of w.now n j)) xs.now ys.now line.count result }
-{
-    let o = sheet::reads::box_at(w, n, m, j);
-    crate::line::box_dropper(q, o, xs, ys, line)
 }
 
 // Node j, where it is a leaf. Where a dropper drops its box none of its places would become one, and none is read.
-fn seed_leaf(
-    w: &[i32],
-    n: usize,
-    m: usize,
-    q: Spot,
-    j: usize,
-    xs: &mut [i64; 24],
-    ys: &mut [i64; 24],
-    line: Line,
-) -> Line
-    requires { Opens w.now n m × SpotIn q × (j < m) × Lined SpotIn xs.old ys.old line.count }
-    ensures { Lined (Known (On w.now n) xs.old ys.old line.count) xs.new ys.new result.count }
+fn seed_leaf(w: Sheet<'_>, q: Spot, j: usize, line: &mut Line)
+    requires { SpotIn q × (j < w.m) }
+    ensures { Lined (Known (On w.entry.words.now w.entry.n) line.old) line.new }
 {
-    let level = sheet::reads::level_at(w, n, m, j);
-    let first = sheet::reads::first_at(w, n, m, j);
-    let count = sheet::reads::count_at(w, n, m, j);
+    let level = w.level_at(j);
+    let first = w.first_at(j);
+    let count = w.count_at(j);
     if level > 0 {
-        return line;
+        return;
     }
-    if box_by(w, n, m, q, j, xs, ys, line) < line.count {
-        return line;
+    if box_by(w, q, j, line) < line.count {
+        return;
     }
-    seed_places(w, n, m, q, first, count, xs, ys, line)
+    seed_places(w, q, first, count, line);
 }
 
 // The leaf at node j, and the nodes beside it where they are leaves.
-pub(crate) fn seed_about(
-    w: &[i32],
-    n: usize,
-    m: usize,
-    q: Spot,
-    j: usize,
-    xs: &mut [i64; 24],
-    ys: &mut [i64; 24],
-    line: Line,
-) -> Line
-    requires { Opens w.now n m × SpotIn q × (j < m) × Lined SpotIn xs.old ys.old line.count }
-    ensures { Lined (Known (On w.now n) xs.old ys.old line.count) xs.new ys.new result.count }
+pub(crate) fn seed_about(w: Sheet<'_>, q: Spot, j: usize, line: &mut Line)
+    requires { SpotIn q × (j < w.m) }
+    ensures { Lined (Known (On w.entry.words.now w.entry.n) line.old) line.new }
 {
     let left = if j > 0 { j - 1 } else { j };
-    let right = if j + 1 < m { j + 1 } else { j };
-    let a = seed_leaf(w, n, m, q, j, xs, ys, line);
-    let b = seed_leaf(w, n, m, q, left, xs, ys, a);
-    seed_leaf(w, n, m, q, right, xs, ys, b)
-}
-
-// The dropper of this number dropped last.
-fn passed(so: Course, by: usize) -> Course
-    ensures { result.line.count ≡ so.line.count }
-{
-    let line = so.line;
-    Course {
-        line: Line {
-            count: line.count,
-            last: by,
-        },
-        noted: so.noted,
-    }
-}
-
-// A candidate is noted, where there is room; how many are.
-fn note(found: &mut [usize; 64], noted: usize, at: usize) -> usize {
-    if noted < 64 {
-        found[noted] = at;
-        return noted + 1;
-    }
-    65
+    let right = if j + 1 < w.m { j + 1 } else { j };
+    seed_leaf(w, q, j, line);
+    seed_leaf(w, q, left, line);
+    seed_leaf(w, q, right, line);
 }
 
 // The position at place r is a candidate, unless a dropper drops it.
-fn walk_place(
-    w: &[i32],
-    n: usize,
-    m: usize,
-    q: Spot,
-    r: usize,
-    bits: &mut [u64],
-    found: &mut [usize; 64],
-    xs: &mut [i64; 24],
-    ys: &mut [i64; 24],
-    so: Course,
-) -> Course
-    requires { Opens w.now n m × SpotIn q × (r < n) × Holds bits.old n × Lined SpotIn xs.old ys.old so.line.count }
-    ensures { Lined (Known (On w.now n) xs.old ys.old so.line.count) xs.new ys.new result.line.count × Deals (Known (On w.now n) xs.old ys.old so.line.count) w.now n q (λ k. k ≡ r) bits.old bits.new }
+fn walk_place(w: Sheet<'_>, q: Spot, r: usize, bits: &mut [u64], so: &mut Course)
+    requires { SpotIn q × (r < w.n) × Holds bits.old w.n }
+    ensures { Lined (Known (On w.entry.words.now w.entry.n) so.old.line) so.new.line × Deals (Known (On w.entry.words.now w.entry.n) so.old.line) w.entry.words.now w.entry.n q (λ k. k ≡ r) bits.old bits.new }
 {
-    let line = so.line;
-    let at = sheet::reads::order_at(w, n, m, r);
-    let z = sheet::reads::spot_at(w, n, m, at);
-    let by = crate::line::spot_dropper(q, z, xs, ys, line);
-    if by < line.count {
-        return passed(so, by);
+    let at = w.order_at(r);
+    let z = w.spot_at(at);
+    let by = spot_by(q, z, &so.line);
+    if by < so.line.count {
+        so.line.last = by;
+        return;
     }
     bits::insert(bits, at);
-    let noted = note(found, so.noted, at);
-    Course {
-        line: Line {
-            count: crate::line::joined(q, z, xs, ys, line.count),
-            last: line.last,
-        },
-        noted: noted,
-    }
+    so.found.note(at);
+    so.line.join(q, z);
 }
 
 // The places of a leaf, in turn.
-fn walk_places(
-    w: &[i32],
-    n: usize,
-    m: usize,
-    q: Spot,
-    first: usize,
-    count: usize,
-    bits: &mut [u64],
-    found: &mut [usize; 64],
-    xs: &mut [i64; 24],
-    ys: &mut [i64; 24],
-    so: Course,
-) -> Course
-    requires { Opens w.now n m × SpotIn q × (first + count ≤ n) × Holds bits.old n × Lined SpotIn xs.old ys.old so.line.count }
-    ensures { Lined (Known (On w.now n) xs.old ys.old so.line.count) xs.new ys.new result.line.count × Deals (Known (On w.now n) xs.old ys.old so.line.count) w.now n q (λ k. (first ≤ k) × (k < first + count)) bits.old bits.new }
+fn walk_places(w: Sheet<'_>, q: Spot, first: usize, count: usize, bits: &mut [u64], so: &mut Course)
+    requires { SpotIn q × (first + count ≤ w.n) × Holds bits.old w.n }
+    ensures { Lined (Known (On w.entry.words.now w.entry.n) so.old.line) so.new.line × Deals (Known (On w.entry.words.now w.entry.n) so.old.line) w.entry.words.now w.entry.n q (λ k. (first ≤ k) × (k < first + count)) bits.old bits.new }
 {
-    let mut on = so;
-    let mut i: usize = 0;
-    while i < count {
-        on = walk_place(w, n, m, q, first + i, bits, found, xs, ys, on);
-        i += 1;
+    for i in 0..count {
+        walk_place(w, q, first + i, bits, so);
     }
-    on
 }
 
 // The walk below node j: of what it covers, a box that a dropper drops is passed over.
-pub(crate) fn walk_node(
-    w: &[i32],
-    n: usize,
-    m: usize,
-    q: Spot,
-    j: usize,
-    bits: &mut [u64],
-    found: &mut [usize; 64],
-    xs: &mut [i64; 24],
-    ys: &mut [i64; 24],
-    so: Course,
-) -> Course
-    requires { Opens w.now n m × SpotIn q × (j < m) × Holds bits.old n × Lined SpotIn xs.old ys.old so.line.count }
-    ensures { Lined (Known (On w.now n) xs.old ys.old so.line.count) xs.new ys.new result.line.count × Deals (Known (On w.now n) xs.old ys.old so.line.count) w.now n q (Below w.now n (level_of w.now n j) j) bits.old bits.new }
+pub(crate) fn walk_node(w: Sheet<'_>, q: Spot, j: usize, bits: &mut [u64], so: &mut Course)
+    requires { SpotIn q × (j < w.m) × Holds bits.old w.n }
+    ensures { Lined (Known (On w.entry.words.now w.entry.n) so.old.line) so.new.line × Deals (Known (On w.entry.words.now w.entry.n) so.old.line) w.entry.words.now w.entry.n q (Below w.entry.words.now w.entry.n (level_of w.entry.words.now w.entry.n j) j) bits.old bits.new }
 {
-    let level = sheet::reads::level_at(w, n, m, j);
-    let first = sheet::reads::first_at(w, n, m, j);
-    let count = sheet::reads::count_at(w, n, m, j);
+    let level = w.level_at(j);
+    let first = w.first_at(j);
+    let count = w.count_at(j);
     if level == 0 {
-        return walk_places(w, n, m, q, first, count, bits, found, xs, ys, so);
+        walk_places(w, q, first, count, bits, so);
+        return;
     }
-    let mut on = so;
-    let mut i: usize = 0;
-    while i < count {
-        let line = on.line;
-        let by = box_by(w, n, m, q, first + i, xs, ys, line);
-        if by < line.count {
-            on = passed(on, by);
+    for i in 0..count {
+        let by = box_by(w, q, first + i, &so.line);
+        if by < so.line.count {
+            so.line.last = by;
         } else {
-            on = walk_node(w, n, m, q, first + i, bits, found, xs, ys, on);
+            walk_node(w, q, first + i, bits, so);
         }
-        i += 1;
     }
-    on
-}
-
-// The candidate of number k that was noted.
-fn noted_at(found: &[usize; 64], k: usize) -> usize
-    requires { k < 64 }
-{
-    found[k]
 }
 
 // The candidate at position i is tried once more: where a dropper drops it by now it is none any more.
-fn retry(
-    w: &[i32],
-    n: usize,
-    m: usize,
-    q: Spot,
-    i: usize,
-    bits: &mut [u64],
-    xs: &[i64; 24],
-    ys: &[i64; 24],
-    line: Line,
-)
-    requires { Opens w.now n m × SpotIn q × (i < n) × Holds bits.old n × Lined SpotIn xs.now ys.now line.count }
-    ensures { Retries (Among xs.now ys.now line.count) w.now q bits.old bits.new }
+fn retry(w: Sheet<'_>, q: Spot, i: usize, bits: &mut [u64], line: &Line)
+    requires { SpotIn q × (i < w.n) × Holds bits.old w.n }
+    ensures { Retries (Among line.now) w.entry.words.now q bits.old bits.new }
 {
-    let count = line.count;
-    let z = sheet::reads::spot_at(w, n, m, i);
-    if crate::line::spot_dropper(q, z, xs, ys, line) < count {
+    let z = w.spot_at(i);
+    if spot_by(q, z, line) < line.count {
         bits::remove(bits, i);
     }
 }
 
 // All candidates are tried once more, by position.
-fn retry_all(
-    w: &[i32],
-    n: usize,
-    m: usize,
-    q: Spot,
-    bits: &mut [u64],
-    xs: &[i64; 24],
-    ys: &[i64; 24],
-    line: Line,
-)
-    requires { Opens w.now n m × SpotIn q × Holds bits.old n × Lined SpotIn xs.now ys.now line.count }
-    ensures { Retries (Among xs.now ys.now line.count) w.now q bits.old bits.new }
+fn retry_all(w: Sheet<'_>, q: Spot, bits: &mut [u64], line: &Line)
+    requires { SpotIn q × Holds bits.old w.n }
+    ensures { Retries (Among line.now) w.entry.words.now q bits.old bits.new }
 {
     let mut i = crate::scan::next_from(bits, 0);
-    while i < n {
-        retry(w, n, m, q, i, bits, xs, ys, line);
+    // Kept: each step goes to the next kept bit, and the walk may take bits away: the loop counts no index.
+    while i < w.n {
+        retry(w, q, i, bits, line);
         i = crate::scan::next_from(bits, i + 1);
     }
 }
 
 // The candidates are tried once more: those that are noted, or where there was no room for them all, all.
-pub(crate) fn try_again(
-    w: &[i32],
-    n: usize,
-    m: usize,
-    q: Spot,
-    bits: &mut [u64],
-    found: &[usize; 64],
-    xs: &[i64; 24],
-    ys: &[i64; 24],
-    all: Course,
-)
-    requires { Opens w.now n m × SpotIn q × Holds bits.old n × Lined SpotIn xs.now ys.now all.line.count }
-    ensures { Retries (Among xs.now ys.now all.line.count) w.now q bits.old bits.new }
+pub(crate) fn try_again(w: Sheet<'_>, q: Spot, bits: &mut [u64], so: &Course)
+    requires { SpotIn q × Holds bits.old w.n }
+    ensures { Retries (Among so.now.line) w.entry.words.now q bits.old bits.new }
 {
-    let line = all.line;
-    let noted = all.noted;
+    let noted = so.found.count;
     if noted > 64 {
-        retry_all(w, n, m, q, bits, xs, ys, line);
+        retry_all(w, q, bits, &so.line);
         return;
     }
-    let mut k: usize = 0;
-    while k < noted {
-        let i = noted_at(found, k);
-        if i < n {
-            retry(w, n, m, q, i, bits, xs, ys, line);
+    for i in &so.found.at[..noted] {
+        if *i < w.n {
+            retry(w, q, *i, bits, &so.line);
         }
-        k += 1;
     }
 }

@@ -35,6 +35,6 @@ module _ {s : List ℤ} {n m : ℕ} (o : Opens s n m) (id : ℕ) where
   unfolding position_of
   seek_stop j a e i y l = first_stop (has s id) j (length (points_of s)) e (eq-eqb (id_at (points_of s) j) id (sym i ∙ y)) (omega (arith, records))
 
-  pub sheet_seek_end : (j : ℕ) → first_b j (has s id) ≡ j → j ≤ n → n ≤ j → j ≡ position_of (points_of s) id
+  pub sheet_seek_end : (j : ℕ) → first_b j (has s id) ≡ j → j ≤ n → n ≤ j → n ≡ position_of (points_of s) id
   unfolding position_of
-  sheet_seek_end j e l g = sym e ∙ ap (λ (k : ℕ). first_b k (has s id)) (le_antisymm l g ∙ sym records)
+  sheet_seek_end j e l g = le_antisymm g l ∙ sym e ∙ ap (λ (k : ℕ). first_b k (has s id)) (le_antisymm l g ∙ sym records)

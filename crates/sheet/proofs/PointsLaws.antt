@@ -16,6 +16,7 @@ use Rattle.words.proofs.AllLaws.{all_at}
 use Rattle.words.proofs.TabLaws.{length_tab, at_tab}
 use Rattle.words.proofs.RangeLaws.{id_num, id_is, id_bounds}
 use Rattle.sheet.specs.Layout.{points}
+use Rattle.sheet.specs.Limits.{form2}
 use Rattle.sheet.specs.Points.{id_at, x_at, y_at, fields_ok, rises_ok, point_ok, points_ok}
 use Rattle.sheet.specs.Places.{spot_of, point_of, points_of}
 use Rattle.sheet.specs.Open.{Opens}
@@ -54,9 +55,9 @@ module _ {w : List ℤ} {n m : ℕ} (o : Opens w n m) where
   unfolding points_ok point_ok fields_ok
   id_word_at i h =
       let a = id_word (id_at w i) in
-      let b = coord_word o.lim.coordinate (x_at w i) in
-      let c = coord_word o.lim.coordinate (y_at w i) in
-      and_left a b (and_left (a && b) c (and_left (a && b && c) (rises_ok w i) (all_at (point_ok o.lim w) n o.pointed i h)))
+      let b = coord_word form2.coordinate (x_at w i) in
+      let c = coord_word form2.coordinate (y_at w i) in
+      and_left a b (and_left (a && b) c (and_left (a && b && c) (rises_ok w i) (all_at (point_ok form2 w) n o.pointed i h)))
 
   low : (i : ℕ) → i < n → 0 < num (id_at w i)
   low i h = let b = id_bounds (num (id_at w i)) (id_num (id_at w i) (id_word_at i h)) in omega arith
@@ -67,7 +68,7 @@ module _ {w : List ℤ} {n m : ℕ} (o : Opens w n m) where
   rises : (i : ℕ) → i + 1 < n → num (id_at w i) < num (id_at w (i + 1))
   unfolding points_ok point_ok rises_ok
   rises i h =
-      let r : rises_ok w (i + 1) ≡ true = and_right (fields_ok o.lim w (i + 1)) (rises_ok w (i + 1)) (all_at (point_ok o.lim w) n o.pointed (i + 1) h) in
+      let r : rises_ok w (i + 1) ≡ true = and_right (fields_ok form2 w (i + 1)) (rises_ok w (i + 1)) (all_at (point_ok form2 w) n o.pointed (i + 1) h) in
       let b : before (id_at w (i + 1 - 1)) (id_at w (i + 1)) ≡ true = rw (ne_eqb (i + 1) 0 (λ z. omega arith)) at r in
       let e : i + 1 - 1 ≡ i = omega arith in
       let b' : before (id_at w i) (id_at w (i + 1)) ≡ true = subst (λ (k : ℕ). before (id_at w k) (id_at w (i + 1)) ≡ true) e b in

@@ -1,6 +1,6 @@
 -- The places of the points of a sheet that opens, and the boxes of its nodes, are within the range that the arithmetic of the plane asks.
 -- Assumes nothing.
-use mathlib.Core.Path.{◌≡◌, refl, sym, subst, ◌∙◌}
+use mathlib.Core.Path.{◌≡◌, refl, sym, subst}
 use mathlib.Core.Bool.{true, false, ◌&&◌}
 use mathlib.Core.List.{List}
 use Prim.Native.Nat.{ℕ, ◌<◌}
@@ -19,30 +19,30 @@ use Rattle.sheet.specs.Order.{order_of}
 use Rattle.sheet.specs.Nodes.{level_of}
 use Rattle.sheet.specs.Places.{spot_of, box_of}
 use Rattle.sheet.specs.declared.Limits.{Limits}
-use Rattle.sheet.specs.Limits.{form1, limits_of}
+use Rattle.sheet.specs.Limits.{form1, form2, limits_of}
 use Rattle.sheet.specs.Layout.{form, second, points}
 use Rattle.sheet.specs.Open.{sheet_no, Opens}
-use Rattle.sheet.proofs.SheetLaws.{open_facts, open_lim, limits_fair, limits_one}
+use Rattle.sheet.proofs.SheetLaws.{open_points, form2_fair, limits_one}
 use Rattle.sheet.proofs.OrderLaws.{order_below}
 use Rattle.sheet.proofs.PlaceLaws.{touching, touching_below, below_place, on_sides}
 
+fields : (lim : Limits) (w : List ℤ) (n : ℕ) → points_ok lim w n ≡ true → (i : ℕ) → i < n → (coord_word lim.coordinate (x_at w i) ≡ true) × (coord_word lim.coordinate (y_at w i) ≡ true)
+unfolding points_ok point_ok fields_ok
+fields lim w n p i h =
+    let a = id_word (id_at w i) in
+    let b = coord_word lim.coordinate (x_at w i) in
+    let c = coord_word lim.coordinate (y_at w i) in
+    let e = and_left (a && b && c) (rises_ok w i) (all_at (point_ok lim w) n p i h) in
+    (and_right a b (and_left (a && b) c e), and_right (a && b) c e)
+
+-- a point stands within any bound of the coordinates of the limits that it is tried by
+pub spot_within : (lim : Limits) (w : List ℤ) (n : ℕ) → points_ok lim w n ≡ true → (c : ℕ) → lim.coordinate ≤ℤ pos c → (i : ℕ) → i < n → Within c (spot_of w i).x × Within c (spot_of w i).y
+unfolding spot_of
+spot_within lim w n p c k i h = let f = fields lim w n p i h in (coord_in lim.coordinate (x_at w i) c k f.0, coord_in lim.coordinate (y_at w i) c k f.1)
+
 module _ {w : List ℤ} {n m : ℕ} (o : Opens w n m) where
-  fields : (i : ℕ) → i < n → (coord_word o.lim.coordinate (x_at w i) ≡ true) × (coord_word o.lim.coordinate (y_at w i) ≡ true)
-  unfolding points_ok point_ok fields_ok
-  fields i h =
-      let a = id_word (id_at w i) in
-      let b = coord_word o.lim.coordinate (x_at w i) in
-      let c = coord_word o.lim.coordinate (y_at w i) in
-      let e = and_left (a && b && c) (rises_ok w i) (all_at (point_ok o.lim w) n o.pointed i h) in
-      (and_right a b (and_left (a && b) c e), and_right (a && b) c e)
-
-  -- a point stands within any bound of the coordinates of its form
-  pub spot_within : (c : ℕ) → o.lim.coordinate ≤ℤ pos c → (i : ℕ) → i < n → Within c (spot_of w i).x × Within c (spot_of w i).y
-  unfolding spot_of
-  spot_within c k i h = let f = fields i h in (coord_in o.lim.coordinate (x_at w i) c k f.0, coord_in o.lim.coordinate (y_at w i) c k f.1)
-
   pub spot_in : (i : ℕ) → i < n → SpotIn (spot_of w i)
-  spot_in i h = let z = spot_within 1_000_000_000 o.fair.coordinate_to i h in record { x_in = z.0; y_in = z.1 }
+  spot_in i h = let z = spot_within form2 w n o.pointed 1_000_000_000 form2_fair.coordinate_to i h in record { x_in = z.0; y_in = z.1 }
 
   pub box_in : (j : ℕ) → j < m → BoxIn (box_of w n j)
   box_in j h =
@@ -69,8 +69,8 @@ module _ {w : List ℤ} {n m : ℕ} (o : Opens w n m) where
 -- the points of a sheet that opens and is not of form 2 stand within a million
 pub first_within : (w : List ℤ) → sheet_no w ≡ 0 → second w ≡ false → (i : ℕ) → i < points w → SpotTo 1_000_000 (spot_of w i)
 first_within w e f i h =
-    let o = open_facts (limits_of (form w)) (limits_fair (form w)) w e in
-    let lim : form1 ≡ o.lim = limits_one w false (sym f) refl ∙ sym (open_lim (limits_of (form w)) (limits_fair (form w)) w e) in
+    let one : form1 ≡ limits_of (form w) = limits_one w false (sym f) refl in
+    let p : points_ok form1 w (points w) ≡ true = subst (λ (l : Limits). points_ok l w (points w) ≡ true) (sym one) (open_points (limits_of (form w)) w e) in
     let c : form1.coordinate ≤ℤ pos 1_000_000 = unfold form1 in record { le = tt } in
-    let z = spot_within o 1_000_000 (subst (λ (l : Limits). l.coordinate ≤ℤ pos 1_000_000) lim c) i h in
+    let z = spot_within form1 w (points w) p 1_000_000 c i h in
     record { x_in = z.0; y_in = z.1 }

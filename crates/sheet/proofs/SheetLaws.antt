@@ -1,7 +1,7 @@
 -- What it means that a sheet opens: all that the tests of `open_no` say, in one record.
 -- Assumes nothing.
 use mathlib.Core.Path.{◌≡◌, refl, sym, ap, subst, ◌∙◌}
-use mathlib.Core.Bool.{Bool, true, false, cond, beq}
+use mathlib.Core.Bool.{Bool, true, false, cond, beq, ◌&&◌}
 use mathlib.Core.List.{List, [], ◌∷◌}
 use Prim.Native.Nat.{ℕ, ◌≤◌}
 use native.Mathlib.Omega.{arith}
@@ -9,10 +9,14 @@ use lib.Dec.{eqb}
 use lib.ListN.{length}
 use lib.IntN.{ℤ, pos}
 use borrow.Author.Tests.{eqb-true, eq-eqb}
-use Rattle.integers.proofs.Bools.{and_left}
+use Rattle.integers.proofs.Bools.{and_left, and_right, and_both}
 use Rattle.words.proofs.FirstLaws.{none_applies, given_held}
 use Rattle.sheet.specs.declared.Limits.{Limits}
 use Rattle.words.specs.Word.{eq_z}
+use Rattle.words.specs.Range.{id_word, coord_word}
+use Rattle.words.proofs.AllLaws.{all_at, all_make}
+use Rattle.words.proofs.RangeLaws.{coord_wider}
+use Rattle.sheet.specs.Points.{id_at, x_at, y_at, fields_ok, rises_ok, point_ok, points_ok}
 use Rattle.sheet.specs.Limits.{Fair, form1, form2, limits_of}
 use Rattle.sheet.specs.Layout.{form, second, points, nodes}
 use Rattle.sheet.specs.Nodes.{table_ok, nodes_ok}
@@ -32,6 +36,20 @@ pub open_trailer : (lim : Limits) (w : List ℤ) → open_no lim w ≡ 0 → Tra
 unfolding open_no
 open_trailer lim w e = trailer_facts lim w ((none_applies _).0 e 0)
 
+-- form 2's limits are the widest: points within those of any form are within these
+pub points_wider : (lim : Limits) → Fair lim → (w : List ℤ) (n : ℕ) → points_ok lim w n ≡ true → points_ok form2 w n ≡ true
+unfolding points_ok point_ok fields_ok form2
+points_wider lim fair w n e = all_make _ n (λ i h.
+    let a = id_word (id_at w i) in
+    let b = coord_word lim.coordinate (x_at w i) in
+    let c = coord_word lim.coordinate (y_at w i) in
+    let t = all_at (point_ok lim w) n e i h in
+    let f = and_left (a && b && c) (rises_ok w i) t in
+    and_both _ _
+    (and_both _ _ (and_both _ _ (and_left a b (and_left (a && b) c f)) (coord_wider _ _ _ fair.coordinate_to (and_right a b (and_left (a && b) c f))))
+    (coord_wider _ _ _ fair.coordinate_to (and_right (a && b) c f)))
+    (and_right (a && b && c) (rises_ok w i) t))
+
 -- a sheet that opens passes every test
 pub open_facts : (lim : Limits) → Fair lim → (w : List ℤ) → open_no lim w ≡ 0 → Opens w (points w) (nodes w)
 unfolding open_no body_no nodes_ok
@@ -42,24 +60,22 @@ open_facts lim fair w e =
     let z = (none_applies _).0 ((none_applies _).0 e 1) in
     let tree = given_held _ (z 2) in
     record {
-      lim = lim;
-      fair = fair;
       n_is = refl;
       m_is = refl;
       n_le = omega (arith, t.n_le, fair.points_le);
       m_le = omega (arith, t.m_le, fair.nodes_le);
       long = t.size;
-      pointed = given_held _ (z 0);
+      pointed = points_wider lim fair w n (given_held _ (z 0));
       ordered = given_held _ (z 1);
       table = nodes_table w n m tree;
       tight = given_held _ (z 3);
       empty = empties n m (and_left (beq (eqb n 0) (eqb m 0)) (table_ok w n m) tree);
     }
 
--- by the limits of its form
-pub open_lim : (lim : Limits) (fair : Fair lim) (w : List ℤ) (e : open_no lim w ≡ 0) → (open_facts lim fair w e).lim ≡ lim
-unfolding open_facts
-open_lim lim fair w e = refl
+-- its points pass by the limits of its form
+pub open_points : (lim : Limits) (w : List ℤ) → open_no lim w ≡ 0 → points_ok lim w (points w) ≡ true
+unfolding open_no body_no
+open_points lim w e = given_held _ ((none_applies _).0 ((none_applies _).0 e 1) 0)
 
 pub form1_fair : Fair form1
 unfolding form1

@@ -12,21 +12,14 @@ use native.Mathlib.Omega.{arith}
 use lib.Dec.{eqb, ltb}
 use borrow.Author.Tests.{ltb-true, lt-ltb, le-ltb, eqb-true, eq-eqb, ne_eqb}
 use Rattle.integers.proofs.Bools.{decide, and_both, and_right, or_both_false}
-use Rattle.sorting.specs.Ranking.{Apart, Order}
-use Rattle.sorting.proofs.LexLaws.{or_first, or_second, or_and, less_order, less_total, number_order, lex_order}
+use Rattle.sorting.specs.Ranking.{Apart}
+use Rattle.sorting.proofs.LexLaws.{or_first, or_second, or_and, less_total}
 use Rattle.list.specs.declared.Key.{Key}
 use Rattle.list.specs.declared.Pair.{Pair}
 use Rattle.list.specs.Pairs.{key_of, follows, ascends}
 use Rattle.list.proofs.Order.{asc_member}
 use Rattle.shortest.specs.Order.{shorter}
-
-follow_order : Order (λ (v w : Pair). follows (key_of v) (key_of w))
-unfolding follows
-follow_order = lex_order (λ (v : Pair). v.q) ltb less_order less_total (λ (v w : Pair). ltb v.p w.p) (number_order (λ (v : Pair). v.p) ltb less_order)
-
-pub shorter_order : Order shorter
-unfolding shorter
-shorter_order = lex_order (λ (v : Pair). v.size) ltb less_order less_total (λ (v w : Pair). follows (key_of v) (key_of w)) follow_order
+pub use Rattle.shortest.specs.Lawful.{shorter_order}
 
 pub sized : (v w : Pair) → shorter v w ≡ true → (v.size < w.size) ⊎ ((v.size ≡ w.size) × (follows (key_of v) (key_of w) ≡ true))
 unfolding shorter

@@ -1,26 +1,25 @@
 -- The search for the shortest pairs: one pair put among those held, a chamber pair by pair, and one chamber after the other.
---     one_asks, one_put, one_over, one_drop     one pair, and those held
---     bound_few, bound_full, bounded_row     no pair that is longer than the bound is among the k
+--     bound_by, bounded_row     no pair that is longer than the bound is among the k
 --     Gathering      the loop over a chamber's pairs: gather_start, gather_next, gather_turn, gather_end
 --     Going          the loop over the chambers: shortest_going_start, going_on, all_gathered
 -- Assumes nothing.
-use mathlib.Core.Path.{◌≡◌, refl, sym, ap, subst, ◌∙◌}
+use mathlib.Core.Path.{◌≡◌, sym, ap, subst, ◌∙◌}
 use mathlib.Core.Bool.{Bool, true, false}
 use mathlib.Core.Logic.{⊎_elim}
 use mathlib.Core.List.{List, [], ◌∷◌, Memᴰ}
 use Prim.Native.Nat.{ℕ, zero, suc, ◌+◌, ◌-◌, ◌≤◌, ◌<◌}
-use native.Mathlib.Numerals.{add-one}
 use native.Mathlib.Omega.{arith}
 use lib.Dec.{leb, ltb}
 use lib.IntN.{ℤ}
 use lib.ListN.{length, take, get_or, length-take}
 use borrow.Author.Tests.{ltb-true, ltb-false, lt-ltb, le-ltb, le-leb}
+use Rattle.std.proofs.Common.{Option, None, Some, MatchOption}
 use Rattle.integers.proofs.Bools.{decide, and_left, clash}
 use Rattle.plane.specs.Profile.{circle}
 use Rattle.plane.specs.Point.{Point, spot_at}
 use Rattle.sorting.specs.Ranking.{put_by, sixteen, Sorted, gathered, Apart}
-use Rattle.sorting.proofs.RankingLaws.{ranked_put_long, gathered_first, gathered_two, gathered_short, gathered_sorted, behind_stays, behind_on, behind_last}
-use Rattle.sorting.proofs.HeldLaws.{of_sixteen, held_of, held_put, held_over, held_same, ranked_last, put_asks}
+use Rattle.sorting.proofs.RankingLaws.{ranked_put_long, gathered_first, gathered_two, behind_stays, behind_on, behind_last}
+use Rattle.sorting.proofs.FirstsLaws.{firsts_whole, held_is, firsts_held, held_gathered, fair_gathered, last_none, last_some, last_in_held}
 use Rattle.sheet.specs.Places.{points_of}
 use Rattle.sheet.specs.Open.{Opens}
 use Rattle.bits.specs.Set.{kept, next_from}
@@ -36,59 +35,29 @@ use Rattle.chamber.specs.Sized.{small_for}
 use Rattle.chamber.proofs.KeepLaws.{row_nil, row_yes, row_no, rest_yes, rest_skip, chamber_rest_end}
 use Rattle.chamber.proofs.ListedLaws.{points_many, rows_next, rows_end}
 use Rattle.chamber.proofs.WholeLaws.{small_ring}
-use Rattle.shortest.specs.declared.Search.{Search}
+use Rattle.sorting.specs.declared.Firsts.{Firsts}
+use Rattle.sorting.specs.Firsts.{last_of}
 use Rattle.shortest.specs.Order.{shorter, shortest_of}
 use Rattle.shortest.specs.Answer.{pairs_of}
-use Rattle.shortest.specs.Search.{held, search_of, HeldOrdered, put_at, bound_of}
+use Rattle.shortest.specs.Search.{held, search_of, HeldOrdered, bound_of}
 use Rattle.shortest.proofs.OrderLaws.{shorter_order, not_shorter, pairs_apart}
-
--- ---- a search that holds s
-
-search_whole : (k : ℕ) (g : Search) → HeldOrdered k g → g ≡ search_of (held g)
-search_whole k g h = λ i. record { pairs = h.whole i; count = sym h.long i }
-
-held_search : (s : List Pair) (r : Search) → r ≡ search_of s → held r ≡ s
-held_search s r e = ap held e ∙ of_sixteen shorter none s
-
-search_held : (k : ℕ) (s : List Pair) → length s ≤ k → Sorted shorter s → (r : Search) → r ≡ search_of s → HeldOrdered k r
-search_held k s h o r e = subst (HeldOrdered k) (sym e) (held_of shorter none k s h o)
-
--- ---- one pair, and those held
-
-module _ (k : ℕ) (some : 1 ≤ k) (most : k ≤ 16) (g : Search) (h : HeldOrdered k g) (v : Pair) where
-  -- what `with_pair` asks, of the pairs held or all but the last
-  pub one_asks : (n : ℕ) → n ≤ g.count → n < k → (n < 16) × Sorted shorter (take n g.pairs)
-  one_asks = put_asks shorter none k some most g.pairs g.count h v
-
-  -- fewer than k are held
-  pub one_put : g.count < k → (r : Search) → r ≡ put_at g.count v g → r ≡ search_of (take k (put_by shorter v (held g)))
-  unfolding put_at
-  one_put f r e =
-      let z = held_put shorter none k some most g.pairs g.count h v f _ refl in
-      e ∙ (λ i. record { pairs = z.0 i; count = (sym (add-one g.count) ∙ z.1) i })
-
-  module _ (all : k ≤ g.count) where
-    -- k are held, and this one is shorter than the last
-    pub one_over : shorter v (get_or g.pairs (k - 1) none) ≡ true → (r : Search) → r ≡ put_at (k - 1) v g → r ≡ search_of (take k (put_by shorter v (held g)))
-    unfolding put_at
-    one_over b r e =
-        let z = held_over shorter none k some most g.pairs g.count h v all b _ refl in
-        let s : suc (k - 1) ≡ k = omega arith in
-        e ∙ (λ i. record { pairs = z.0 i; count = (s ∙ z.1) i })
-
-    -- k are held, and it is not
-    pub one_drop : shorter v (get_or g.pairs (k - 1) none) ≡ false → g ≡ search_of (take k (put_by shorter v (held g)))
-    one_drop b = search_whole k g h ∙ ap search_of (sym (held_same shorter none k some most g.pairs g.count h v all shorter_order b))
 
 -- ---- the bound
 
-pub bound_few : (k : ℕ) (g : Search) → g.count < k → 8_000_000_000_000_000_000 ≡ bound_of k g
+bound_few : (k : ℕ) (g : Firsts Pair) → g.count < k → 8_000_000_000_000_000_000 ≡ bound_of k g
 unfolding bound_of
 bound_few k g h = rw (lt-ltb g.count k h)
 
-pub bound_full : (k : ℕ) (g : Search) → k ≤ g.count → (get_or g.pairs (k - 1) none).size ≡ bound_of k g
+bound_full : (k : ℕ) (g : Firsts Pair) → k ≤ g.count → (get_or g.rows (k - 1) none).size ≡ bound_of k g
 unfolding bound_of
 bound_full k g h = rw (le-ltb g.count k h)
+
+-- said of the last of k, where k are held
+pub bound_by : (k : ℕ) (g : Firsts Pair) → k - 1 < length g.rows → (o : Option Pair) → o ≡ last_of k g → (b : ℕ) → MatchOption o (b ≡ 8_000_000_000_000_000_000) (λ (w : Pair). b ≡ w.size) → b ≡ bound_of k g
+bound_by k g h None e b m = m ∙ bound_few k g (last_none shorter none k g h (sym e))
+bound_by k g h (Some w) e b m =
+    let y = last_some shorter none k g w (sym e) in
+    m ∙ ap (λ (v : Pair). v.size) y.1 ∙ bound_full k g y.0
 
 -- a rule that leaves out only pairs which are shorter than none of the k held: the same are gathered
 module _ (a b : ℕ → ℕ → Bool) (pair : ℕ → ℕ → Pair) (j : ℕ) (less : (x : ℕ) → a j x ≡ true → b j x ≡ true) (k : ℕ) where
@@ -126,7 +95,7 @@ module _ (P Q : List Point) (big j i : ℕ) where
       (decide (ltb big (size_of (spot_at Q j) (spot_at P i))))
 
 -- of a chamber's pairs to the bound the same are gathered as of all
-module _ (P Q : List ℤ) (np mp nq mq : ℕ) (op : Opens P np mp) (oq : Opens Q nq mq) (k : ℕ) (some : 1 ≤ k) (most : k ≤ 16) (g : Search) (h : HeldOrdered k g) (j : ℕ) (j_in : j < nq) where
+module _ (P Q : List ℤ) (np mp nq mq : ℕ) (op : Opens P np mp) (oq : Opens Q nq mq) (k : ℕ) (some : 1 ≤ k) (most : k ≤ 16) (g : Firsts Pair) (h : HeldOrdered k g) (j : ℕ) (j_in : j < nq) where
   abbrev ring : ℕ → ℕ → Bool
   ring = ring_pair (points_of P) (points_of Q)
 
@@ -144,95 +113,86 @@ module _ (P Q : List ℤ) (np mp nq mq : ℕ) (op : Opens P np mp) (oq : Opens Q
 
   all_held : k ≤ g.count → gathered shorter k (row (small (bound_of k g)) pairing j np 0) (held g) ≡ gathered shorter k (row ring pairing j np 0) (held g)
   all_held l =
-      let last : get_or g.pairs (k - 1) none ≡ get_or (held g) (k - 1) none = ranked_last shorter none k some most g.pairs g.count h none l in
+      let last = (last_in_held shorter none k some most g h l).0 in
       gathered_less (small (bound_of k g)) ring pairing j (λ x. small_listed (points_of P) (points_of Q) (bound_of k g) j x) k np 0 (held g) (omega (arith, h.long, h.few))
       (λ x p q.
       behind_last shorter shorter_order (pairing j x) none (held g) (k - 1) (omega (arith, h.long, h.few)) h.sorted
-      (ap (shorter (pairing j x)) (sym last) ∙ not_shorter (pairing j x) (get_or g.pairs (k - 1) none) (omega (arith, bound_full k g l, small_longer (points_of P) (points_of Q) (bound_of k g) j x p q))))
+      (ap (shorter (pairing j x)) (sym last) ∙ not_shorter (pairing j x) (get_or g.rows (k - 1) none) (omega (arith, bound_full k g l, small_longer (points_of P) (points_of Q) (bound_of k g) j x p q))))
 
-  pub bounded_row : (r : Search) → r ≡ search_of (gathered shorter k (row (small (bound_of k g)) pairing j np 0) (held g)) → r ≡ search_of (gathered shorter k (row ring pairing j np 0) (held g))
+  pub bounded_row : (r : Firsts Pair) → r ≡ search_of (gathered shorter k (row (small (bound_of k g)) pairing j np 0) (held g)) → r ≡ search_of (gathered shorter k (row ring pairing j np 0) (held g))
   bounded_row r e =
       e ∙ ap search_of (⊎_elim (λ (t : ltb g.count k ≡ true). few_held (ltb-true g.count k t)) (λ (t : ltb g.count k ≡ false). all_held (ltb-false g.count k t)) (decide (ltb g.count k)))
-
--- ---- those held after some pairs were gathered
-
-fair_gathered : (k : ℕ) (l : List Pair) (g r : Search) → HeldOrdered k g → r ≡ search_of (gathered shorter k l (held g)) → HeldOrdered k r
-fair_gathered k l g r h e =
-    search_held k (gathered shorter k l (held g)) (gathered_short shorter k l (held g) (omega (arith, h.long, h.few))) (gathered_sorted shorter shorter_order k l (held g) h.sorted) r e
-
-held_gathered : (k : ℕ) (l : List Pair) (g r : Search) → r ≡ search_of (gathered shorter k l (held g)) → held r ≡ gathered shorter k l (held g)
-held_gathered k l g r e = held_search (gathered shorter k l (held g)) r e
 
 -- ---- the loop over a chamber's pairs: g before it, r at position i
 
 module _ (rule : ℕ → ℕ → Bool) (pair : ℕ → ℕ → Pair) (k j n : ℕ) where
-  pub record Gathering (g r : Search) (i : ℕ) : Type 0 where
+  pub record Gathering (g r : Firsts Pair) (i : ℕ) : Type 0 where
     pub fair : HeldOrdered k r
     pub left : gathered shorter k (row rule pair j (n - i) i) (held r) ≡ gathered shorter k (row rule pair j n 0) (held g)
 
   module _ (b : List ℕ) (exact : (i : ℕ) → i < n → kept b i ≡ rule j i) where
     -- on to the next kept position
-    pub gather_next : (g r : Search) (x u : ℕ) → u ≡ next_from b x → Gathering g r x → Gathering g r u
+    pub gather_next : (g r : Firsts Pair) (x u : ℕ) → u ≡ next_from b x → Gathering g r x → Gathering g r u
     gather_next g r x u e s = record { fair = s.fair; left = ap (λ (l : List Pair). gathered shorter k l (held r)) (sym (rest_skip rule pair j n b (λ y h f. exact y h ∙ f) x u e)) ∙ s.left }
 
-    pub gather_start : (g : Search) → HeldOrdered k g → (u : ℕ) → u ≡ next_from b 0 → Gathering g g u
+    pub gather_start : (g : Firsts Pair) → HeldOrdered k g → (u : ℕ) → u ≡ next_from b 0 → Gathering g g u
     gather_start g h u e =
         let z : n - 0 ≡ n = omega arith in
         gather_next g g 0 u e (record { fair = h; left = ap (λ (m : ℕ). gathered shorter k (row rule pair j m 0) (held g)) z })
 
     -- the pair there
-    pub gather_turn : (g r : Search) (i : ℕ) → Gathering g r i → i < n → kept b i ≡ true → (v : Pair) → v ≡ pair j i → (r' : Search) → r' ≡ search_of (take k (put_by shorter v (held r))) → Gathering g r' (i + 1)
+    pub gather_turn : (g r : Firsts Pair) (i : ℕ) → Gathering g r i → i < n → kept b i ≡ true → (v : Pair) → v ≡ pair j i → (r' : Firsts Pair) → r' ≡ search_of (take k (put_by shorter v (held r))) → Gathering g r' (i + 1)
     unfolding gathered
     gather_turn g r i s h m v e r' f =
         record {
-          fair = fair_gathered k (v ∷ []) r r' s.fair f;
+          fair = fair_gathered shorter none k (v ∷ []) r r' f shorter_order s.fair;
           left =
-              ap (gathered shorter k (row rule pair j (n - (i + 1)) (i + 1))) (held_search (take k (put_by shorter v (held r))) r' f ∙ ap (λ (x : Pair). take k (put_by shorter x (held r))) e)
+              ap (gathered shorter k (row rule pair j (n - (i + 1)) (i + 1))) (held_is shorter none (take k (put_by shorter v (held r))) r' f ∙ ap (λ (x : Pair). take k (put_by shorter x (held r))) e)
               ∙ ap (λ (l : List Pair). gathered shorter k l (held r)) (sym (rest_yes rule pair j n i h (sym (exact i h) ∙ m)))
               ∙ s.left;
         }
 
-  pub gather_end : (g r : Search) (i : ℕ) → Gathering g r i → n ≤ i → r ≡ search_of (gathered shorter k (row rule pair j n 0) (held g))
+  pub gather_end : (g r : Firsts Pair) (i : ℕ) → Gathering g r i → n ≤ i → r ≡ search_of (gathered shorter k (row rule pair j n 0) (held g))
   unfolding gathered
   gather_end g r i s h =
-      search_whole k r s.fair ∙ ap search_of (ap (λ (l : List Pair). gathered shorter k l (held r)) (sym (chamber_rest_end rule pair j n i h)) ∙ s.left)
+      firsts_whole shorter none k r s.fair ∙ ap search_of (ap (λ (l : List Pair). gathered shorter k l (held r)) (sym (chamber_rest_end rule pair j n i h)) ∙ s.left)
 
 -- ---- the loop over the chambers
 
 module _ (rule : ℕ → ℕ → Bool) (pair : ℕ → ℕ → Pair) (k np nq : ℕ) where
-  pub record Going (g : Search) (j : ℕ) : Type 0 where
+  pub record Going (g : Firsts Pair) (j : ℕ) : Type 0 where
     pub most : j ≤ nq
     pub fair : HeldOrdered k g
     pub left : gathered shorter k (rows rule pair np (nq - j) j) (held g) ≡ shortest_of k (list_by rule pair np nq)
 
-  pub shortest_going_start : Apart shorter (list_by rule pair np nq) → Going (search_of []) 0
+  pub shortest_going_start : Apart shorter (list_by rule pair np nq) → (g : Firsts Pair) → g ≡ search_of [] → Going g 0
   unfolding Sorted list_by
-  shortest_going_start apart =
+  shortest_going_start apart g e =
       let z : nq - 0 ≡ nq = omega arith in
       record {
         most = omega arith;
-        fair = search_held k [] (omega arith) tt (search_of []) refl;
-        left = ap (λ (m : ℕ). gathered shorter k (rows rule pair np m 0) (held (search_of []))) z ∙ ap (gathered shorter k (rows rule pair np nq 0)) (held_search [] (search_of []) refl) ∙ gathered_first shorter shorter_order k (rows rule pair np nq 0) apart;
+        fair = firsts_held shorter none k [] (omega arith) tt g e;
+        left = ap (λ (m : ℕ). gathered shorter k (rows rule pair np m 0) (held g)) z ∙ ap (gathered shorter k (rows rule pair np nq 0)) (held_is shorter none [] g e) ∙ gathered_first shorter shorter_order k (rows rule pair np nq 0) apart;
       }
 
-  pub going_on : (g : Search) (j : ℕ) → Going g j → j < nq → (r : Search) → r ≡ search_of (gathered shorter k (row rule pair j np 0) (held g)) → Going r (j + 1)
+  pub going_on : (g : Firsts Pair) (j : ℕ) → Going g j → j < nq → (r : Firsts Pair) → r ≡ search_of (gathered shorter k (row rule pair j np 0) (held g)) → Going r (j + 1)
   going_on g j s h r e =
       record {
         most = omega arith;
-        fair = fair_gathered k (row rule pair j np 0) g r s.fair e;
+        fair = fair_gathered shorter none k (row rule pair j np 0) g r e shorter_order s.fair;
         left =
-            ap (gathered shorter k (rows rule pair np (nq - (j + 1)) (j + 1))) (held_gathered k (row rule pair j np 0) g r e)
+            ap (gathered shorter k (rows rule pair np (nq - (j + 1)) (j + 1))) (held_gathered shorter none k (row rule pair j np 0) g r e)
             ∙ sym (gathered_two shorter k (row rule pair j np 0) (rows rule pair np (nq - (j + 1)) (j + 1)) (held g))
             ∙ ap (λ (l : List Pair). gathered shorter k l (held g)) (sym (rows_next rule pair np nq j h))
             ∙ s.left;
       }
 
-  pub all_gathered : (l : List Pair) → list_by rule pair np nq ≡ l → (g : Search) (j : ℕ) → Going g j → nq ≤ j → (g.count ≡ length (shortest_of k l)) × (g.pairs ≡ padded (shortest_of k l))
+  pub all_gathered : (l : List Pair) → list_by rule pair np nq ≡ l → (g : Firsts Pair) (j : ℕ) → Going g j → nq ≤ j → (g.count ≡ length (shortest_of k l)) × (g.rows ≡ padded (shortest_of k l))
   unfolding gathered padded sixteen
   all_gathered l f g j s h =
       let is : held g ≡ shortest_of k l = ap (λ (t : List Pair). gathered shorter k t (held g)) (sym (rows_end rule pair np nq j h)) ∙ s.left ∙ ap (shortest_of k) f in
-      let whole = search_whole k g s.fair in
-      (ap (λ (x : Search). x.count) whole ∙ ap length is, ap (λ (x : Search). x.pairs) whole ∙ ap (sixteen none) is)
+      let whole = firsts_whole shorter none k g s.fair in
+      (ap (λ (x : Firsts Pair). x.count) whole ∙ ap length is, ap (λ (x : Firsts Pair). x.rows) whole ∙ ap (sixteen none) is)
 
 pub pairs_ascend : {P Q : List ℤ} {np mp nq mq : ℕ} → Opens P np mp → Opens Q nq mq → ascends start (pairs_of P Q) ≡ true
 pairs_ascend {P} {Q} o o' = ring_ascends circle (points_of P) (points_of Q) (points_rise o) (points_rise o')

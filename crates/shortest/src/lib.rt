@@ -1,108 +1,70 @@
 // The shortest circles first: of all ring pairs of two sheets the k with the smallest squared size, in order.
 #![tactic(auto)]
 
-ghost use Rattle.std.specs.Prelude.{◌≡◌, ◌≤◌, ◌<◌, length, take};
+ghost use Rattle.std.specs.Prelude.{◌≡◌, ◌≤◌, ◌<◌, length};
 ghost use Rattle.bits.specs.Set.{none, Holds};
-ghost use Rattle.sheet.specs.Open.{Opens};
 ghost use Rattle.sheet.specs.Places.{points_of};
 ghost use Rattle.list.specs.Rows.{row};
 ghost use Rattle.list.specs.RingList.{ring_pair, pair_at};
-ghost use Rattle.sorting.specs.Ranking.{put_by, Sorted, gathered};
+ghost use Rattle.sorting.specs.Ranking.{gathered};
 ghost use Rattle.shortest.specs.Order.{shorter};
+ghost use Rattle.shortest.specs.Lawful.{shorter_order};
 ghost use Rattle.shortest.specs.Answer.{short_given, short_refused, short_answer, short_bits};
-ghost use Rattle.shortest.specs.Search.{held, search_of, HeldOrdered, put_at, bound_of};
+ghost use Rattle.shortest.specs.Search.{no_pair, held, search_of, HeldOrdered, bound_of};
 
 use list::{Pair, Terms};
-use sheet::Size;
+use sheet::Sheet;
+use sorting::{Comparison, Firsts};
 
 // What the call answers: 0, how many pairs and the pairs, the unused three zeros; or the number of refusal and zeros.
+// Kept: the C interface; `ring_shortest` of ffi hands it to C as it stands.
 #[repr(C)]
-#[derive(Clone, Copy)]
+#[derive(Clone, Copy, Debug, PartialEq, Eq)]
 pub struct Shortlist {
     pub number: u32,
     pub count: usize,
     pub pairs: [Pair; 16],
 }
 
-// The shortest pairs of those passed, in order.
+// The shortest first: by squared size, then q id, then p id.
 #[derive(Clone, Copy)]
-struct Search {
-    pairs: [Pair; 16],
-    count: usize,
-}
+struct BySize;
 
-// Whether `v` is shorter than `w`: by squared size, then q id, then p id.
-fn is_shorter(v: Pair, w: Pair) -> bool
-    ensures { result ≡ shorter v w }
-{
-    let later = list::is_after(list::key_of(v), list::key_of(w));
-    (v.size < w.size) | ((v.size == w.size) & later)
-}
+impl Comparison<Pair> for BySize {
+    ghost unused = { no_pair };
 
-// The pair `v` put in its place among the first n, which move up to make room.
-fn with_pair(g: Search, n: usize, v: Pair) -> Search
-    requires { (n < 16) × Sorted shorter (take n g.pairs) }
-    ensures { result ≡ put_at n v g }
-{
-    let mut r = g;
-    r.count = n + 1;
-    let mut i = n;
-    while 0 < i {
-        let w = r.pairs[i - 1];
-        if !is_shorter(v, w) {
-            r.pairs[i] = v;
-            return r;
-        }
-        r.pairs[i] = w;
-        i -= 1;
-    }
-    r.pairs[0] = v;
-    r
-}
+    ghost before = { shorter };
 
-// The pair `v` among those held, of which the k shortest stay: one that is not shorter than the last of k is dropped at once.
-fn with_one(g: Search, k: usize, v: Pair) -> Search
-    requires { (1 ≤ k) × (k ≤ 16) × HeldOrdered k g }
-    ensures { result ≡ search_of (take k (put_by shorter v (held g))) }
-{
-    let at = g.count;
-    if at < k {
-        return with_pair(g, at, v);
+    ghost lawful = { shorter_order };
+
+    #[tactic(auto, unfolding(crate::specs::Order::shorter))]
+    fn is_before(self, v: Pair, w: Pair) -> bool {
+        let later = list::is_after(list::key_of(v), list::key_of(w));
+        (v.size < w.size) | ((v.size == w.size) & later)
     }
-    let last = g.pairs[k - 1];
-    if is_shorter(v, last) {
-        return with_pair(g, k - 1, v);
-    }
-    g
 }
 
 // No pair longer than this is among the k: it is the size of the last where k are held, and the greatest size that is taken where fewer are.
-fn bound(g: Search, k: usize) -> u64
+fn bound(g: Firsts<Pair>, k: usize) -> u64
     requires { (1 ≤ k) × (k ≤ 16) }
     ensures { result ≡ bound_of k g }
 {
-    if g.count < k {
-        return 8_000_000_000_000_000_000;
-    }
-    let last = g.pairs[k - 1];
-    last.size
+    g.last(k).map_or(8_000_000_000_000_000_000, |v| v.size)
 }
 
 // The ring pairs of the chamber at position j, one after the other. Those that are longer than the last of k are not looked for.
 fn with_chamber(
-    p: &[i32],
-    hp: Size,
-    q: &[i32],
-    hq: Size,
+    p: Sheet<'_>,
+    q: Sheet<'_>,
     k: usize,
     j: usize,
-    g: Search,
+    g: Firsts<Pair>,
     bits: &mut [u64],
-) -> Search
-    requires { Opens p.now hp.n hp.m × Opens q.now hq.n hq.m × Holds bits.old hp.n × (j < hq.n) × (1 ≤ k) × (k ≤ 16) × HeldOrdered k g }
-    ensures { result ≡ search_of (gathered shorter k (row (ring_pair (points_of p.now) (points_of q.now)) (pair_at (points_of p.now) (points_of q.now)) j hp.n 0) (held g)) }
+) -> Firsts<Pair>
+    requires { Holds bits.old p.n × (j < q.n) × (1 ≤ k) × (k ≤ 16) × HeldOrdered k g }
+    ensures { result ≡ search_of (gathered shorter k (row (ring_pair (points_of p.entry.words.now) (points_of q.entry.words.now)) (pair_at (points_of p.entry.words.now) (points_of q.entry.words.now)) j p.entry.n 0) (held g)) }
 {
-    let n = hp.n;
+    let n = p.n;
     let largest = bound(g, k);
     let terms = Terms {
         threshold: 0,
@@ -110,42 +72,38 @@ fn with_chamber(
         own: false,
         grid: false,
     };
-    chamber::pairs_of(p, hp, q, hq, terms, largest, j, bits);
+    chamber::pairs_of(p, q, terms, largest, j, bits);
     let mut r = g;
     let mut i = seeds::scan::next_from(bits, 0);
+    // Kept: each step goes to the next kept bit: the loop counts no index.
     while i < n {
-        let v = walk::pair::pair_at(p, hp, q, hq, j, i);
-        r = with_one(r, k, v);
+        let v = walk::pair::pair_at(p, q, j, i);
+        r = r.offered(k, v, BySize);
         i = seeds::scan::next_from(bits, i + 1);
     }
     r
 }
 
 // The k shortest pairs of two sheets that open, chamber after chamber. The words lent are zeros after it.
-fn given(p: &[i32], hp: Size, q: &[i32], hq: Size, k: usize, bits: &mut [u64]) -> Shortlist
-    requires { Opens p.now hp.n hp.m × Opens q.now hq.n hq.m × Holds bits.old hp.n × (1 ≤ k) × (k ≤ 16) }
-    ensures { (result ≡ short_given p.now q.now k) × (bits.new ≡ none (length bits.old)) }
+fn given(p: Sheet<'_>, q: Sheet<'_>, k: usize, bits: &mut [u64]) -> Shortlist
+    requires { Holds bits.old p.n × (1 ≤ k) × (k ≤ 16) }
+    ensures { (result ≡ short_given p.entry.words.now q.entry.words.now k) × (bits.new ≡ none (length bits.old)) }
 {
-    let n = hq.n;
-    let mut g = Search {
-        pairs: [Pair {
-            q: 0,
-            p: 0,
-            size: 0,
-        }; 16],
-        count: 0,
-    };
-    let mut j: usize = 0;
-    while j < n {
-        g = with_chamber(p, hp, q, hq, k, j, g, bits);
-        j += 1;
+    let n = q.n;
+    let mut g = sorting::Firsts::new(Pair {
+        q: 0,
+        p: 0,
+        size: 0,
+    });
+    for j in 0..n {
+        g = with_chamber(p, q, k, j, g, bits);
     }
     bits::clear(bits);
-    let pairs = g.pairs;
+    let pairs = g.rows;
     Shortlist {
         number: 0,
         count: g.count,
-        pairs: pairs,
+        pairs,
     }
 }
 
@@ -154,7 +112,7 @@ fn refused(number: u32) -> Shortlist
     ensures { result ≡ short_refused number }
 {
     Shortlist {
-        number: number,
+        number,
         count: 0,
         pairs: [Pair {
             q: 0,
@@ -186,7 +144,15 @@ pub fn shortest(p: &[i32], q: &[i32], k: usize, bits: &mut [u64]) -> Shortlist
     if bits.len() < w {
         return refused(24);
     }
-    let hp = Size { n: a.n, m: a.m };
-    let hq = Size { n: b.n, m: b.m };
-    given(p, hp, q, hq, k, &mut bits[..w])
+    let ps = Sheet {
+        words: p,
+        n: a.n,
+        m: a.m,
+    };
+    let qs = Sheet {
+        words: q,
+        n: b.n,
+        m: b.m,
+    };
+    given(ps, qs, k, &mut bits[..w])
 }

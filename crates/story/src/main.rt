@@ -2,7 +2,7 @@
 // contractor, profile, edition, threshold and key, and broken by hand. After each call the number, the state, every slot and the next key are held to a plain list and to a second reading of the rules.
 #![tactic(auto)]
 
-use book::{Begun, Book, Next};
+use book::Book;
 use chance::{drawn, line, mixed, one_more};
 use list::{Key, Page, Pair, Source, Terms};
 
@@ -43,13 +43,13 @@ fn source_of(
     grid: bool,
 ) -> Source {
     Source {
-        p_edition: p_edition,
-        q_edition: q_edition,
+        p_edition,
+        q_edition,
         terms: Terms {
-            threshold: threshold,
-            contractor: contractor,
-            own: own,
-            grid: grid,
+            threshold,
+            contractor,
+            own,
+            grid,
         },
     }
 }
@@ -57,25 +57,31 @@ fn source_of(
 // The largest size of a pair of the circle, and of the street grid.
 fn most_of(grid: bool) -> u64 {
     if grid {
-        return 16000000000000;
+        16000000000000
+    } else {
+        8000000000000000000
     }
-    8000000000000000000
 }
 
 // The next pair, of a size of its own: every ninth has the largest.
 fn pair_after(v: Pair, step: u32, most: u64) -> Pair {
-    let mut w = v;
-    if v.p < step {
-        w.p = v.p + 1;
+    let size = if v.size < most {
+        v.size.wrapping_add(most / 8)
     } else {
-        w.q = std::num::wrapping_add_u32(v.q, 3);
-        w.p = 1;
+        0
+    };
+    if v.p < step {
+        return Pair {
+            p: v.p + 1,
+            size,
+            ..v
+        };
     }
-    w.size = 0;
-    if v.size < most {
-        w.size = std::num::wrapping_add_u64(v.size, most / 8);
+    Pair {
+        q: v.q.wrapping_add(3),
+        p: 1,
+        size,
     }
-    w
 }
 
 // n pairs, ascending, of at most `step` to a chamber.
@@ -91,13 +97,9 @@ fn made_list(n: usize, step: u32, grid: bool) -> [Pair; 64] {
         p: 1,
         size: 0,
     };
-    let mut i: usize = 0;
-    while i < 64 {
-        if i < n {
-            l[i] = v;
-        }
+    for w in l.iter_mut().take(n) {
+        *w = v;
         v = pair_after(v, step, most);
-        i += 1;
     }
     l
 }
@@ -109,8 +111,8 @@ fn empty_page(source: Source, key: Key) -> Page {
         size: 0,
     };
     Page {
-        source: source,
-        key: key,
+        source,
+        key,
         count: 0,
         end: true,
         pairs: [none; 16],
@@ -119,47 +121,34 @@ fn empty_page(source: Source, key: Key) -> Page {
 
 // A page with one pair more, if that follows its key: the end mark goes where there is no place left for it.
 fn with_pair(g: Page, v: Pair, size: usize) -> Page {
-    let key = g.key;
-    if !list::is_after(key, list::key_of(v)) {
+    if !list::is_after(g.key, list::key_of(v)) {
         return g;
     }
     let mut h = g;
     let n = g.count;
-    if n < size {
-        if n < 16 {
-            h.pairs[n] = v;
-            h.count = n + 1;
-            return h;
-        }
+    if (n < size) & (n < 16) {
+        h.pairs[n] = v;
+        h.count = n + 1;
+    } else {
+        h.end = false;
     }
-    h.end = false;
     h
 }
 
 // The page of the first n pairs of a list.
-fn page_after(l: [Pair; 64], n: usize, source: Source, key: Key, size: usize) -> Page {
-    let mut g = empty_page(source, key);
-    let mut i: usize = 0;
-    while i < 64 {
-        if i < n {
-            g = with_pair(g, l[i], size);
-        }
-        i += 1;
-    }
-    g
+fn page_after(l: &[Pair; 64], n: usize, source: Source, key: Key, size: usize) -> Page {
+    l.iter()
+        .take(n)
+        .fold(empty_page(source, key), |g, v| with_pair(g, *v, size))
 }
 
 // ---- what should be answered
 
 // The key of the last held pair.
-fn last_key(slots: [Pair; 64], held: usize) -> Key {
-    if held == 0 {
-        return Key { q: 0, p: 0 };
-    }
-    if 64 < held {
-        return Key { q: 0, p: 0 };
-    }
-    list::key_of(slots[held - 1])
+fn last_key(slots: &[Pair; 64], held: usize) -> Key {
+    slots
+        .get(held.wrapping_sub(1))
+        .map_or(Key { q: 0, p: 0 }, |v| list::key_of(*v))
 }
 
 fn rank(k: Key) -> u64 {
@@ -174,42 +163,18 @@ fn is_id(k: u32) -> bool {
 fn has_bad(g: Page) -> bool {
     let most = most_of(g.source.terms.grid);
     let mut last = rank(g.key);
-    let mut bad = false;
-    let mut i: usize = 0;
-    while i < 16 {
-        let v = g.pairs[i];
-        let k = list::key_of(v);
-        if i < g.count {
-            bad = bad | !is_id(k.q) | !is_id(k.p) | (most < v.size) | (rank(k) <= last);
+    for v in g.pairs.iter().take(g.count) {
+        let k = list::key_of(*v);
+        if !is_id(k.q) | !is_id(k.p) | (most < v.size) | (rank(k) <= last) {
+            return true;
         }
         last = rank(k);
-        i += 1;
     }
-    bad
+    false
 }
 
 fn is_edition(a: Source, b: Source) -> bool {
     (a.p_edition == b.p_edition) & (a.q_edition == b.q_edition)
-}
-
-fn is_kind(a: Source, b: Source) -> bool {
-    !(a.terms.own ^ b.terms.own)
-}
-
-fn is_profile(a: Source, b: Source) -> bool {
-    !(a.terms.grid ^ b.terms.grid)
-}
-
-fn is_contractor(a: Source, b: Source) -> bool {
-    a.terms.contractor == b.terms.contractor
-}
-
-fn is_source(a: Source, b: Source) -> bool {
-    is_kind(a, b)
-        & is_contractor(a, b)
-        & is_profile(a, b)
-        & is_edition(a, b)
-        & (a.terms.threshold == b.terms.threshold)
 }
 
 // The number of refusal, read from the rules a second time.
@@ -217,29 +182,28 @@ fn expected(b: Book, len: usize, last: Key, g: Page) -> u32 {
     let held = b.held;
     let own = b.source;
     let other = g.source;
-    let key = g.key;
     if held > len {
         return 11;
     }
     if b.closed {
         return 12;
     }
-    if !is_kind(own, other) {
+    if own.terms.own != other.terms.own {
         return 22;
     }
-    if !is_contractor(own, other) {
+    if own.terms.contractor != other.terms.contractor {
         return 28;
     }
-    if !is_profile(own, other) {
+    if own.terms.grid != other.terms.grid {
         return 30;
     }
     if !is_edition(own, other) {
         return 13;
     }
-    if !is_source(own, other) {
+    if own != other {
         return 31;
     }
-    if rank(key) != rank(last) {
+    if rank(g.key) != rank(last) {
         return 14;
     }
     if (g.count > 16) | has_bad(g) | ((g.count == 0) & !g.end) {
@@ -253,105 +217,80 @@ fn expected(b: Book, len: usize, last: Key, g: Page) -> u32 {
 
 // ---- what should stand
 
-fn is_pair(a: Pair, b: Pair) -> bool {
-    (a.q == b.q) & (a.p == b.p) & (a.size == b.size)
-}
-
 // Whether two rows of slots are the same from `from` up to `to`.
-fn is_same(old: [Pair; 64], new: [Pair; 64], from: usize, to: usize) -> bool {
-    let mut good = true;
-    let mut i: usize = 0;
-    while i < 64 {
-        if (from <= i) & (i < to) {
-            good = good & is_pair(old[i], new[i]);
-        }
-        i += 1;
-    }
-    good
+fn is_same(old: &[Pair; 64], new: &[Pair; 64], from: usize, to: usize) -> bool {
+    old.iter()
+        .zip(new.iter())
+        .take(to)
+        .skip(from)
+        .all(|(a, b)| a == b)
 }
 
 fn is_book(b: Book, held: usize, closed: bool, source: Source) -> bool {
-    let own = b.source;
-    (b.held == held) & (b.closed == closed) & is_source(own, source)
+    (b.held == held) & (b.closed == closed) & (b.source == source)
 }
 
 // Whether a page left the book as it should.
 fn is_on(b: Book, c: Book, number: u32, g: Page) -> bool {
-    let source = b.source;
     if number == 0 {
-        return is_book(
-            c,
-            std::num::wrapping_add_usize(b.held, g.count),
-            g.end,
-            source,
-        );
+        return is_book(c, b.held.wrapping_add(g.count), g.end, b.source);
     }
-    is_book(c, b.held, b.closed, source)
+    is_book(c, b.held, b.closed, b.source)
 }
 
 // Whether the next key is the last held pair, and the book comes back.
 fn is_next(slots: [Pair; 64], len: usize, b: Book) -> bool {
     let a = book::next_array(slots, len, b);
     let c = a.book;
-    let source = b.source;
-    let back = is_book(c, b.held, b.closed, source);
+    let back = is_book(c, b.held, b.closed, b.source);
     let next = a.next;
     match next {
-        Next::After(k) => back & (b.held <= len) & (rank(k) == rank(last_key(slots, b.held))),
-        Next::Refused(m) => back & (b.held > len) & (m == 11),
+        Ok(k) => back & (b.held <= len) & (rank(k) == rank(last_key(&slots, b.held))),
+        Err(m) => back & (b.held > len) & (m == 11),
     }
 }
 
 // ---- a call
 
+fn plus_if(n: u64, more: bool) -> u64 {
+    n.wrapping_add(u64::from(more))
+}
+
 fn counted(t: Tally, number: u32, good: bool, closes: bool, full: bool) -> Tally {
     let mut u = t;
-    let i = number as usize;
-    if i < 32 {
-        u.counts[i] = one_more(u.counts[i]);
+    if let Some(n) = u.counts.get_mut(number as usize) {
+        *n = one_more(*n);
     }
-    if !good {
-        u.wrong = one_more(u.wrong);
-    }
-    if closes {
-        u.closed = one_more(u.closed);
-    }
-    if closes & full {
-        u.full = one_more(u.full);
-    }
+    u.wrong = plus_if(u.wrong, !good);
+    u.closed = plus_if(u.closed, closes);
+    u.full = plus_if(u.full, closes & full);
     u
 }
 
 // A page handed to the book with `lent` slots, and all that is then checked.
 fn called(g: Game, lent: usize, page: Page) -> Game {
     let b = g.book;
-    let slots = g.slots;
-    let l = g.list;
-    let number = expected(b, lent, last_key(slots, b.held), page);
-    let r = book::take_array(slots, lent, b, page);
+    let number = expected(b, lent, last_key(&g.slots, b.held), page);
+    let r = book::take_array(g.slots, lent, b, page);
     let t = r.taken;
-    let after = r.slots;
     let c = t.book;
     let told = (t.number == number) & is_on(b, c, number, page);
-    let kept = is_same(slots, after, 0, b.held) & is_same(slots, after, c.held, 64);
-    let stands = is_same(after, l, 0, c.held);
-    let good = told & kept & stands & is_next(after, lent, c);
-    let tally = counted(
-        g.tally,
-        t.number,
-        good,
-        c.closed & !b.closed,
-        b.held == lent,
-    );
+    let kept = is_same(&g.slots, &r.slots, 0, b.held) & is_same(&g.slots, &r.slots, c.held, 64);
+    let stands = is_same(&r.slots, &g.list, 0, c.held);
+    let good = told & kept & stands & is_next(r.slots, lent, c);
     Game {
-        list: l,
-        n: g.n,
-        slots: after,
-        len: g.len,
+        slots: r.slots,
         book: c,
         kept: page,
         seed: mixed(g.seed),
-        tally: tally,
+        tally: counted(
+            g.tally,
+            t.number,
+            good,
+            c.closed & !b.closed,
+            b.held == lent,
+        ),
+        ..g
     }
 }
 
@@ -359,33 +298,14 @@ fn called(g: Game, lent: usize, page: Page) -> Game {
 
 // The page that answers the book's own next request.
 fn own_page(g: Game) -> Page {
-    let b = g.book;
-    let source = b.source;
-    let slots = g.slots;
-    let l = g.list;
-    let key = last_key(slots, b.held);
-    page_after(
-        l,
-        g.n,
-        source,
-        key,
-        std::num::wrapping_add_usize(drawn(g.seed, 7), 1),
-    )
+    let key = last_key(&g.slots, g.book.held);
+    page_after(&g.list, g.n, g.book.source, key, drawn(g.seed, 7) + 1)
 }
 
 // A page after some pair of the list, or after (0, 0).
 fn other_page(g: Game) -> Page {
-    let b = g.book;
-    let source = b.source;
-    let l = g.list;
-    let key = last_key(l, drawn(g.seed, 61));
-    page_after(
-        l,
-        g.n,
-        source,
-        key,
-        std::num::wrapping_add_usize(drawn(g.seed, 16), 1),
-    )
+    let key = last_key(&g.list, drawn(g.seed, 61));
+    page_after(&g.list, g.n, g.book.source, key, drawn(g.seed, 16) + 1)
 }
 
 // One of the other two of 0, 1 and 2: the next, or the one after it.
@@ -398,77 +318,66 @@ fn another(contractor: u32, step: u32) -> u32 {
 fn other_source(s: Source, way: usize) -> Source {
     let t = s.terms;
     let c = t.contractor;
-    if way == 0 {
-        return source_of(8, 8, 0, another(c, 1), !t.own, !t.grid);
+    match way {
+        0 => source_of(8, 8, 0, another(c, 1), !t.own, !t.grid),
+        1 => source_of(8, 8, 0, 2, !t.own, t.grid),
+        2 => source_of(7, 9, t.threshold, another(c, 1), t.own, t.grid),
+        3 => source_of(8, 9, t.threshold, another(c, 2), t.own, !t.grid),
+        4 => source_of(7, 9, t.threshold, c, t.own, !t.grid),
+        5 => source_of(8, 9, t.threshold, c, t.own, !t.grid),
+        6 => source_of(8, 9, 1, c, t.own, t.grid),
+        _ => source_of(7, 9, 3, c, t.own, t.grid),
     }
-    if way == 1 {
-        return source_of(8, 8, 0, 2, !t.own, t.grid);
-    }
-    if way == 2 {
-        return source_of(7, 9, t.threshold, another(c, 1), t.own, t.grid);
-    }
-    if way == 3 {
-        return source_of(8, 9, t.threshold, another(c, 2), t.own, !t.grid);
-    }
-    if way == 4 {
-        return source_of(7, 9, t.threshold, c, t.own, !t.grid);
-    }
-    if way == 5 {
-        return source_of(8, 9, t.threshold, c, t.own, !t.grid);
-    }
-    if way == 6 {
-        return source_of(8, 9, 1, c, t.own, t.grid);
-    }
-    source_of(7, 9, 3, c, t.own, t.grid)
 }
 
 fn of_other_list(g: Page, way: usize) -> Page {
-    let mut h = g;
-    let other = other_source(g.source, way);
-    h.source = other;
-    h
+    Page {
+        source: other_source(g.source, way),
+        ..g
+    }
 }
 
 // A page that shows pairs and hides the end mark.
 fn unmarked(g: Page) -> Page {
-    let mut h = g;
-    h.end = g.end & (g.count == 0);
-    h
+    Page {
+        end: g.end & (g.count == 0),
+        ..g
+    }
 }
 
 // A page broken by hand, in one of eight ways.
 fn broken(g: Page, way: usize) -> Page {
     let mut h = g;
-    if way == 0 {
-        h.count = 17;
-    } else if way == 1 {
-        h.pairs[0] = Pair {
-            q: 0,
-            p: 1,
-            size: 2,
-        };
-    } else if way == 2 {
-        h.pairs[0] = Pair {
-            q: 2000000001,
-            p: 1,
-            size: 2,
-        };
-    } else if way == 3 {
-        let key = g.key;
-        h.pairs[0] = Pair {
-            q: key.q,
-            p: key.p,
-            size: 2,
-        };
-    } else if way == 4 {
-        h.pairs[0].size = std::num::wrapping_add_u64(most_of(g.source.terms.grid), 1);
-    } else if way == 5 {
-        h.pairs[1] = h.pairs[0];
-    } else if way == 6 {
-        h.pairs[0].size = 8000000000000000001;
-    } else {
-        h.count = 0;
-        h.end = false;
+    match way {
+        0 => h.count = 17,
+        1 => {
+            h.pairs[0] = Pair {
+                q: 0,
+                p: 1,
+                size: 2,
+            }
+        }
+        2 => {
+            h.pairs[0] = Pair {
+                q: 2000000001,
+                p: 1,
+                size: 2,
+            }
+        }
+        3 => {
+            h.pairs[0] = Pair {
+                q: g.key.q,
+                p: g.key.p,
+                size: 2,
+            }
+        }
+        4 => h.pairs[0].size = most_of(g.source.terms.grid).wrapping_add(1),
+        5 => h.pairs[1] = h.pairs[0],
+        6 => h.pairs[0].size = 8000000000000000001,
+        _ => {
+            h.count = 0;
+            h.end = false;
+        }
     }
     h
 }
@@ -476,51 +385,33 @@ fn broken(g: Page, way: usize) -> Page {
 // The page of a kind: the book's own, one from before, one of another key, and the faults by themselves and in pairs.
 fn page_of(g: Game, kind: usize) -> Page {
     let way = drawn(mixed(g.seed), 8);
-    if kind < 3 {
-        return unmarked(own_page(g));
+    match kind {
+        0..=2 => unmarked(own_page(g)),
+        8 => of_other_list(own_page(g), way),
+        9 => other_page(g),
+        10 => g.kept,
+        11 | 14 => broken(own_page(g), way),
+        12 => broken(other_page(g), way),
+        13 => of_other_list(broken(other_page(g), way), way),
+        _ => own_page(g),
     }
-    if kind == 8 {
-        return of_other_list(own_page(g), way);
-    }
-    if kind == 9 {
-        return other_page(g);
-    }
-    if kind == 10 {
-        return g.kept;
-    }
-    if (kind == 11) | (kind == 14) {
-        return broken(own_page(g), way);
-    }
-    if kind == 12 {
-        return broken(other_page(g), way);
-    }
-    if kind == 13 {
-        return of_other_list(broken(other_page(g), way), way);
-    }
-    own_page(g)
 }
 
 // How many slots are lent: those of the history, or fewer than the page needs, or fewer than are held.
 fn lent_to(g: Game, kind: usize) -> usize {
-    let b = g.book;
-    let held = b.held;
-    if (kind == 6) | (kind == 14) {
-        return std::num::wrapping_add_usize(held, drawn(g.seed, 2));
+    let held = g.book.held;
+    match kind {
+        6 | 14 => held.wrapping_add(drawn(g.seed, 2)),
+        7 if 0 < held => drawn(g.seed, held),
+        _ => g.len,
     }
-    if (kind == 7) & (0 < held) {
-        return drawn(g.seed, held);
-    }
-    g.len
 }
 
 // A longer slice from now on, where the kind says so.
 fn grown(g: Game, kind: usize) -> Game {
     let mut h = g;
     if kind == 15 {
-        h.len = std::num::wrapping_add_usize(g.len, drawn(g.seed, 12));
-        if 64 < h.len {
-            h.len = 64;
-        }
+        h.len = g.len.wrapping_add(drawn(g.seed, 12)).min(64);
     }
     h
 }
@@ -534,22 +425,20 @@ fn stepped(g: Game) -> Game {
 // ---- a history
 
 fn is_refused(source: Source, number: u32) -> bool {
-    let r = Book::begin(source);
-    match r {
-        Begun::Open(_) => false,
-        Begun::Refused(m) => m == number,
+    match Book::begin(source) {
+        Ok(_) => false,
+        Err(m) => m == number,
     }
 }
 
 // A book begun, with nothing held: one begun before changes nothing of that.
 fn begun(source: Source) -> Book {
-    let r = Book::begin(source);
-    match r {
-        Begun::Open(b) => b,
-        Begun::Refused(_) => Book {
+    match Book::begin(source) {
+        Ok(b) => b,
+        Err(_) => Book {
             held: 64,
             closed: true,
-            source: source,
+            source,
         },
     }
 }
@@ -563,14 +452,11 @@ fn first_len(seed: u64, n: usize) -> usize {
 }
 
 fn some_threshold(seed: u64) -> u32 {
-    let way = drawn(seed, 3);
-    if way == 0 {
-        return 0;
+    match drawn(seed, 3) {
+        0 => 0,
+        1 => 2,
+        _ => 60000,
     }
-    if way == 1 {
-        return 2;
-    }
-    60000
 }
 
 // Whether a book is begun of a self join that is undivided, and the first number that applies is given else: 3, then 21, then 27.
@@ -595,13 +481,9 @@ fn opened(seed: u64, tally: Tally) -> Game {
     let source = source_of(7, 9, threshold, contractor, false, grid);
     let b = begun(source);
     let good = is_book(b, 0, false, source) & is_begin(grid);
-    let mut t = tally;
-    if !good {
-        t.wrong = one_more(t.wrong);
-    }
     Game {
         list: made_list(n, 4, grid),
-        n: n,
+        n,
         slots: [Pair {
             q: 77,
             p: 77,
@@ -611,16 +493,17 @@ fn opened(seed: u64, tally: Tally) -> Game {
         book: b,
         kept: empty_page(source, Key { q: 0, p: 0 }),
         seed: mixed(mixed(seed)),
-        tally: t,
+        tally: Tally {
+            wrong: plus_if(tally.wrong, !good),
+            ..tally
+        },
     }
 }
 
 fn played(seed: u64, tally: Tally) -> Game {
     let mut g = opened(seed, tally);
-    let mut i: u64 = 0;
-    while i < CALLS {
+    for _ in 0..CALLS {
         g = stepped(g);
-        i += 1;
     }
     g
 }
@@ -654,12 +537,10 @@ fn main(rt: HostRuntime) {
         wrong: 0,
     };
     let mut seed: u64 = 88172645463325252;
-    let mut i: u64 = 0;
-    while i < HISTORIES {
+    for _ in 0..HISTORIES {
         let g = played(seed, t);
         t = g.tally;
         seed = mixed(g.seed);
-        i += 1;
     }
     report(&rt, t);
 }

@@ -2,7 +2,7 @@
 ghost use Rattle.std.specs.Prelude.{◌≤◌, length};
 
 use crate::tape::Tape;
-use crate::{lent, say, tape};
+use crate::{circles, leaves, lent, lists, near, pages, ranks, say, tape, views, walks};
 
 // The most words that a sheet of a case has.
 const MOST: usize = 8192;
@@ -24,64 +24,23 @@ fn answered(
     q: &[i32],
     bits: &mut [u64],
 ) {
-    if kind == WALKS {
-        crate::walks::filter_case(rt, tape, p, q, bits);
-    } else if kind == 7 {
-        crate::pages::page_case(rt, tape, p, q, bits);
-    } else if kind == 8 {
-        crate::pages::partners_case(rt, tape, p, q, bits);
-    } else if kind == 9 {
-        crate::pages::own_case(rt, tape, p, bits);
-    } else if kind == 10 {
-        crate::leaves::run_case(rt, tape, p, q, bits);
-    } else if kind == 11 {
-        crate::circles::shortest_case(rt, tape, p, q, bits);
-    } else if kind == 12 {
-        crate::near::near_case(rt, tape, p, q, bits);
-    } else if kind == 13 {
-        crate::views::view_case(rt, tape, p, q, bits);
-    } else {
-        many_answered(rt, tape, kind, p, q, bits);
-    }
-}
-
-// Of many pairs at once, and of how many a list has.
-fn many_answered(
-    rt: &HostRuntime,
-    tape: &mut Tape,
-    kind: usize,
-    p: &[i32],
-    q: &[i32],
-    bits: &mut [u64],
-) {
-    if kind == 15 {
-        crate::lists::pairs_case(rt, tape, p, q, bits);
-    } else if kind == 16 {
-        crate::lists::own_pairs_case(rt, tape, p, bits);
-    } else if kind == 17 {
-        crate::lists::count_case(rt, tape, p, q, bits);
-    } else if kind == 18 {
-        crate::lists::own_count_case(rt, tape, p, bits);
-    } else {
-        ranked_answered(rt, tape, kind, p, q, bits);
-    }
-}
-
-// Of the first rows of a list in an order.
-fn ranked_answered(
-    rt: &HostRuntime,
-    tape: &mut Tape,
-    kind: usize,
-    p: &[i32],
-    q: &[i32],
-    bits: &mut [u64],
-) {
-    if kind == 19 {
-        crate::ranks::busiest_case(rt, tape, p, q, bits);
-    } else if kind == 20 {
-        crate::ranks::pumps_case(rt, tape, p, q, bits);
-    } else if kind == 21 {
-        crate::ranks::urgent_case(rt, tape, p, q, bits);
+    match kind {
+        WALKS => walks::filter_case(rt, tape, p, q, bits),
+        7 => pages::page_case(rt, tape, p, q, bits),
+        8 => pages::partners_case(rt, tape, p, q, bits),
+        9 => pages::own_case(rt, tape, p, bits),
+        10 => leaves::run_case(rt, tape, p, q, bits),
+        11 => circles::shortest_case(rt, tape, p, q, bits),
+        12 => near::near_case(rt, tape, p, q, bits),
+        13 => views::view_case(rt, tape, p, q, bits),
+        15 => lists::pairs_case(rt, tape, p, q, bits),
+        16 => lists::own_pairs_case(rt, tape, p, bits),
+        17 => lists::count_case(rt, tape, p, q, bits),
+        18 => lists::own_count_case(rt, tape, p, bits),
+        19 => ranks::busiest_case(rt, tape, p, q, bits),
+        20 => ranks::pumps_case(rt, tape, p, q, bits),
+        21 => ranks::urgent_case(rt, tape, p, q, bits),
+        _ => {}
     }
 }
 
@@ -119,26 +78,25 @@ fn lent_case(rt: &HostRuntime, tape: &mut Tape, kind: usize, p: &[i32], q: &[i32
 
 fn request(rt: &HostRuntime, tape: &mut Tape, kind: usize, p: &[i32], q: &[i32]) {
     if kind == RING_WALKS {
-        crate::walks::ring_case(rt, tape, p, q);
+        walks::ring_case(rt, tape, p, q);
     } else {
         lent_case(rt, tape, kind, p, q);
     }
 }
 
 fn requests(rt: &HostRuntime, tape: &mut Tape, kind: usize, p: &[i32], q: &[i32], count: usize) {
-    let mut k = 0;
-    while k < count {
+    for _ in 0..count {
         request(rt, tape, kind, p, q);
-        k += 1;
     }
 }
 
 // How many ring walks follow the filter walks: none where something else is asked.
 fn ring_walks(tape: &mut Tape, kind: usize) -> usize {
     if kind == WALKS {
-        return tape::next_count(tape);
+        tape::next_count(tape)
+    } else {
+        0
     }
-    0
 }
 
 fn all(
@@ -162,7 +120,7 @@ pub fn asked(rt: &HostRuntime, tape: &mut Tape, kind: usize) {
     let rings = ring_walks(tape, kind);
     let mut p = [0i32; MOST];
     let mut q = [0i32; MOST];
-    tape::fill(tape, &mut p, np);
-    tape::fill(tape, &mut q, nq);
+    tape::fill(tape, &mut p, np, tape::next_word);
+    tape::fill(tape, &mut q, nq, tape::next_word);
     all(rt, tape, kind, &p[..np], &q[..nq], count, rings);
 }

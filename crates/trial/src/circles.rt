@@ -11,6 +11,5 @@ pub fn shortest_case(rt: &HostRuntime, tape: &mut Tape, p: &[i32], q: &[i32], bi
     let r = shortest::shortest(p, q, k, bits);
     say::number(rt, r.number as u64);
     say::number(rt, r.count as u64);
-    let pairs = r.pairs;
-    say::pairs(rt, pairs, 16);
+    say::pairs(rt, &r.pairs);
 }

@@ -1,64 +1,28 @@
 // Runs of leaves: what each answers, and what the slots hold after it.
-ghost use Rattle.std.specs.Prelude.{◌<◌};
-
 use crate::tape::Tape;
 use crate::{say, tape};
 use list::Pair;
 
-// What slot k holds before a call: no pair of ids, and no size.
-fn mark_of(k: usize) -> Pair
-    requires { k < 256 }
-{
-    Pair {
-        q: 4000000000,
-        p: k as u32,
-        size: 9000000000000000000,
-    }
-}
-
+// What the slots hold before a call: no pair of ids, and no size.
 pub fn marked() -> [Pair; 256] {
     let mut slots = [Pair {
-        q: 0,
+        q: 4000000000,
         p: 0,
-        size: 0,
+        size: 9000000000000000000,
     }; 256];
-    let mut k: usize = 0;
-    while k < 256 {
-        slots[k] = mark_of(k);
-        k += 1;
+    for (p, slot) in (0..256).zip(slots.iter_mut()) {
+        slot.p = p;
     }
     slots
 }
 
-fn is_marked(v: Pair, k: usize) -> bool
-    requires { k < 256 }
-{
-    let mark = mark_of(k);
-    (v.q == mark.q) & (v.p == mark.p) & (v.size == mark.size)
-}
-
 // How many slots hold their mark.
-pub fn marks(slots: [Pair; 256]) -> u64 {
-    let mut n: u64 = 0;
-    let mut k: usize = 0;
-    while k < 256 {
-        if is_marked(slots[k], k) {
-            n = std::num::wrapping_add_u64(n, 1);
-        }
-        k += 1;
-    }
-    n
-}
-
-// The first `count` of the slots.
-pub fn print_pairs(rt: &HostRuntime, slots: [Pair; 256], count: usize) {
-    let mut k: usize = 0;
-    while k < 256 {
-        if k < count {
-            say::pair(rt, slots[k]);
-        }
-        k += 1;
-    }
+pub fn marks(slots: &[Pair]) -> u64 {
+    slots
+        .iter()
+        .zip(marked().iter())
+        .filter(|(v, mark)| v == mark)
+        .count() as u64
 }
 
 // A node and how many slots are lent, and the run that they ask for.
@@ -71,10 +35,9 @@ pub fn run_case(rt: &HostRuntime, tape: &mut Tape, p: &[i32], q: &[i32], bits: &
     say::say(rt, b":");
     let r = runs::run_array(p, q, leaf, marked(), lent, bits);
     let run = r.run;
-    let slots = r.slots;
     say::number(rt, run.number as u64);
     say::number(rt, run.count as u64);
     say::number(rt, run.opened);
-    say::number(rt, marks(slots));
-    print_pairs(rt, slots, run.count);
+    say::number(rt, marks(&r.slots));
+    say::first_pairs(rt, &r.slots, run.count);
 }

@@ -5,14 +5,12 @@ use crate::say;
 
 // What number k holds before a call: it is not 0.
 fn mark_of(k: usize) -> u64 {
-    std::num::wrapping_add_u64(11936128515503554560, k as u64)
+    11936128515503554560u64.wrapping_add(k as u64)
 }
 
 pub fn mark(numbers: &mut [u64]) {
-    let mut k: usize = 0;
-    while k < numbers.len() {
-        numbers[k] = mark_of(k);
-        k += 1;
+    for (k, n) in numbers.iter_mut().enumerate() {
+        *n = mark_of(k);
     }
 }
 
@@ -20,14 +18,10 @@ pub fn mark(numbers: &mut [u64]) {
 fn zeros(numbers: &[u64]) -> usize
     ensures { result ≤ length numbers.now }
 {
-    let mut k: usize = 0;
-    while k < numbers.len() {
-        if numbers[k] != 0 {
-            return k;
-        }
-        k += 1;
-    }
-    k
+    numbers
+        .iter()
+        .position(|n| *n != 0)
+        .unwrap_or(numbers.len())
 }
 
 // Where those begin that hold their mark, up to the last; not before `from`.
@@ -35,24 +29,12 @@ fn marks_from(numbers: &[u64], from: usize) -> usize
     requires { from ≤ length numbers.now }
     ensures { result ≤ length numbers.now }
 {
-    let mut k = numbers.len();
-    while from < k {
-        if numbers[k - 1] != mark_of(k - 1) {
-            return k;
+    for k in (from..numbers.len()).rev() {
+        if numbers[k] != mark_of(k) {
+            return k + 1;
         }
-        k -= 1;
     }
-    k
-}
-
-fn print_part(rt: &HostRuntime, numbers: &[u64], from: usize, to: usize)
-    requires { to ≤ length numbers.now }
-{
-    let mut k = from;
-    while k < to {
-        say::hex(rt, numbers[k]);
-        k += 1;
-    }
+    from
 }
 
 // How many numbers are 0 from the first on, how many hold their mark up to the last, and those between.
@@ -61,5 +43,7 @@ pub fn print(rt: &HostRuntime, numbers: &[u64]) {
     let to = marks_from(numbers, from);
     say::number(rt, from as u64);
     say::number(rt, (numbers.len() - to) as u64);
-    print_part(rt, numbers, from, to);
+    for n in numbers.iter().take(to).skip(from) {
+        say::hex(rt, *n);
+    }
 }

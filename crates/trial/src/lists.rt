@@ -24,10 +24,7 @@ fn lent_of(len: usize) -> usize
 fn with_slots(slots: [Pair; 256], many: Many) -> Lot
     ensures { result.many ≡ many }
 {
-    Lot {
-        slots: slots,
-        many: many,
-    }
+    Lot { slots, many }
 }
 
 // Of the slots the first `len` are lent for the call, and come back.
@@ -69,12 +66,11 @@ fn own_found(
 // What was answered, how many of the slots hold their mark, and the pairs that were stored.
 fn print_lot(rt: &HostRuntime, lot: Lot) {
     let r = lot.many;
-    let slots = lot.slots;
     say::number(rt, r.number as u64);
     say::number(rt, r.count as u64);
     pages::print_mark(rt, r.more);
-    say::number(rt, leaves::marks(slots));
-    leaves::print_pairs(rt, slots, r.count);
+    say::number(rt, leaves::marks(&lot.slots));
+    say::first_pairs(rt, &lot.slots, r.count);
 }
 
 fn print_wanted(rt: &HostRuntime, wanted: Wanted, bytes: usize, n: usize) {
@@ -132,14 +128,14 @@ pub fn pairs_case(rt: &HostRuntime, tape: &mut Tape, p: &[i32], q: &[i32], bits:
     let contractor = tape::next_id(tape);
     let len = tape::next_up_to(tape, pages::OWNERS);
     let mut owners = [0u8; pages::OWNERS];
-    tape::fill_bytes(tape, &mut owners, len);
+    tape::fill(tape, &mut owners, len, |t| tape::next_byte(t));
     let key = Key { q: key_q, p: key_p };
     let wanted = Wanted {
-        key: key,
-        largest: largest,
-        threshold: threshold,
-        contractor: contractor,
-        grid: grid,
+        key,
+        largest,
+        threshold,
+        contractor,
+        grid,
     };
     pairs_asked(rt, p, q, &owners[..len], wanted, n, bits);
 }
@@ -178,12 +174,12 @@ pub fn count_case(rt: &HostRuntime, tape: &mut Tape, p: &[i32], q: &[i32], bits:
     let contractor = tape::next_id(tape);
     let len = tape::next_up_to(tape, pages::OWNERS);
     let mut owners = [0u8; pages::OWNERS];
-    tape::fill_bytes(tape, &mut owners, len);
+    tape::fill(tape, &mut owners, len, |t| tape::next_byte(t));
     let which = Which {
-        largest: largest,
-        threshold: threshold,
-        contractor: contractor,
-        grid: grid,
+        largest,
+        threshold,
+        contractor,
+        grid,
     };
     say::say(rt, b"count");
     print_which(rt, largest, threshold, grid, contractor, len);

@@ -21,30 +21,23 @@ use tape::Tape;
 
 // A case of no sheet, or of one; those of two sheets are `asked`.
 fn case(rt: &HostRuntime, tape: &mut Tape, kind: usize) {
-    if kind == 1 {
-        places::rules(rt);
-    } else if kind == 2 {
-        sheets::open_case(rt, tape);
-    } else if kind == 3 {
-        sheets::point_case(rt, tape);
-    } else if kind == 4 {
-        sheets::pack_case(rt, tape);
-    } else if kind == 14 {
-        marks::mark_case(rt, tape);
-    } else {
-        asked::asked(rt, tape, kind);
+    match kind {
+        1 => places::rules(rt),
+        2 => sheets::open_case(rt, tape),
+        3 => sheets::point_case(rt, tape),
+        4 => sheets::pack_case(rt, tape),
+        14 => marks::mark_case(rt, tape),
+        _ => asked::asked(rt, tape, kind),
     }
 }
 
 fn main(rt: HostRuntime) {
     let mut tape = tape::new(&rt);
-    let mut left: u32 = 100000;
-    while left > 0 {
+    for _ in 0..100000 {
         let kind = tape::next_kind(&rt, &mut tape);
         if kind == 0 {
             return;
         }
         case(&rt, &mut tape, kind);
-        left -= 1;
     }
 }

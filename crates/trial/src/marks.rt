@@ -1,7 +1,7 @@
 // The marker of two places.
 use crate::tape::Tape;
 use crate::{say, tape};
-use marker::Marked;
+use marker::Marker;
 
 // A number that should be whole, without its fraction; and that it has one where it has.
 fn print_whole(rt: &HostRuntime, d: f64, n: i64) {
@@ -21,13 +21,13 @@ fn print_doubled(rt: &HostRuntime, x: f64) {
     }
 }
 
-fn print_marked(rt: &HostRuntime, v: Marked) {
+fn print_marked(rt: &HostRuntime, v: Result<Marker, u32>) {
     match v {
-        Marked::At(m) => {
+        Ok(m) => {
             print_doubled(rt, m.x);
             print_doubled(rt, m.y);
         }
-        Marked::Refused(number) => {
+        Err(number) => {
             say::refused(rt, number);
         }
     }

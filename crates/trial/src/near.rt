@@ -14,17 +14,6 @@ pub fn print_near(rt: &HostRuntime, v: Near) {
     say::number(rt, v.distance);
 }
 
-// The first `count` pump houses.
-fn print_points(rt: &HostRuntime, points: [Near; 16], count: usize) {
-    let mut k: usize = 0;
-    while k < 16 {
-        if k < count {
-            print_near(rt, points[k]);
-        }
-        k += 1;
-    }
-}
-
 // What the numbers hold, those that are not lent too.
 fn print_numbers(rt: &HostRuntime, numbers: &[u64]) {
     say::say(rt, b" numbers");
@@ -56,8 +45,9 @@ fn nearest_case(
     let r = found(p, q, id, size, n, numbers);
     say::number(rt, r.number as u64);
     say::number(rt, r.count as u64);
-    let points = r.points;
-    print_points(rt, points, r.count);
+    for v in r.points.iter().take(r.count) {
+        print_near(rt, *v);
+    }
     print_numbers(rt, numbers);
 }
 
@@ -92,10 +82,7 @@ fn filter_case(
 fn lent_of(asked: usize) -> usize
     ensures { result ≤ 2048 }
 {
-    if NUMBERS < asked {
-        return NUMBERS;
-    }
-    asked
+    asked.min(NUMBERS)
 }
 
 // What is asked, of which chamber, the size, and how many numbers are lent.

@@ -12,11 +12,7 @@ pub fn print_key(rt: &HostRuntime, k: list::Key) {
 }
 
 pub fn print_mark(rt: &HostRuntime, set: bool) {
-    if set {
-        say::number(rt, 1);
-    } else {
-        say::number(rt, 0);
-    }
+    say::number(rt, u64::from(set));
 }
 
 fn print_page(rt: &HostRuntime, page: list::Page) {
@@ -27,12 +23,10 @@ fn print_page(rt: &HostRuntime, page: list::Page) {
     say::number(rt, source.terms.contractor as u64);
     print_mark(rt, source.terms.own);
     print_mark(rt, source.terms.grid);
-    let key = page.key;
-    print_key(rt, key);
+    print_key(rt, page.key);
     say::number(rt, page.count as u64);
     print_mark(rt, page.end);
-    let pairs = page.pairs;
-    say::pairs(rt, pairs, 16);
+    say::pairs(rt, &page.pairs);
 }
 
 // A request, the number of its owner bytes, and the page that it asks for.
@@ -44,9 +38,8 @@ fn paged(
     request: Request,
     bits: &mut [u64],
 ) {
-    let key = request.key;
     say::say(rt, b"page");
-    print_key(rt, key);
+    print_key(rt, request.key);
     say::number(rt, request.size as u64);
     say::number(rt, request.threshold as u64);
     print_mark(rt, request.grid);
@@ -56,8 +49,7 @@ fn paged(
     let r = ring::pages::page(p, q, owners, request, bits);
     say::number(rt, r.number as u64);
     say::number(rt, r.opened);
-    let page = r.page;
-    print_page(rt, page);
+    print_page(rt, r.page);
 }
 
 // A key, a size, a threshold, a profile and a contractor, how many owner bytes there are, and these.
@@ -70,14 +62,14 @@ pub fn page_case(rt: &HostRuntime, tape: &mut Tape, p: &[i32], q: &[i32], bits: 
     let contractor = tape::next_id(tape);
     let n = tape::next_up_to(tape, OWNERS);
     let mut owners = [0u8; OWNERS];
-    tape::fill_bytes(tape, &mut owners, n);
+    tape::fill(tape, &mut owners, n, |t| tape::next_byte(t));
     let key = list::Key { q: key_q, p: key_p };
     let request = Request {
-        key: key,
-        size: size,
-        threshold: threshold,
-        contractor: contractor,
-        grid: grid,
+        key,
+        size,
+        threshold,
+        contractor,
+        grid,
     };
     paged(rt, p, q, &owners[..n], request, bits);
 }
@@ -97,8 +89,7 @@ pub fn own_case(rt: &HostRuntime, tape: &mut Tape, s: &[i32], bits: &mut [u64]) 
     let r = ring::own::own_page(s, key, size, grid, bits);
     say::number(rt, r.number as u64);
     say::number(rt, r.opened);
-    let page = r.page;
-    print_page(rt, page);
+    print_page(rt, r.page);
 }
 
 // The id of a chamber and a t, and whether it has so many partners.

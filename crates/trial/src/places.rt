@@ -27,7 +27,16 @@ fn spot(x: i16, y: i16) -> Spot
     }
 }
 
+// What is asked, and the places that it is asked of.
+fn say_spots(rt: &HostRuntime, asked: &[u8], spots: &[Spot]) {
+    say::say(rt, asked);
+    for a in spots {
+        say_spot(rt, *a);
+    }
+}
+
 // The greater of two.
+// Kept: tried `low.x.max(high.x)` in `boxed`; the proof of its `returns` did not close.
 fn greater(a: i64, b: i64) -> i64
     requires { Within 1000000000 a × Within 1000000000 b }
     ensures { (a ≤ℤ result) × Within 1000000000 result }
@@ -52,10 +61,7 @@ fn boxed(low: Spot, high: Spot) -> Boxed
 fn block(rt: &HostRuntime, a: Spot, b: Spot, z: Spot)
     requires { SpotIn a × SpotIn b × SpotIn z }
 {
-    say::say(rt, b"ring rule");
-    say_spot(rt, a);
-    say_spot(rt, b);
-    say_spot(rt, z);
+    say_spots(rt, b"ring rule", &[a, b, z]);
     let d = plane::dot_of(a, b, z);
     say::signed(rt, d);
     if plane::does_block(a, b, z) {
@@ -69,10 +75,7 @@ fn block(rt: &HostRuntime, a: Spot, b: Spot, z: Spot)
 fn skip(rt: &HostRuntime, q: Spot, p: Spot, z: Spot)
     requires { SpotIn q × SpotIn p × SpotIn z }
 {
-    say::say(rt, b"filter rule");
-    say_spot(rt, q);
-    say_spot(rt, p);
-    say_spot(rt, z);
+    say_spots(rt, b"filter rule", &[q, p, z]);
     let d = plane::dot_of(q, z, p);
     say::signed(rt, d);
     if plane::does_block(q, z, p) {
@@ -86,12 +89,8 @@ fn skip(rt: &HostRuntime, q: Spot, p: Spot, z: Spot)
 fn skip_box(rt: &HostRuntime, q: Spot, p: Spot, low: Spot, high: Spot)
     requires { SpotIn q × SpotIn p × SpotIn low × SpotIn high }
 {
-    say::say(rt, b"filter rule");
-    say_spot(rt, q);
-    say_spot(rt, p);
-    say::say(rt, b" box");
-    say_spot(rt, low);
-    say_spot(rt, high);
+    say_spots(rt, b"filter rule", &[q, p]);
+    say_spots(rt, b" box", &[low, high]);
     if plane::drops_box(q, p, boxed(low, high)) {
         say::say(rt, b" skipped\n");
     } else {
@@ -117,23 +116,16 @@ fn say_distance(rt: &HostRuntime, a: Spot, b: Spot, low: Spot, high: Spot)
     say::number(rt, plane::diameter(a, b));
 }
 
-// What a box is to the circle on a, b.
-fn box_rule(rt: &HostRuntime, a: Spot, b: Spot, low: Spot, high: Spot)
+// What a box is to the pair a, b of a profile.
+fn say_box(rt: &HostRuntime, grid: bool, a: Spot, b: Spot, low: Spot, high: Spot)
     requires { SpotIn a × SpotIn b × SpotIn low × SpotIn high }
 {
-    say::say(rt, b"box rules");
-    say_spot(rt, a);
-    say_spot(rt, b);
-    say::say(rt, b" box");
-    say_spot(rt, low);
-    say_spot(rt, high);
-    say_distance(rt, a, b, low, high);
     let o = boxed(low, high);
-    if plane::is_far(a, b, o) {
+    if plane::profile::is_far(grid, a, b, o) {
         say::say(rt, b" skipped\n");
         return;
     }
-    let side = plane::profile::side_inside(false, a, b, o);
+    let side = plane::profile::side_inside(grid, a, b, o);
     if side == 4 {
         say::say(rt, b" opened\n");
         return;
@@ -143,14 +135,21 @@ fn box_rule(rt: &HostRuntime, a: Spot, b: Spot, low: Spot, high: Spot)
     say::end_line(rt);
 }
 
+// What a box is to the circle on a, b.
+fn box_rule(rt: &HostRuntime, a: Spot, b: Spot, low: Spot, high: Spot)
+    requires { SpotIn a × SpotIn b × SpotIn low × SpotIn high }
+{
+    say_spots(rt, b"box rules", &[a, b]);
+    say_spots(rt, b" box", &[low, high]);
+    say_distance(rt, a, b, low, high);
+    say_box(rt, false, a, b, low, high);
+}
+
 // Whether z blocks a, b along the streets.
 fn street_block(rt: &HostRuntime, a: Spot, b: Spot, z: Spot)
     requires { SpotIn a × SpotIn b × SpotIn z }
 {
-    say::say(rt, b"street rule");
-    say_spot(rt, a);
-    say_spot(rt, b);
-    say_spot(rt, z);
+    say_spots(rt, b"street rule", &[a, b, z]);
     if plane::profile::does_block(true, a, b, z) {
         say::say(rt, b" blocks\n");
     } else {
@@ -162,34 +161,16 @@ fn street_block(rt: &HostRuntime, a: Spot, b: Spot, z: Spot)
 fn street_box(rt: &HostRuntime, a: Spot, b: Spot, low: Spot, high: Spot)
     requires { SpotIn a × SpotIn b × SpotIn low × SpotIn high }
 {
-    say::say(rt, b"street boxes");
-    say_spot(rt, a);
-    say_spot(rt, b);
-    say::say(rt, b" box");
-    say_spot(rt, low);
-    say_spot(rt, high);
-    let o = boxed(low, high);
-    if plane::profile::is_far(true, a, b, o) {
-        say::say(rt, b" skipped\n");
-        return;
-    }
-    let side = plane::profile::side_inside(true, a, b, o);
-    if side == 4 {
-        say::say(rt, b" opened\n");
-        return;
-    }
-    say::say(rt, b" blocks by side");
-    say::number(rt, side as u64);
-    say::end_line(rt);
+    say_spots(rt, b"street boxes", &[a, b]);
+    say_spots(rt, b" box", &[low, high]);
+    say_box(rt, true, a, b, low, high);
 }
 
 // The size of the pair a, b along the streets.
 fn street_size(rt: &HostRuntime, a: Spot, b: Spot)
     requires { SpotIn a × SpotIn b }
 {
-    say::say(rt, b"street size");
-    say_spot(rt, a);
-    say_spot(rt, b);
+    say_spots(rt, b"street size", &[a, b]);
     say::number(rt, plane::profile::size_of(true, a, b));
     say::end_line(rt);
 }

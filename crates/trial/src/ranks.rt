@@ -1,7 +1,7 @@
 // The busiest chambers and pump houses, and the most urgent visits: what each call answers, all sixteen rows.
 use crate::tape::Tape;
 use crate::{pages, say, tape};
-use ranked::{Busy, Question, Rank, Urgent, Visit};
+use ranked::{Busy, Question, Urgent};
 
 // The most scores that a case has for a sheet.
 const SCORES: usize = 2048;
@@ -13,10 +13,10 @@ fn next_question(tape: &mut Tape) -> Question {
     let grid = tape::next_mark(tape);
     let contractor = tape::next_id(tape);
     Question {
-        k: k,
-        largest: largest,
-        contractor: contractor,
-        grid: grid,
+        k,
+        largest,
+        contractor,
+        grid,
     }
 }
 
@@ -38,37 +38,20 @@ fn print_answer(rt: &HostRuntime, number: u32, count: usize) {
     say::number(rt, count as u64);
 }
 
-fn print_ranks(rt: &HostRuntime, rows: [Rank; 16]) {
-    let mut k: usize = 0;
-    while k < 16 {
-        let v = rows[k];
+fn print_busy(rt: &HostRuntime, r: Busy) {
+    print_answer(rt, r.number, r.count);
+    for v in &r.rows {
         say::number(rt, v.id as u64);
         say::number(rt, v.pairs as u64);
-        k += 1;
     }
-}
-
-fn print_visits(rt: &HostRuntime, rows: [Visit; 16]) {
-    let mut k: usize = 0;
-    while k < 16 {
-        let v = rows[k];
-        let pair = v.pair;
-        say::pair(rt, pair);
-        say::number(rt, v.score);
-        k += 1;
-    }
-}
-
-fn print_busy(rt: &HostRuntime, r: Busy) {
-    let rows = r.rows;
-    print_answer(rt, r.number, r.count);
-    print_ranks(rt, rows);
 }
 
 fn print_urgent(rt: &HostRuntime, r: Urgent) {
-    let rows = r.rows;
     print_answer(rt, r.number, r.count);
-    print_visits(rt, rows);
+    for v in &r.rows {
+        say::pair(rt, v.pair);
+        say::number(rt, v.score);
+    }
 }
 
 fn busiest_asked(
@@ -89,7 +72,7 @@ pub fn busiest_case(rt: &HostRuntime, tape: &mut Tape, p: &[i32], q: &[i32], bit
     let asked = next_question(tape);
     let len = tape::next_up_to(tape, pages::OWNERS);
     let mut owners = [0u8; pages::OWNERS];
-    tape::fill_bytes(tape, &mut owners, len);
+    tape::fill(tape, &mut owners, len, |t| tape::next_byte(t));
     busiest_asked(rt, p, q, &owners[..len], asked, bits);
 }
 
@@ -139,10 +122,10 @@ fn scored(
 ) {
     let np = tape::next_up_to(tape, SCORES);
     let mut of_p = [0u32; SCORES];
-    tape::fill_numbers(tape, &mut of_p, np);
+    tape::fill(tape, &mut of_p, np, tape::next_id);
     let nq = tape::next_up_to(tape, SCORES);
     let mut of_q = [0u32; SCORES];
-    tape::fill_numbers(tape, &mut of_q, nq);
+    tape::fill(tape, &mut of_q, nq, tape::next_id);
     urgent_asked(rt, p, q, owners, &of_p[..np], &of_q[..nq], asked, bits);
 }
 
@@ -151,6 +134,6 @@ pub fn urgent_case(rt: &HostRuntime, tape: &mut Tape, p: &[i32], q: &[i32], bits
     let asked = next_question(tape);
     let len = tape::next_up_to(tape, pages::OWNERS);
     let mut owners = [0u8; pages::OWNERS];
-    tape::fill_bytes(tape, &mut owners, len);
+    tape::fill(tape, &mut owners, len, |t| tape::next_byte(t));
     scored(rt, tape, p, q, &owners[..len], asked, bits);
 }

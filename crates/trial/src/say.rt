@@ -40,14 +40,13 @@ pub fn pair(rt: &HostRuntime, v: Pair) {
     number(rt, v.size);
 }
 
-// The first `count` of sixteen pairs.
-pub fn pairs(rt: &HostRuntime, row: [Pair; 16], count: usize) {
-    let mut k = 0;
-    while k < 16 {
-        if k < count {
-            let v = row[k];
-            pair(rt, v);
-        }
-        k += 1;
+pub fn pairs(rt: &HostRuntime, row: &[Pair]) {
+    for v in row {
+        pair(rt, *v);
     }
+}
+
+// The first `count` of a row, or all where there are fewer.
+pub fn first_pairs(rt: &HostRuntime, row: &[Pair], count: usize) {
+    pairs(rt, &row[..count.min(row.len())]);
 }

@@ -18,18 +18,18 @@ fn opened(rt: &HostRuntime, s: &[i32]) {
 pub fn open_case(rt: &HostRuntime, tape: &mut Tape) {
     let n = tape::next_up_to(tape, MOST);
     let mut space = [0i32; MOST];
-    tape::fill(tape, &mut space, n);
+    tape::fill(tape, &mut space, n, tape::next_word);
     opened(rt, &space[..n]);
 }
 
-pub fn print_point(rt: &HostRuntime, r: ring::Pointed) {
+pub fn print_point(rt: &HostRuntime, r: Result<ring::Asset, u32>) {
     match r {
-        ring::Pointed::At(a) => {
+        Ok(a) => {
             say::number(rt, a.id as u64);
             say::signed(rt, words::wide(a.x));
             say::signed(rt, words::wide(a.y));
         }
-        ring::Pointed::Refused(number) => {
+        Err(number) => {
             say::refused(rt, number);
         }
     }
@@ -47,27 +47,18 @@ fn read(rt: &HostRuntime, s: &[i32], position: usize) {
 pub fn point_case(rt: &HostRuntime, tape: &mut Tape) {
     let n = tape::next_up_to(tape, MOST);
     let mut space = [0i32; MOST];
-    tape::fill(tape, &mut space, n);
+    tape::fill(tape, &mut space, n, tape::next_word);
     read(rt, &space[..n], tape::next_or_largest(tape));
 }
 
 fn print_words(rt: &HostRuntime, s: &[i32]) {
-    let mut k = 0;
-    while k < s.len() {
-        say::signed(rt, words::wide(words::at(s, k)));
-        k += 1;
+    for w in s {
+        say::signed(rt, words::wide(*w));
     }
 }
 
 fn is_marked(s: &[i32]) -> bool {
-    let mut k = 0;
-    while k < s.len() {
-        if s[k] != MARK {
-            return false;
-        }
-        k += 1;
-    }
-    true
+    s.iter().all(|w| *w == MARK)
 }
 
 // A packed sheet is printed and opened; of a refused one it is said whether each lent word is as it was.
@@ -119,8 +110,8 @@ pub fn pack_case(rt: &HostRuntime, tape: &mut Tape) {
     let mut points = [0i32; MOST];
     let mut order = [0i32; MOST];
     let mut out = [MARK; MOST];
-    tape::fill(tape, &mut points, np);
-    tape::fill(tape, &mut order, no);
+    tape::fill(tape, &mut points, np, tape::next_word);
+    tape::fill(tape, &mut order, no, tape::next_word);
     packed(
         rt,
         form,

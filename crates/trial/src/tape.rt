@@ -2,7 +2,6 @@
 // read whole every word is 0.
 ghost use Rattle.std.specs.Prelude.{◌≡◌, ◌<◌, ◌≤◌, true, ◌||◌, length, drop, ◌==◌, nat_lt};
 
-use input::Got;
 use std::io::Stdin;
 
 // Standard input, and whether a word of it was lost: none is read after that one.
@@ -19,38 +18,24 @@ pub fn new(rt: &HostRuntime) -> Tape {
     }
 }
 
-fn word_of(b: &[u8; 4]) -> i32 {
-    words::bytes::word_le(b[0], b[1], b[2], b[3])
-}
-
-// A word, or that it cannot be read whole.
-#[derive(Clone, Copy)]
-enum Next {
-    Word(i32),
-    Lost,
-}
-
-// The next word. Where it is lost the tape ends there, so that no later one is taken for it.
-fn read_word(tape: &mut Tape) -> Next {
+// The next word, or that it cannot be read whole. Where it is lost the tape ends there, so that no later one is taken for it.
+fn read_word(tape: &mut Tape) -> Option<i32> {
     if tape.lost {
-        return Next::Lost;
+        return None;
     }
     let mut b = [0u8; 4];
-    if let Got::Bytes(n) = input::read_all(&mut tape.input, &mut b) {
+    if let Ok(n) = input::read_all(&mut tape.input, &mut b) {
         if n == 4 {
-            return Next::Word(word_of(&b));
+            return Some(i32::from_le_bytes(b));
         }
     }
     tape.lost = true;
-    Next::Lost
+    None
 }
 
 // The next word, 0 where it is lost.
 pub fn next_word(tape: &mut Tape) -> i32 {
-    match read_word(tape) {
-        Next::Word(w) => w,
-        Next::Lost => 0,
-    }
+    read_word(tape).unwrap_or(0)
 }
 
 // The kind of the next case, 0 where the cases end. Where the input fails or breaks off before that, it says so and answers 0.
@@ -58,8 +43,8 @@ pub fn next_kind(rt: &HostRuntime, tape: &mut Tape) -> usize
     ensures { result < 2147483648 }
 {
     match read_word(tape) {
-        Next::Word(w) => words::num(w),
-        Next::Lost => {
+        Some(w) => words::num(w),
+        None => {
             let _ = println!(rt; "refused input");
             0
         }
@@ -77,8 +62,7 @@ pub fn next_count(tape: &mut Tape) -> usize
 pub fn next_up_to(tape: &mut Tape, most: usize) -> usize
     ensures { result ≤ most }
 {
-    let n = next_count(tape);
-    if n < most { n } else { most }
+    next_count(tape).min(most)
 }
 
 // The next word as a count, and the largest of all for a negative one.
@@ -117,40 +101,17 @@ pub fn next_mark(tape: &mut Tape) -> bool {
 }
 
 // The next word as a byte, 255 for one beyond.
-fn next_byte(tape: &mut Tape) -> u8 {
+pub fn next_byte(tape: &mut Tape) -> u8 {
     next_up_to(tape, 255) as u8
 }
 
-// The next n words go to the first n places of `out`, as bytes.
-pub fn fill_bytes(tape: &mut Tape, out: &mut [u8], n: usize)
-    requires { n ≤ length out.old }
-{
-    let mut i = 0;
-    while i < n {
-        out[i] = next_byte(tape);
-        i += 1;
-    }
-}
-
-// The next n words go to the first n places of `out`, as numbers of 32 bits.
-pub fn fill_numbers(tape: &mut Tape, out: &mut [u32], n: usize)
-    requires { n ≤ length out.old }
-{
-    let mut i = 0;
-    while i < n {
-        out[i] = next_id(tape);
-        i += 1;
-    }
-}
-
-// The next n words go to the first n places of `out`. The others stay as they were.
-pub fn fill(tape: &mut Tape, out: &mut [i32], n: usize)
-    requires { n ≤ length out.old }
+// The next n words go to the first n places of `out`, each as `next` reads it. The others stay as they were.
+pub fn fill<T: Copy, F: Fn(&mut Tape) -> T>(tape: &mut Tape, out: &mut [T], n: usize, next: F)
+    requires within { n ≤ length out.old }
+    requires callable { F.IsAlwaysCallable next }
     ensures { drop n out.new ≡ drop n out.old }
 {
-    let mut i = 0;
-    while i < n {
-        out[i] = next_word(tape);
-        i += 1;
+    for i in 0..n {
+        out[i] = next(tape);
     }
 }

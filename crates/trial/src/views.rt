@@ -1,14 +1,11 @@
 // Calls through views: over sheets, over changed sheets, over parts of a sheet and no words, and of views that claim counts which are not their sheet's.
-ghost use Rattle.std.specs.Prelude.{◌≡◌, length};
-ghost use Rattle.ring.specs.Answers.{pointed, filtered, filtered_bits, walked};
-ghost use Rattle.ring.specs.Page.{page_answer, page_bits};
-ghost use Rattle.nearest.specs.Nearest.{nearest_no, nearest_answer, waited_by};
+ghost use Rattle.std.specs.Prelude.{◌≤◌};
 
 use crate::tape::Tape;
 use crate::{say, tape};
 use list::{Key, Page, Request};
 use nearest::Found;
-use ring::{Filtered, Head, Paged, Pointed, Walked};
+use ring::{Asset, Filtered, Head, Paged};
 use view::Sheet;
 use walk::Answer;
 
@@ -34,16 +31,16 @@ fn show_answer(rt: &HostRuntime, a: Answer) {
     say::number(rt, a.opened);
 }
 
-fn show_point(rt: &HostRuntime, a: Pointed) {
+fn show_point(rt: &HostRuntime, a: Result<Asset, u32>) {
     say::say(rt, b"point");
     crate::sheets::print_point(rt, a);
 }
 
-fn show_walk(rt: &HostRuntime, w: Walked) {
+fn show_walk(rt: &HostRuntime, w: Result<Answer, u32>) {
     say::say(rt, b"ring");
     match w {
-        Walked::Done(a) => show_answer(rt, a),
-        Walked::Refused(no) => say::refused(rt, no),
+        Ok(a) => show_answer(rt, a),
+        Err(no) => say::refused(rt, no),
     }
 }
 
@@ -66,8 +63,7 @@ fn show_page(rt: &HostRuntime, a: Paged) {
     say::say(rt, b"page");
     say::number(rt, a.number as u64);
     say::number(rt, a.opened);
-    let g = a.page;
-    show_pairs(rt, g);
+    show_pairs(rt, a.page);
 }
 
 fn show_found(rt: &HostRuntime, f: Found) {
@@ -81,174 +77,17 @@ fn show_found(rt: &HostRuntime, f: Found) {
 
 fn show_waiting(rt: &HostRuntime, numbers: [u64; 4]) {
     say::say(rt, b" numbers");
-    say::number(rt, numbers[0]);
-    say::number(rt, numbers[1]);
-    say::number(rt, numbers[2]);
-    say::number(rt, numbers[3]);
+    for n in &numbers {
+        say::number(rt, *n);
+    }
 }
 
-// The readers on views made here, of words and any counts: the answer is that of the words alone.
-fn point_through(words: &[i32], n: usize, m: usize, position: usize) -> Pointed
-    ensures { result ≡ pointed words.now position }
+// The pump houses nearest to a chamber where so many of four numbers are lent, then all four.
+fn ask_near(rt: &HostRuntime, p: Sheet, q: Sheet, id: u32, size: usize, lent: usize)
+    requires { lent ≤ 4 }
 {
-    view::point_at(Sheet { words, n, m }, position)
-}
-
-fn filter_walk_through(
-    p: &[i32],
-    np: usize,
-    mp: usize,
-    q: &[i32],
-    nq: usize,
-    mq: usize,
-    j: usize,
-    bits: &mut [u64],
-) -> Filtered
-    ensures { (result ≡ filtered p.now q.now j (length bits.old)) × (bits.new ≡ filtered_bits p.now q.now j bits.old) }
-{
-    view::filter_walk_at(
-        Sheet {
-            words: p,
-            n: np,
-            m: mp,
-        },
-        Sheet {
-            words: q,
-            n: nq,
-            m: mq,
-        },
-        j,
-        bits,
-    )
-}
-
-fn ring_walk_through(
-    p: &[i32],
-    np: usize,
-    mp: usize,
-    q: &[i32],
-    nq: usize,
-    mq: usize,
-    j: usize,
-    i: usize,
-    grid: bool,
-) -> Walked
-    ensures { result ≡ walked p.now q.now j i grid }
-{
-    view::ring_walk_at(
-        Sheet {
-            words: p,
-            n: np,
-            m: mp,
-        },
-        Sheet {
-            words: q,
-            n: nq,
-            m: mq,
-        },
-        j,
-        i,
-        grid,
-    )
-}
-
-fn page_through(
-    p: &[i32],
-    np: usize,
-    mp: usize,
-    q: &[i32],
-    nq: usize,
-    mq: usize,
-    owners: &[u8],
-    request: Request,
-    bits: &mut [u64],
-) -> Paged
-    ensures { (result ≡ page_answer p.now q.now owners.now request (length bits.old)) × (bits.new ≡ page_bits p.now q.now owners.now request bits.old) }
-{
-    view::page_at(
-        Sheet {
-            words: p,
-            n: np,
-            m: mp,
-        },
-        Sheet {
-            words: q,
-            n: nq,
-            m: mq,
-        },
-        owners,
-        request,
-        bits,
-    )
-}
-
-fn nearest_through(
-    p: &[i32],
-    np: usize,
-    mp: usize,
-    q: &[i32],
-    nq: usize,
-    mq: usize,
-    id: u32,
-    size: usize,
-    waiting: &mut [u64],
-) -> Found
-    ensures { (result ≡ nearest_answer p.now q.now id size (length waiting.old)) × (waiting.new ≡ waited_by (nearest_no p.now q.now id size (length waiting.old)) p.now waiting.old) }
-{
-    view::nearest_at(
-        Sheet {
-            words: p,
-            n: np,
-            m: mp,
-        },
-        Sheet {
-            words: q,
-            n: nq,
-            m: mq,
-        },
-        id,
-        size,
-        waiting,
-    )
-}
-
-// The pump houses nearest to a chamber, then the four lent numbers.
-fn ask_near(
-    rt: &HostRuntime,
-    p: &[i32],
-    np: usize,
-    mp: usize,
-    q: &[i32],
-    nq: usize,
-    mq: usize,
-    id: u32,
-    size: usize,
-) {
     let mut waiting: [u64; 4] = [7, 8, 9, 10];
-    show_found(
-        rt,
-        nearest_through(p, np, mp, q, nq, mq, id, size, &mut waiting),
-    );
-    show_waiting(rt, waiting);
-}
-
-// Where two of the four are lent.
-fn ask_short(
-    rt: &HostRuntime,
-    p: &[i32],
-    np: usize,
-    mp: usize,
-    q: &[i32],
-    nq: usize,
-    mq: usize,
-    id: u32,
-    size: usize,
-) {
-    let mut waiting: [u64; 4] = [7, 8, 9, 10];
-    show_found(
-        rt,
-        nearest_through(p, np, mp, q, nq, mq, id, size, &mut waiting[..2]),
-    );
+    show_found(rt, view::nearest_at(p, q, id, size, &mut waiting[..lent]));
     show_waiting(rt, waiting);
 }
 
@@ -256,12 +95,8 @@ fn ask_short(
 fn ask_page(
     rt: &HostRuntime,
     tape: &mut Tape,
-    p: &[i32],
-    np: usize,
-    mp: usize,
-    q: &[i32],
-    nq: usize,
-    mq: usize,
+    p: Sheet,
+    q: Sheet,
     key: Key,
     size: usize,
     grid: bool,
@@ -270,53 +105,46 @@ fn ask_page(
     let contractor = tape::next_id(tape);
     let n = tape::next_up_to(tape, crate::pages::OWNERS);
     let mut owners = [0u8; crate::pages::OWNERS];
-    tape::fill_bytes(tape, &mut owners, n);
+    tape::fill(tape, &mut owners, n, |t| tape::next_byte(t));
     let request = Request {
-        key: key,
-        size: size,
+        key,
+        size,
         threshold: 0,
-        contractor: contractor,
-        grid: grid,
+        contractor,
+        grid,
     };
-    show_page(
-        rt,
-        page_through(p, np, mp, q, nq, mq, &owners[..n], request, bits),
-    );
+    show_page(rt, view::page_at(p, q, &owners[..n], request, bits));
 }
 
-// Which call, the counts that the views of P and of Q claim, two positions or ids, a size, and a profile. A call that does not take one of these reads it all the same.
+// The counts that a view of the words claims.
+fn next_sheet<'a>(tape: &mut Tape, words: &'a [i32]) -> Sheet<'a> {
+    let n = tape::next_or_largest(tape);
+    let m = tape::next_or_largest(tape);
+    Sheet { words, n, m }
+}
+
+// Which call, the counts that the views of P and of Q claim, two positions or ids, a size, and a profile. A call that does not take one of these reads it all the same. The answers
+// on these views are those of the words alone, whatever the views claim.
 pub fn view_case(rt: &HostRuntime, tape: &mut Tape, p: &[i32], q: &[i32], bits: &mut [u64]) {
     let call = tape::next_count(tape);
-    let np = tape::next_or_largest(tape);
-    let mp = tape::next_or_largest(tape);
-    let nq = tape::next_or_largest(tape);
-    let mq = tape::next_or_largest(tape);
+    let of_p = next_sheet(tape, p);
+    let of_q = next_sheet(tape, q);
     let a = tape::next_id(tape);
     let b = tape::next_id(tape);
     let size = tape::next_or_largest(tape);
     let grid = tape::next_mark(tape);
-    if call == 1 {
-        show_head(rt, view::open_head(p));
-    } else if call == 2 {
-        show_point(rt, view::point_opened(p, a as usize));
-    } else if call == 3 {
-        show_point(rt, point_through(p, np, mp, a as usize));
-    } else if call == 4 {
-        show_filter(
-            rt,
-            filter_walk_through(p, np, mp, q, nq, mq, a as usize, bits),
-        );
-    } else if call == 5 {
-        show_walk(
-            rt,
-            ring_walk_through(p, np, mp, q, nq, mq, a as usize, b as usize, grid),
-        );
-    } else if call == 6 {
-        let key = Key { q: a, p: b };
-        ask_page(rt, tape, p, np, mp, q, nq, mq, key, size, grid, bits);
-    } else if call == 7 {
-        ask_near(rt, p, np, mp, q, nq, mq, a, size);
-    } else {
-        ask_short(rt, p, np, mp, q, nq, mq, a, size);
+    let (j, i) = (a as usize, b as usize);
+    match call {
+        1 => show_head(rt, view::open_head(p)),
+        2 => show_point(rt, view::point_opened(p, j)),
+        3 => show_point(rt, view::point_at(of_p, j)),
+        4 => show_filter(rt, view::filter_walk_at(of_p, of_q, j, bits)),
+        5 => show_walk(rt, view::ring_walk_at(of_p, of_q, j, i, grid)),
+        6 => {
+            let key = Key { q: a, p: b };
+            ask_page(rt, tape, of_p, of_q, key, size, grid, bits);
+        }
+        7 => ask_near(rt, of_p, of_q, a, size, 4),
+        _ => ask_near(rt, of_p, of_q, a, size, 2),
     }
 }

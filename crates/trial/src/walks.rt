@@ -33,12 +33,12 @@ pub fn print_hit(rt: &HostRuntime, h: walk::Hit) {
     }
 }
 
-fn print_answer(rt: &HostRuntime, r: ring::Walked) {
+fn print_answer(rt: &HostRuntime, r: Result<walk::Answer, u32>) {
     match r {
-        ring::Walked::Refused(number) => {
+        Err(number) => {
             say::refused(rt, number);
         }
-        ring::Walked::Done(a) => {
+        Ok(a) => {
             let h = a.hit;
             print_hit(rt, h);
             say::number(rt, a.opened);

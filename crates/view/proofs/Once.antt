@@ -1,6 +1,7 @@
 -- One input, one answer: from each promise alone. What two answers of `open` share is all that a view shows: the number, the words covered and where they
 -- stand, the counts. And what the readers make of a view is settled by the words that it covers: its own counts say nothing.
 -- Assumes nothing.
+use Rattle.std.specs.Prelude.{Result}
 use mathlib.Core.Bool.{Bool}
 use mathlib.Core.Path.{◌≡◌, refl, sym, ap, ◌∙◌}
 use mathlib.Core.List.{List, []}
@@ -20,9 +21,7 @@ use Rattle.ring.specs.Own.{own_answer, own_bits}
 use Rattle.ring.specs.Partners.{partners_answer, partners_bits}
 use Rattle.ring.specs.declared.Paged.{Paged}
 use Rattle.ring.specs.declared.Partnered.{Partnered}
-use Rattle.ring.specs.declared.Pointed.{Pointed}
 use Rattle.ring.specs.declared.Filtered.{Filtered}
-use Rattle.ring.specs.declared.Walked.{Walked}
 use Rattle.runs.specs.declared.Run.{Run}
 use Rattle.runs.specs.Run.{run_answer, run_slots, run_bits}
 use Rattle.shortest.specs.declared.Shortlist.{Shortlist}
@@ -32,6 +31,8 @@ use Rattle.nearest.specs.Nearest.{nearest_no, nearest_answer, near_filter_no, ne
 use Rattle.view.specs.declared.Sheet.{Sheet}
 use Rattle.view.specs.declared.Opened.{Opened}
 use Rattle.view.specs.Shown.{Shown, shown, open_of}
+use Rattle.ring.specs.declared.Asset.{Asset}
+use Rattle.walk.specs.declared.Answer.{Answer}
 
 pub open_through_once : (s : Bor (List ℤ)) (r r' : Opened) → shown r ≡ open_of s → shown r' ≡ open_of s → shown r ≡ shown r'
 open_through_once s r r' e f = e ∙ sym f
@@ -52,11 +53,11 @@ unfolding open_of
 open_refused s r e ne = e ∙ answer_refused _ _ _ _ refl ne
 
 -- the readers: two views of the same words, whatever they claim, get one answer, and leave the same in what is lent
-pub point_through_once : (d d' : Sheet) (i : ℕ) (r r' : Pointed) → d.words.now ≡ d'.words.now
+pub point_through_once : (d d' : Sheet) (i : ℕ) (r r' : Result Asset ℕ) → d.words.now ≡ d'.words.now
     → r ≡ pointed d.words.now i → r' ≡ pointed d'.words.now i → r ≡ r'
 point_through_once d d' i r r' v e f = e ∙ (λ x. pointed (v x) i) ∙ sym f
 
-pub ring_through_once : (p p' q q' : Sheet) (j i : ℕ) (g : Bool) (r r' : Walked) → p.words.now ≡ p'.words.now → q.words.now ≡ q'.words.now
+pub ring_through_once : (p p' q q' : Sheet) (j i : ℕ) (g : Bool) (r r' : Result Answer ℕ) → p.words.now ≡ p'.words.now → q.words.now ≡ q'.words.now
     → r ≡ walked p.words.now q.words.now j i g → r' ≡ walked p'.words.now q'.words.now j i g → r ≡ r'
 ring_through_once p p' q q' j i g r r' v w e f = e ∙ (λ x. walked (v x) (w x) j i g) ∙ sym f
 
@@ -117,5 +118,5 @@ near_filter_through_once p p' q q' id waiting ws r r' s s' t t' v w e f =
     (e.0 ∙ (λ i. near_filtered (v i) (w i) id (length ws) (length waiting)) ∙ sym f.0, e.1 ∙ (λ i. waited_by (near_filter_no (v i) (w i) id (length ws) (length waiting)) (v i) waiting) ∙ sym f.1, e.2 ∙ (λ i. near_filtered_bits (v i) (w i) id (length waiting) ws) ∙ sym f.2)
 
 -- the point reader through the view that `open` gives. `open_head` has the promise of ring's `head_of`, which ring's own law settles
-pub point_opened_through_once : (s : Bor (List ℤ)) (i : ℕ) (r r' : Pointed) → r ≡ pointed (open_of s).covers i → r' ≡ pointed (open_of s).covers i → r ≡ r'
+pub point_opened_through_once : (s : Bor (List ℤ)) (i : ℕ) (r r' : Result Asset ℕ) → r ≡ pointed (open_of s).covers i → r' ≡ pointed (open_of s).covers i → r ≡ r'
 point_opened_through_once s i r r' e f = e ∙ sym f

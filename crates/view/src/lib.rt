@@ -19,9 +19,10 @@ use list::{Key, Pair, Request};
 use many::{Counted, Many, Wanted, Which};
 use nearest::Found;
 use ranked::{Busy, Question, Urgent};
-use ring::{Filtered, Head, Paged, Partnered, Pointed, Walked};
+use ring::{Asset, Filtered, Head, Paged, Partnered};
 use runs::Run;
 use shortest::Shortlist;
+use walk::Answer;
 
 // The words that the view covers, and the numbers of points and nodes that it claims for them. [F9]
 #[derive(Clone, Copy)]
@@ -65,7 +66,7 @@ pub fn open<'a>(words: &'a [i32]) -> Opened<'a>
 }
 
 // The record at a position of a view's sheet; refused by 1 to 8 of its words, then by 9.
-pub fn point_at<'a>(sheet: Sheet<'a>, position: usize) -> Pointed
+pub fn point_at<'a>(sheet: Sheet<'a>, position: usize) -> Result<Asset, u32>
     ensures { result ≡ pointed sheet.entry.words.now position }
 {
     ring::reader::point(sheet.words, position)
@@ -84,7 +85,13 @@ pub fn filter_walk_at<'a, 'b, 'c>(
 }
 
 // The ring walk for position j of Q and position i of P, of a profile; refused by 1 to 8 of P's words, then of Q's, then by 29, then by 9.
-pub fn ring_walk_at<'a, 'b>(p: Sheet<'a>, q: Sheet<'b>, j: usize, i: usize, grid: bool) -> Walked
+pub fn ring_walk_at<'a, 'b>(
+    p: Sheet<'a>,
+    q: Sheet<'b>,
+    j: usize,
+    i: usize,
+    grid: bool,
+) -> Result<Answer, u32>
     ensures { result ≡ walked p.entry.words.now q.entry.words.now j i grid }
 {
     ring::ringwalk::ring_walk(p.words, q.words, j, i, grid)
@@ -293,7 +300,7 @@ pub fn open_head(words: &[i32]) -> Head
 }
 
 // The record at a position, through the view that `open` gives: of words that are no sheet it covers none, and the reader refuses by 1.
-pub fn point_opened(words: &[i32], position: usize) -> Pointed
+pub fn point_opened(words: &[i32], position: usize) -> Result<Asset, u32>
     ensures { result ≡ pointed (open_of words.entry).covers position }
 {
     let o = open(words);

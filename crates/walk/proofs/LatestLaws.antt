@@ -7,13 +7,20 @@ use mathlib.Core.List.{List}
 use Prim.Native.Nat.{ℕ, ◌+◌, ◌-◌, ◌*◌, ◌≤◌, ◌<◌}
 use native.Mathlib.Omega.{arith}
 use native.Mathlib.Decide.{ℕ_discrete}
+use lib.IntN.{ℤ}
 use lib.ListN.{length, get_or, set}
 use lib.Seq.{get_or-set_same, get_or-set_other}
 use Rattle.integers.proofs.Bools.{clash}
+use Rattle.plane.specs.declared.Spot.{Spot}
+use Rattle.plane.specs.declared.Boxed.{Boxed}
+use Rattle.plane.specs.Rule.{drops_box}
+use Rattle.sheet.specs.Open.{Opens}
+use Rattle.sheet.specs.Places.{spot_of}
 use Rattle.bits.specs.Set.{kept, with, none, some, Known, Finds}
 use Rattle.bits.proofs.SetLaws.{kept_same, kept_more, kept_only, none_kept}
 use Rattle.bits.proofs.SomeLaws.{some_one, known_past, known_more, finds_at}
-use Rattle.walk.specs.Latest.{Lists, Tries}
+use Rattle.walk.specs.Latest.{Lists, Tries, TestsBox}
+use Rattle.walk.proofs.NodeLaws.{spot_fits}
 
 -- ---- the search: of the first c numbers, those from k on are asked, and q holds at none of them
 
@@ -49,6 +56,12 @@ module _ (latest : List ℕ) (q : ℕ → Bool) (c : ℕ) where
         go : (b : Bool) → some ws q n 0 ≡ b → some ws q n 0 ≡ false
         go true e = no_one e
         go false e = e
+
+-- ---- a test of boxes, asked of the place of position i
+
+pub says_at : (pre : Spot → Type 0) (post : Spot → Bool → Type 0) (q : Spot) (o : Boxed) → TestsBox pre post q o → (w : List ℤ) (n m : ℕ) → Opens w n m → (i : ℕ) (z : Spot) (t : Bool)
+    → i < n → z ≡ spot_of w i → post z t → drops_box q (spot_of w i) o ≡ t
+says_at pre post q o d w n m op i z t h e p = subst (λ (s : Spot). drops_box q s o ≡ t) e (sym (d.says z t (spot_fits w n m op i z h e) p))
 
 -- ---- none is kept at the start
 

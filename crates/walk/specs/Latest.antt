@@ -1,5 +1,8 @@
 -- The positions of the latest kept points, in a list that is lent to the filter walk's code: it says in which order kept points are tried, and changes no answer.
-use Rattle.std.specs.Prelude.{◌≡◌, true, List, ℕ, ◌≤◌, ◌<◌, length, get_or}
+use Rattle.std.specs.Prelude.{◌≡◌, Bool, true, List, ℕ, ◌≤◌, ◌<◌, length, get_or}
+use Rattle.plane.specs.declared.Spot.{Spot}
+use Rattle.plane.specs.declared.Boxed.{Boxed}
+use Rattle.plane.specs.Rule.{SpotIn, drops_box}
 use Rattle.bits.specs.Set.{kept, Known}
 
 -- the first c numbers of the list are kept ones of the first n positions, and each kept one is among them
@@ -12,3 +15,8 @@ pub record Lists (ws : List ℕ) (n : ℕ) (latest : List ℕ) (c : ℕ) : Type 
 pub record Tries (ws : List ℕ) (n : ℕ) (latest : List ℕ) (last c : ℕ) : Type 0 where
   pub known : Known ws n last
   pub listed : c ≤ length latest → Lists ws n latest c
+
+-- a test that may be asked of each place in range, and says whether the place drops the box o, for q
+pub record TestsBox (pre : Spot → Type 0) (post : Spot → Bool → Type 0) (q : Spot) (o : Boxed) : Type 0 where
+  pub may : (z : Spot) → SpotIn z → pre z
+  pub says : (z : Spot) (t : Bool) → SpotIn z → post z t → t ≡ drops_box q z o

@@ -47,6 +47,20 @@ pub edition_bounds : (k : ℕ) → edition_ok k ≡ true → (1 ≤ k) × (k ≤
 unfolding edition_ok
 edition_bounds k e = (leb-true 1 k (and_left (leb 1 k) (leb k last_edition) e), leb-true k last_edition (and_right (leb 1 k) (leb k last_edition) e))
 
+-- what is in the range of a limit is in that of a greater one
+pub coord_wider : (c d z : ℤ) → c ≤ℤ d → coord_word c z ≡ true → coord_word d z ≡ true
+unfolding coord_word within
+coord_wider c d z h e =
+    let l = and_left (le_z (neg_ℤ c) z) (le_z z c) e in
+    let r = and_right (le_z (neg_ℤ c) z) (le_z z c) e in
+    and_both _ _ (low l) (high r)
+  where
+    low : le_z (neg_ℤ c) z ≡ true → le_z (neg_ℤ d) z ≡ true
+    low t = omega (zl, pp_neg c, nn_neg c, pp_neg d, nn_neg d)
+
+    high : le_z z c ≡ true → le_z z d ≡ true
+    high t = omega zl
+
 -- a coordinate of a form is within any bound of its limit
 pub coord_in : (c z : ℤ) (n : ℕ) → c ≤ℤ pos n → coord_word c z ≡ true → Within n z
 unfolding coord_word within

@@ -138,3 +138,10 @@ words_lt_le a b e = omega zl
 
 pub not_lt_le : (a b : ℤ) → lt_z a b ≡ false → le_z b a ≡ true
 not_lt_le a b e = le_z_not b a ∙ ap not e
+
+-- the test that a word is not negative
+pub up_from : {x y : ℤ} → y ≡ x → le_z (pos 0) y ≡ true → lt_z y (pos 0) ≡ false
+up_from e t = omega zl
+
+pub down_from : {x y : ℤ} → y ≡ x → le_z (pos 0) y ≡ false → lt_z y (pos 0) ≡ true
+down_from e t = omega zl

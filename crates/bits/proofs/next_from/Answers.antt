@@ -8,7 +8,7 @@ use Rattle.bits.proofs.next_from.Goals as goal
 
 -- the next one, where what is left of the word is not 0
 found : (c : goal.Then-rest-ne0) → c.loop-at.at + count_trailing_zeros 64 (get_or c.args.bits.now (c.loop-at.at / 64) 0 / 2 ^ (c.loop-at.at % 64)) ≡ next_from c.args.bits.now c.loop-at.at
-found c = from_hit _ _ c.loop-at-test.true (c.shared_slice_known-1.given (c.loop-at.at / 64)).fits c.if-rest-ne0.true
+found c = from_hit _ _ c.loop-at-test.true (c.type_inv.bits (c.loop-at.at / 64)).fits c.if-rest-ne0.true
 
 pub returns-then-rest-ne0 : goal.returns-then-rest-ne0
 returns-then-rest-ne0 c = found c ∙ c.loop-at.invariant

@@ -1,8 +1,8 @@
 -- `bits::words_for` meets its contract. Assumes nothing.
-use mathlib.Core.Path.{refl}
+use Rattle.std.proofs.Common.{arith}
 use Rattle.bits.specs.Set.{words_for}
 use Rattle.bits.proofs.words_for.Goals as goal
 
 pub returns : goal.returns
 unfolding words_for
-returns c = refl
+returns c = omega arith

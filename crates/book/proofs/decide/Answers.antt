@@ -9,8 +9,8 @@ pub returns-then-number-ne0 : goal.returns-then-number-ne0
 unfolding refused
 returns-then-number-ne0 c = refused_at _ _ _ _ _ c.take_number-number.ensures c.if-number-ne0.true
 
-pub overflow_add-result : goal.overflow_add-result
-overflow_add-result c =
+pub overflow_add-book : goal.overflow_add-book
+overflow_add-book c =
     let e = c in
     let p = passed_at _ _ _ _ (sym e.take_number-number.ensures ∙ e.if-number-ne0.false) in
     omega (arith, p.fits, e.ranges.len)

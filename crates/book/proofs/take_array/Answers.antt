@@ -1,6 +1,6 @@
 -- `book::take_array` meets its contract.
 -- Assumes nothing.
-use mathlib.Core.Path.{◌≡◌, sym}
+use mathlib.Core.Path.{◌≡◌, refl, sym}
 use lib.ListN.{length, take, length-take}
 use native.Mathlib.Omega.{arith}
 use Rattle.list.proofs.PageLaws.{long_of}
@@ -20,4 +20,4 @@ slice_bounds-take-end c =
     sym (front_long 64 _ _ c.lent_of-n.ensures _ long)
 
 pub returns : goal.returns
-returns c = array_is _ _ _ _ _ _ _ _ c.lent_of-n.ensures c.take-taken.ensures.0 c.take-taken.ensures.1 c.with_slots.ensures
+returns c = array_is _ _ _ _ _ _ _ _ c.lent_of-n.ensures c.take-taken.ensures.0 c.take-taken.ensures.1 refl

@@ -1,20 +1,19 @@
 -- `brute::clipped` meets its contract. Assumes nothing.
-use mathlib.Core.Path.{◌∙◌}
+use Rattle.std.proofs.Common.{sym, ◌∙◌}
 use mir.Facts.{to_z-of_z}
-use Rattle.integers.proofs.Cast.{wide_is}
-use Rattle.brute.proofs.Distances.{clip_low, clip_high, clip_is, clip_in}
+use Rattle.integers.proofs.Cast.{result_is}
+use Rattle.words.proofs.ContainsLaws.{in_words}
+use Rattle.brute.proofs.Distances.{clip_is, clip_out, clip_in}
 use Rattle.brute.proofs.clipped.Goals as goal
 
-pub returns-then-w-ltminus1000000000 : goal.returns-then-w-ltminus1000000000
-returns-then-w-ltminus1000000000 c = (clip_low _ (rw (to_z-of_z c.ranges.w) at c.if-w-ltminus1000000000.true), clip_in _)
+pub returns-then-contains : goal.returns-then-contains
+returns-then-contains c =
+    let s = c.new.ensures in
+    let t = rw (to_z-of_z c.ranges.w) at c.contains.ensures.value ∙ in_words c.new.result _ _ _ s.start s.end s.exhausted in
+    (result_is c.from.type_inv (c.from.ensures ∙ to_z-of_z c.ranges.w) ∙ clip_is _ (sym t ∙ c.if-contains.true), clip_in _)
 
-pub returns-then-w-gt1000000000 : goal.returns-then-w-gt1000000000
-returns-then-w-gt1000000000 c =
-    let f = to_z-of_z c.ranges.w in
-    (clip_high _ (rw f at c.if-w-ltminus1000000000.false) (rw f at c.if-w-gt1000000000.true), clip_in _)
-
-pub returns : goal.returns
-returns c =
-    let s = c in
-    let f = to_z-of_z s.ranges.w in
-    (wide_is s.ranges.w ∙ clip_is _ (rw f at c.if-w-ltminus1000000000.false) (rw f at c.if-w-gt1000000000.false), clip_in _)
+pub returns-else-contains : goal.returns-else-contains
+returns-else-contains c =
+    let s = c.new.ensures in
+    let t = rw (to_z-of_z c.ranges.w) at c.contains.ensures.value ∙ in_words c.new.result _ _ _ s.start s.end s.exhausted in
+    (clip_out _ (sym t ∙ c.if-contains.false), clip_in _)

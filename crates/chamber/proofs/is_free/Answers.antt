@@ -10,7 +10,7 @@ returns-then-not-clear_on c = let s = c in free_no s.args.terms _ _ _ _ _ c.clea
 pub returns-then-own : goal.returns-then-own
 returns-then-own c =
     let s = c in
-    free_own s.args.terms _ _ _ _ _ c.clear_on.ensures (ap not c.if-not-clear_on.false) s.requires.2 c.if-own.true
+    free_own s.args.terms _ _ _ _ _ c.clear_on.ensures (ap not c.if-not-clear_on.false) s.requires.0 c.if-own.true
 
 pub returns : goal.returns
 returns c =

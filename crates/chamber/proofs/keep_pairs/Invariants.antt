@@ -10,9 +10,9 @@ use Rattle.chamber.proofs.keep_pairs.Given as goal
 
 abbrev pub invariant-loop-i : goal.invariant-loop-i
 invariant-loop-i l =
-    Keeping (small_for l.largest l.terms (points_of l.p) (points_of l.q)) (pair_by (profile_for l.terms) (points_of l.p) (points_of l.q)) l.j l.hp.n l.initial.bits l.bits l.count l.i
-    × Right l.terms l.p l.q l.a l.seen.last.known l.seen.last.at l.seen.last.clear
-    × Right l.terms l.p l.q l.a l.seen.other.known l.seen.other.at l.seen.other.clear
+    Keeping (small_for l.largest l.terms (points_of l.p.words.now) (points_of l.q.words.now)) (pair_by (profile_for l.terms) (points_of l.p.words.now) (points_of l.q.words.now)) l.j l.p.n l.initial.bits l.bits l.count l.i
+    × Right l.terms l.p.words.now l.q.words.now l.a l.seen.last.known l.seen.last.at l.seen.last.clear
+    × Right l.terms l.p.words.now l.q.words.now l.a l.seen.other.known l.seen.other.at l.seen.other.clear
 
 abbrev pub decreases-loop-i : goal.decreases-loop-i
-decreases-loop-i l = l.hp.n - l.i
+decreases-loop-i l = l.p.n - l.i

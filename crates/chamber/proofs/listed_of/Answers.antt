@@ -8,14 +8,14 @@ use Rattle.chamber.proofs.listed_of.Goals as goal
 pub returns-then-not-is_mine : goal.returns-then-not-is_mine
 returns-then-not-is_mine c =
     let s = c in
-    listed_other s.args.largest s.args.terms _ _ _ _ (points_many _ _ _ s.requires.0) _ _ _ c.is_mine.ensures (ap not c.if-not-is_mine.true)
+    listed_other s.args.largest s.args.terms _ _ _ _ (points_many _ _ _ s.args.p.opens) _ _ _ c.is_mine.ensures (ap not c.if-not-is_mine.true)
 
 pub returns-then-found-wide : goal.returns-then-found-wide
 returns-then-found-wide c =
     let s = c in
-    listed_few s.args.largest s.args.terms _ _ _ _ (points_many _ _ _ s.requires.0) _ _ _ c.pairs_of-found.ensures (omega (arith, c.if-found-wide.true, c.wide.ensures))
+    listed_few s.args.largest s.args.terms _ _ _ _ (points_many _ _ _ s.args.p.opens) _ _ _ c.pairs_of-found.ensures (omega (arith, c.if-found-wide.true, c.wide.ensures))
 
 pub returns : goal.returns
 returns c =
     let s = c in
-    listed_all s.args.largest s.args.terms _ _ _ _ (points_many _ _ _ s.requires.0) _ _ _ c.pairs_of-found.ensures _ c.is_mine.ensures (ap not c.if-not-is_mine.false) (omega (arith, c.if-found-wide.false, c.wide.ensures))
+    listed_all s.args.largest s.args.terms _ _ _ _ (points_many _ _ _ s.args.p.opens) _ _ _ c.pairs_of-found.ensures _ c.is_mine.ensures (ap not c.if-not-is_mine.false) (omega (arith, c.if-found-wide.false, c.wide.ensures))

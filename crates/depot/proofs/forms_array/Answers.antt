@@ -1,6 +1,6 @@
 -- `depot::forms_array` meets its contract.
 -- Assumes nothing.
-use mathlib.Core.Path.{◌≡◌, sym}
+use mathlib.Core.Path.{◌≡◌, refl, sym}
 use lib.ListN.{length}
 use native.Mathlib.Omega.{arith}
 use Rattle.list.proofs.PageLaws.{long_of}
@@ -30,4 +30,4 @@ slice_bounds-forms-end-2 c =
     sym (forms_front_long _ _ c.lent_of-m.ensures _ long)
 
 pub returns : goal.returns
-returns c = made_array_is _ _ _ _ _ _ _ _ _ _ c.lent_of-n.ensures c.lent_of-m.ensures c.forms-made.ensures.0 c.forms-made.ensures.1 c.with_forms.ensures
+returns c = made_array_is _ _ _ _ _ _ _ _ _ _ c.lent_of-n.ensures c.lent_of-m.ensures c.forms-made.ensures.0 c.forms-made.ensures.1 refl

@@ -1,30 +1,23 @@
 use mathlib.Core.Bool.{not}
-use mathlib.Core.Path.{ap, sym, ◌∙◌}
+use mathlib.Core.Path.{◌∙◌, ap, sym}
 use borrow.Author.Tests.{not-true, not-false}
-use Rattle.depot.proofs.DepotLaws.{judged_11, judged_15, judged_known, judged_16, judged_issued}
+use Rattle.depot.proofs.DepotLaws.{key_any, said_11, said_15, said_known, said_16, said_issued}
 use Rattle.depot.proofs.judge.Goals as goal
 
-pub returns-then-len-d : goal.returns-then-len-d
-returns-then-len-d c = c.decided.ensures ∙ judged_11 _ _ _ _ c.if-len-d.true
+pub returns-then-slots-d : goal.returns-then-slots-d
+returns-then-slots-d c = said_11 _ _ _ c.if-slots-d.true
 
 pub returns-then-not-is_form : goal.returns-then-not-is_form
-returns-then-not-is_form c =
-    let f = c in
-    c.decided-then-not-is_form.ensures ∙ judged_15 _ _ _ _ f.if-len-d.false (sym f.is_form.ensures ∙ not-true _ (ap not c.if-not-is_form.true))
+returns-then-not-is_form c = said_15 _ _ _ c.if-slots-d.false (sym c.is_form.ensures ∙ not-true _ (ap not c.if-not-is_form.true))
 
-pub returns-then-known : goal.returns-then-known
-returns-then-known c =
-    let f = c in
-    c.decided-then-known.ensures ∙ judged_known _ _ _ _ f.if-len-d.false (sym f.is_form.ensures ∙ not-false _ (ap not c.if-not-is_form.false)) c.if-known.true
+pub returns-then-is_held : goal.returns-then-is_held
+returns-then-is_held c =
+    said_known _ _ _ c.if-slots-d.false (sym c.is_form.ensures ∙ not-false _ (ap not c.if-not-is_form.false)) (sym (key_any _ _) ∙ sym c.is_held.ensures ∙ c.if-is_held.true)
 
-pub returns-then-len-d-2 : goal.returns-then-len-d-2
-returns-then-len-d-2 c =
-    let e = c in
-    let f = e in
-    c.decided-then-len-d-2.ensures ∙ judged_16 _ _ _ _ f.if-len-d.false (sym f.is_form.ensures ∙ not-false _ (ap not e.if-not-is_form.false)) e.if-known.false c.if-len-d-2.true
+pub returns-then-slots-d-2 : goal.returns-then-slots-d-2
+returns-then-slots-d-2 c =
+    said_16 _ _ _ c.if-slots-d.false (sym c.is_form.ensures ∙ not-false _ (ap not c.if-not-is_form.false)) (sym (key_any _ _) ∙ sym c.is_held.ensures ∙ c.if-is_held.false) c.if-slots-d-2.true
 
 pub returns : goal.returns
 returns c =
-    let e = c in
-    let f = e in
-    c.decided-2.ensures ∙ judged_issued _ _ _ _ f.if-len-d.false (sym f.is_form.ensures ∙ not-false _ (ap not e.if-not-is_form.false)) e.if-known.false c.if-len-d-2.false
+    said_issued _ _ _ c.if-slots-d.false (sym c.is_form.ensures ∙ not-false _ (ap not c.if-not-is_form.false)) (sym (key_any _ _) ∙ sym c.is_held.ensures ∙ c.if-is_held.false) c.if-slots-d-2.false

@@ -1,6 +1,6 @@
 -- `depot::take_array` meets its contract.
 -- Assumes nothing.
-use mathlib.Core.Path.{◌≡◌, sym}
+use mathlib.Core.Path.{◌≡◌, refl, sym}
 use lib.ListN.{length}
 use native.Mathlib.Omega.{arith}
 use Rattle.list.proofs.PageLaws.{long_of}
@@ -19,4 +19,4 @@ slice_bounds-take-end c =
     sym (forms_front_long _ _ c.lent_of-n.ensures _ long)
 
 pub returns : goal.returns
-returns c = stored_array_is _ _ _ _ _ _ _ _ c.lent_of-n.ensures c.take-stored.ensures.0 c.take-stored.ensures.1 c.with_slots.ensures
+returns c = stored_array_is _ _ _ _ _ _ _ _ c.lent_of-n.ensures c.take-stored.ensures.0 c.take-stored.ensures.1 refl

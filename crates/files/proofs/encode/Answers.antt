@@ -13,7 +13,7 @@ use Rattle.files.proofs.encode.Goals as goal
 
 pub loop-i-init : goal.loop-i-init
 unfolding tab
-loop-i-init c = (refl, omega arith, refl)
+loop-i-init c = (refl, refl)
 
 pub loop-i-preserved : goal.loop-i-preserved
 unfolding byte_at
@@ -27,8 +27,7 @@ loop-i-preserved c =
     c.byte_le.ensures ∙ ap (λ (z : ℤ). byte_of z (i % 4)) (to_z-of_z {w = w32} record { sfits = c.at.type_inv } ∙ c.at.ensures)
     in (
       simp length-set l.loop-i.invariant.0,
-      omega arith,
-      ap (λ (t : List ℕ). set t i c.byte_le.result) l.loop-i.invariant.2
+      ap (λ (t : List ℕ). set t i c.byte_le.result) l.loop-i.invariant.1
           ∙ ap (set (tab i (byte_at ws) ++ drop i old) i) is
           ∙ tab_more (byte_at ws) old 0 i inside,
     )
@@ -37,5 +36,5 @@ pub returns : goal.returns
 unfolding bytes_of
 returns c =
     let l = c in
-    l.loop-i.invariant.2
+    l.loop-i.invariant.1
     ∙ tab_done (byte_at l.args.s.now) l.args.out.now l.loop-i.i _ (omega arith) l.requires

@@ -22,16 +22,16 @@ loop-j-preserved c =
     let l = c in
     let s = l in
     let a = s.args.ask.terms in
-    let w = walks_for (walks_by a (length s.args.bits.now) s.args.p.now s.args.q.now) s.args.hp.n a.threshold in
+    let w = walks_for (walks_by a (length s.args.bits.now) s.args.p.words.now s.args.q.words.now) s.args.p.n a.threshold in
     let m = mine a.contractor s.args.owners.now in
     let long = l.loop-j.invariant.0 in
     let told = c.is_mine.ensures in (
       elim c.if-is_mine.branch [ then-is_mine x ↦ ap length x.bits-is ∙ x.with_chamber-r.auto.bits ∙ long | else-is_mine x ↦ ap length x.bits-is ∙ long ],
       rounds_on _ _ _ _ _ _ _ l.loop-j.j
-          (only_cap m w _ _ _ _ _ _ (for_cap _ _ _ _ (by_capped s.requires.0 s.requires.1 _ s.requires.4 (length s.args.bits.now) s.requires.3.enough) _ _ _ _ _))
+          (only_cap m w _ _ _ _ _ _ (for_cap _ _ _ _ (by_capped s.args.p.opens s.args.q.opens _ s.requires.2 (length s.args.bits.now) s.requires.1.enough) _ _ _ _ _))
           c.loop-j-test.true c.if-r.false l.loop-j.invariant.1 _
           (elim c.if-is_mine.branch [
-            | then-is_mine x ↦ x.r-is ∙ chamber_same a s.args.p.now s.args.q.now _ _ _ _ _ _ _ _ _ long x.with_chamber-r.ensures ∙ sym (only_own m w _ _ _ _ _ (sym told ∙ x.if-is_mine.true))
+            | then-is_mine x ↦ x.r-is ∙ chamber_same a s.args.p.words.now s.args.q.words.now _ _ _ _ _ _ _ _ _ long x.with_chamber-r.ensures ∙ sym (only_own m w _ _ _ _ _ (sym told ∙ x.if-is_mine.true))
             | else-is_mine x ↦ x.r-is ∙ sym (only_other m w _ _ _ _ _ (sym told ∙ x.if-is_mine.false))
           ]),
       elim c.if-is_mine.branch [ then-is_mine x ↦ ap length x.latest-is ∙ x.with_chamber-r.auto.latest ∙ l.loop-j.invariant.2 | else-is_mine x ↦ ap length x.latest-is ∙ l.loop-j.invariant.2 ],

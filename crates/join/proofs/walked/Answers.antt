@@ -7,7 +7,7 @@ use Rattle.join.proofs.walked.Goals as goal
 pub ring_on-requires : goal.ring_on-requires
 ring_on-requires c =
     let s = c in
-    (s.requires.0, join_spot_fits s.requires.1 _ _ s.requires.2 c.spot_at-a.ensures, join_spot_fits s.requires.0 _ _ s.requires.3 c.spot_at-b.ensures, omega arith)
+    (join_spot_fits s.args.q.opens _ _ s.requires.0 c.spot_at-a.ensures, join_spot_fits s.args.p.opens _ _ s.requires.1 c.spot_at-b.ensures, omega arith)
 
 pub returns-then-terms : goal.returns-then-terms
 returns-then-terms c words =

@@ -6,7 +6,7 @@ use Rattle.join.proofs.TurnLaws.{Tries}
 use Rattle.join.proofs.with_partners.Given as goal
 
 abbrev pub invariant-loop-i : goal.invariant-loop-i
-invariant-loop-i l = Tries (walks_by l.ask.terms (length l.bits) l.p l.q) l.ask.key l.ask.size l.from (l.hp.m + l.hq.m) l.j l.hp.n l.initial.r l.r l.i
+invariant-loop-i l = Tries (walks_by l.ask.terms (length l.bits) l.p.words.now l.q.words.now) l.ask.key l.ask.size l.from (l.p.m + l.q.m) l.j l.p.n l.initial.r l.r l.i
 
 abbrev pub decreases-loop-i : goal.decreases-loop-i
-decreases-loop-i l = l.hp.n - l.i
+decreases-loop-i l = l.p.n - l.i

@@ -1,12 +1,16 @@
 -- `list::lent_of` meets its contract. Assumes nothing.
-use borrow.Author.Tests.{lt-ltb, le-ltb}
+use Rattle.std.proofs.Common.{◌≡◌, refl, ◌∙◌, ℕ, Bool, true, false, cond, min, ltb, arith}
+use Rattle.std.proofs.lemmas.Bool.{ltb-true, ltb-false}
 use Rattle.list.specs.Lent.{lent_of}
 use Rattle.list.proofs.lent_of.Goals as goal
 
-pub returns-then-slots-len : goal.returns-then-slots-len
-unfolding lent_of
-returns-then-slots-len c = rw (lt-ltb _ _ c.if-slots-len.true)
+least : (slots len : ℕ) → min len slots ≡ cond (ltb slots len) slots len
+least slots len = go (ltb slots len) refl
+  where
+    go : (t : Bool) → ltb slots len ≡ t → min len slots ≡ cond t slots len
+    go true e = omega (arith, ltb-true slots len e)
+    go false e = omega (arith, ltb-false slots len e)
 
 pub returns : goal.returns
 unfolding lent_of
-returns c = rw (le-ltb _ _ c.if-slots-len.false)
+returns c = c.min.ensures ∙ least c.args.slots c.args.len

@@ -8,6 +8,6 @@ pub returns-then-t-le60000 : goal.returns-then-t-le60000
 unfolding threshold_no given
 returns-then-t-le60000 c = rw (le-leb _ _ c.if-t-le60000.true)
 
-pub returns : goal.returns
+pub returns-else-t-le60000 : goal.returns-else-t-le60000
 unfolding threshold_no given
-returns c = rw (lt-leb _ _ c.if-t-le60000.false)
+returns-else-t-le60000 c = rw (lt-leb _ _ c.if-t-le60000.false)

@@ -5,10 +5,10 @@ use mathlib.Core.Bool.{not, true, false}
 use Prim.Native.Nat.{ℕ}
 use lib.IntN.{ℤ, ◌+ℤ◌}
 use mir.Facts.{to_z-of_z}
+use Rattle.std.specs.Prelude.{Ok, Err}
 use Rattle.words.specs.First.{given}
 use Rattle.marker.specs.Half.{HalfOf}
-use Rattle.marker.specs.Mark.{coordinate, on_map, mark_no, MiddleAt}
-use Rattle.marker.specs.declared.Marked.TheVariants.{Refused, At}
+use Rattle.marker.specs.Mark.{on_map, mark_no, MiddleAt}
 use Rattle.marker.proofs.Coordinates.{each, read_back}
 use Rattle.marker.proofs.mark.Goals as goal
 
@@ -27,48 +27,33 @@ returns-then-not-on_map c =
     c.on_map.ensures ∙ (λ i. on_map (to_z-of_z f.ax i) (to_z-of_z f.ay i) (to_z-of_z f.bx i) (to_z-of_z f.by i)) in
     let a = c.args in
     let e = no-5 a.ax a.ay a.bx a.by (sym on ∙ not-true _ (ap not c.if-not-on_map.true)) in
-    record { number = e; marker = subst (λ (n : ℕ). MiddleAt n a.ax a.ay a.bx a.by (Refused 5)) e tt }
+    record { number = e; marker = subst (λ (n : ℕ). MiddleAt n a.ax a.ay a.bx a.by (Err 5)) e tt }
 
 pub sum-requires : goal.sum-requires
 sum-requires c =
-    let on : let a = c.args in c.on_map.result ≡ on_map a.ax a.ay a.bx a.by = let f = c.ranges in
-    c.on_map.ensures ∙ (λ i. on_map (to_z-of_z f.ax i) (to_z-of_z f.ay i) (to_z-of_z f.bx i) (to_z-of_z f.by i)) in
-    let in-range : Type 0 = let a = c.args in
-    (coordinate a.ax ≡ true) × (coordinate a.ay ≡ true) × (coordinate a.bx ≡ true) × (coordinate a.by ≡ true) in
-    let all : in-range = let a = c.args in each a.ax a.ay a.bx a.by (sym on ∙ not-false _ (ap not c.if-not-on_map.false)) in
-    let f = c.ranges in
-    record { a_value = ap coordinate (to_z-of_z f.ax) ∙ all.0; b_value = ap coordinate (to_z-of_z f.bx) ∙ all.2 }
+    let all = each _ _ _ _ (sym c.on_map.ensures ∙ not-false _ (ap not c.if-not-on_map.false)) in
+    record { a_value = all.0; b_value = all.2 }
 
 pub sum-requires-2 : goal.sum-requires-2
 sum-requires-2 c =
-    let on : let a = c.args in c.on_map.result ≡ on_map a.ax a.ay a.bx a.by = let f = c.ranges in
-    c.on_map.ensures ∙ (λ i. on_map (to_z-of_z f.ax i) (to_z-of_z f.ay i) (to_z-of_z f.bx i) (to_z-of_z f.by i)) in
-    let in-range : Type 0 = let a = c.args in
-    (coordinate a.ax ≡ true) × (coordinate a.ay ≡ true) × (coordinate a.bx ≡ true) × (coordinate a.by ≡ true) in
-    let all : in-range = let a = c.args in each a.ax a.ay a.bx a.by (sym on ∙ not-false _ (ap not c.if-not-on_map.false)) in
-    let e = c in
-    let f = e.ranges in
-    record { a_value = ap coordinate (to_z-of_z f.ay) ∙ all.1; b_value = ap coordinate (to_z-of_z f.by) ∙ all.3 }
+    let all = each _ _ _ _ (sym c.on_map.ensures ∙ not-false _ (ap not c.if-not-on_map.false)) in
+    record { a_value = all.1; b_value = all.3 }
 
 pub returns : goal.returns
 returns c =
-    let on : let a = c.args in c.on_map.result ≡ on_map a.ax a.ay a.bx a.by = let f = c.ranges in
+    let f = c.ranges in
+    let a = c.args in
+    let on : c.on_map.result ≡ on_map a.ax a.ay a.bx a.by =
     c.on_map.ensures ∙ (λ i. on_map (to_z-of_z f.ax i) (to_z-of_z f.ay i) (to_z-of_z f.bx i) (to_z-of_z f.by i)) in
-    let t = c in
-    let h = t in
-    let s = h in
-    let e = s in
-    let f = e.ranges in
-    let a = e.args in
-    let x = read_back s.sum.ensures.0 s.sum.ensures.1 ∙ (λ i. to_z-of_z f.ax i +ℤ to_z-of_z f.bx i) in
-    let y = read_back t.sum-2.ensures.0 t.sum-2.ensures.1 ∙ (λ i. to_z-of_z f.ay i +ℤ to_z-of_z f.by i) in
-    let n = no-0 a.ax a.ay a.bx a.by (sym on ∙ not-false _ (ap not e.if-not-on_map.false)) in
+    let x = read_back c.sum.ensures.0 c.sum.ensures.1 ∙ (λ i. to_z-of_z f.ax i +ℤ to_z-of_z f.bx i) in
+    let y = read_back c.sum-2.ensures.0 c.sum-2.ensures.1 ∙ (λ i. to_z-of_z f.ay i +ℤ to_z-of_z f.by i) in
+    let n = no-0 a.ax a.ay a.bx a.by (sym on ∙ not-false _ (ap not c.if-not-on_map.false)) in
     record {
       number = n;
       marker =
-          subst (λ (k : ℕ). MiddleAt k a.ax a.ay a.bx a.by (At record { x = h.half-x.result; y = c.half-y.result })) n
+          subst (λ (k : ℕ). MiddleAt k a.ax a.ay a.bx a.by (Ok record { x = c.half-x.result; y = c.half-y.result })) n
           record {
-            x = subst (λ (z : ℤ). HalfOf z h.half-x.result) x h.half-x.ensures;
+            x = subst (λ (z : ℤ). HalfOf z c.half-x.result) x c.half-x.ensures;
             y = subst (λ (z : ℤ). HalfOf z c.half-y.result) y c.half-y.ensures;
           };
     }

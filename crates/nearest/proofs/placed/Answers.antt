@@ -1,35 +1,30 @@
 -- `nearest::placed` meets its contract, number by number. Assumes nothing.
-use Rattle.ring.proofs.HeadLaws.{headed}
-use Rattle.nearest.proofs.ChamberLaws.{placed_p, placed_q, placed_unknown, placed_here}
+use mathlib.Core.Path.{refl}
+use native.Mathlib.Omega.{arith}
+use Rattle.ring.proofs.HeadLaws.{handed_on, heads_shut_p, heads_shut_q, heads_opened_both}
+use Rattle.nearest.proofs.ChamberLaws.{placed_shut, placed_unknown, placed_here}
 use Rattle.nearest.proofs.placed.Goals as goal
 
-pub returns-then-a-ne0 : goal.returns-then-a-ne0
-returns-then-a-ne0 c = placed_p _ _ _ _ c.head_of-a.ensures c.if-a-ne0.true _ c.unplaced.ensures
+pub returns-in_err-ps : goal.returns-in_err-ps
+returns-in_err-ps c =
+    let k = c.in_err-ps.ensures in
+    handed_on c.from_residual.result _ _ _ c.from_residual.ensures.1 (k.1, placed_shut _ _ _ _ (heads_shut_p _ _ _ k.0 k.1) k.1)
 
-pub returns-then-b-ne0 : goal.returns-then-b-ne0
-returns-then-b-ne0 c =
-    let q = c in
-    let p = q in
-    placed_q _ _ _ _ p.head_of-a.ensures p.if-a-ne0.false _ q.head_of-b.ensures c.if-b-ne0.true _ c.unplaced-then-b-ne0.ensures
+pub returns-in_err-qs : goal.returns-in_err-qs
+returns-in_err-qs c =
+    let k = c.in_err-qs.ensures in
+    handed_on c.from_residual-in_err-qs.result _ _ _ c.from_residual-in_err-qs.ensures.1 (k.1, placed_shut _ _ _ _ (heads_shut_q _ _ c.in_ok-ps.ensures.0 _ k.0 k.1) k.1)
 
-pub position_of-j-requires : goal.position_of-j-requires
-position_of-j-requires c = (headed _ _ c.head_of-b.ensures c.if-b-ne0.false).facts
-
-pub returns-then-b-j : goal.returns-then-b-j
-returns-then-b-j c =
-    let k = c in
-    let q = k in
-    let p = q in
-    placed_unknown _ _ _ _ p.head_of-a.ensures p.if-a-ne0.false _ q.head_of-b.ensures q.if-b-ne0.false _ k.position_of-j.ensures c.if-b-j.true _ c.unplaced-then-b-j.ensures
-
-pub spot_at-requires : goal.spot_at-requires
-spot_at-requires c =
-    let q = c in
-    ((headed _ _ q.head_of-b.ensures q.if-b-ne0.false).facts, c.if-b-j.false)
+pub returns-then-qs-j : goal.returns-then-qs-j
+returns-then-qs-j c =
+    let a = c.in_ok-ps.ensures in
+    let b = c.in_ok-qs.ensures in
+    let e = heads_opened_both _ _ _ _ _ _ _ _ a.0 a.1 c.in_ok-ps.ps.opens b.0 b.1 c.in_ok-qs.qs.opens in
+    (λ z. absurd (omega arith), placed_unknown _ _ _ _ e refl _ (rw b.1 at c.position_of-j.ensures) c.if-qs-j.true)
 
 pub returns : goal.returns
 returns c =
-    let k = c in
-    let q = k in
-    let p = q in
-    placed_here _ _ _ _ p.head_of-a.ensures p.if-a-ne0.false _ q.head_of-b.ensures q.if-b-ne0.false _ k.position_of-j.ensures c.if-b-j.false _ c.spot_at.ensures
+    let a = c.in_ok-ps.ensures in
+    let b = c.in_ok-qs.ensures in
+    let e = heads_opened_both _ _ _ _ _ _ _ _ a.0 a.1 c.in_ok-ps.ps.opens b.0 b.1 c.in_ok-qs.qs.opens in
+    (a.1, placed_here _ _ _ _ e refl _ (rw b.1 at c.position_of-j.ensures) c.if-qs-j.false _ (rw b.1 at c.spot_at.ensures))

@@ -9,4 +9,4 @@ returns-then-r-ne0 c = (refl, wiped_refused _ _ _ _ refl c.if-r-ne0.true)
 
 pub returns : goal.returns
 returns c =
-    (refl, run_wiped c.args.p.now c.args.bits.now _ _ c.num_at-np.ensures.value c.words_for-w.ensures (c.requires c.if-r-ne0.false).1 _ c.clear.ensures _ c.if-r-ne0.false)
+    (refl, run_wiped c.args.p.now c.args.bits.now _ _ c.known-ps.ensures.1 c.words_for-w.ensures (c.requires c.if-r-ne0.false).1 _ c.clear.ensures _ c.if-r-ne0.false)

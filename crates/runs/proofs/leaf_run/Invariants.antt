@@ -1,7 +1,7 @@
 -- `runs::leaf_run` meets its contract: after k turns the first k pairs of the leaf stand in the first slots, and with an answer those from k on are still to be read from the lent words.
 -- Assumes nothing.
 use mathlib.Core.Path.{◌≡◌}
-use Prim.Native.Nat.{◌-◌, ◌≤◌}
+use Prim.Native.Nat.{◌≤◌}
 use lib.ListN.{drop}
 use Rattle.leaf.specs.LeafRun.{leaf_list}
 use Rattle.runs.specs.Ready.{run_left}
@@ -13,6 +13,3 @@ invariant-loop-k l =
     (l.k ≤ l.r.count)
     × (l.slots ≡ written l.fn.slots (leaf_list l.p l.q l.leaf) l.k)
     × (l.r.number ≡ 0 → run_left l.p l.q l.leaf l.bits l.at ≡ drop l.k (leaf_list l.p l.q l.leaf))
-
-abbrev pub decreases-loop-k : goal.decreases-loop-k
-decreases-loop-k l = l.r.count - l.k

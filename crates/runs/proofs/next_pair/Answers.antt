@@ -1,14 +1,15 @@
--- `runs::next_pair` meets its contract: the counts are read from the words of sheets that open, and the run from the first of the lent words. Assumes nothing.
+-- `runs::next_pair` meets its contract: the run is read from the first of the lent words. Assumes nothing.
 use Rattle.runs.proofs.DecideLaws.{next_asked, next_left}
 use Rattle.runs.proofs.next_pair.Goals as goal
 
 pub pair_from-requires : goal.pair_from-requires
 pair_from-requires c =
-    let w = c.words_for-each in
-    next_asked _ _ _ c.args.bits.now c.args.at _ _ c.num_at-np.ensures.value w.ensures c.requires.0
-    _ _ _ c.num_at-mp.ensures.value c.num_at-nq.ensures.value c.num_at-mq.ensures.value c.requires.1
+    let p = c.known-ps.ensures in
+    let q = c.known-qs.ensures in
+    let t = next_asked _ _ _ c.args.bits.now c.args.at _ _ p.1 c.words_for-each.ensures c.requires.0 _ _ _ p.2 q.1 q.2 c.requires.1 in
+    rw (p.0, q.0) (t.2, t.3, t.4, t.5, t.6)
 
 pub returns : goal.returns
 returns c =
-    let w = c.words_for-each in
-    next_left _ _ _ c.args.bits.now c.args.at _ _ c.num_at-np.ensures.value w.ensures _ _ c.pair_from.ensures
+    let p = c.known-ps.ensures in
+    next_left _ _ _ c.args.bits.now c.args.at _ _ p.1 c.words_for-each.ensures _ _ (rw (p.0, c.known-qs.ensures.0) at c.pair_from.ensures)

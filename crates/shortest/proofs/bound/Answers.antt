@@ -1,9 +1,12 @@
 -- `shortest::bound` meets its contract. Assumes nothing.
-use Rattle.shortest.proofs.SearchLaws.{bound_few, bound_full}
+use mathlib.Core.Path.{◌≡◌}
+use native.Mathlib.Omega.{arith}
+use Rattle.std.proofs.Common.{MatchOption, rules}
+use Rattle.list.specs.declared.Pair.{Pair}
+use Rattle.shortest.proofs.SearchLaws.{bound_by}
 use Rattle.shortest.proofs.bound.Goals as goal
 
-pub returns-then-g-k : goal.returns-then-g-k
-returns-then-g-k c = bound_few _ _ c.if-g-k.true
-
 pub returns : goal.returns
-returns c = bound_full _ _ c.if-g-k.false
+returns c =
+    let m : MatchOption c.last.result (c.map_or.result ≡ 8_000_000_000_000_000_000) (λ (w : Pair). c.map_or.result ≡ w.size) = search rules in
+    bound_by c.args.k c.args.g (omega arith) _ c.last.ensures _ m

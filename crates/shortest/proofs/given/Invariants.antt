@@ -1,7 +1,6 @@
 -- `shortest::given` meets its contract. The loop's invariant: `Going`, what is left of the list; and the words lent are as many as they were.
 -- Assumes nothing.
 use mathlib.Core.Path.{◌≡◌}
-use Prim.Native.Nat.{◌-◌}
 use lib.ListN.{length}
 use Rattle.sheet.specs.Places.{points_of}
 use Rattle.list.specs.RingList.{ring_pair, pair_at}
@@ -9,7 +8,4 @@ use Rattle.shortest.proofs.SearchLaws.{Going}
 use Rattle.shortest.proofs.given.Given as goal
 
 abbrev pub invariant-loop-j : goal.invariant-loop-j
-invariant-loop-j l = (length l.bits ≡ length l.initial.bits) × Going (ring_pair (points_of l.p) (points_of l.q)) (pair_at (points_of l.p) (points_of l.q)) l.k l.hp.n l.hq.n l.g l.j
-
-abbrev pub decreases-loop-j : goal.decreases-loop-j
-decreases-loop-j l = l.hq.n - l.j
+invariant-loop-j l = (length l.bits ≡ length l.initial.bits) × Going (ring_pair (points_of l.p.words.now) (points_of l.q.words.now)) (pair_at (points_of l.p.words.now) (points_of l.q.words.now)) l.k l.p.n l.q.n l.g l.j

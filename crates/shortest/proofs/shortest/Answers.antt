@@ -26,7 +26,14 @@ returns-then-bits-w c =
 
 pub given-requires : goal.given-requires
 given-requires c =
-    search_asked _ _ _ _ _ c.head_of-a.ensures c.if-a-ne0.false _ c.head_of-b.ensures c.if-b-ne0.false _ c.size_no-no.ensures c.if-no-ne0.false _ c.words_for-w.ensures c.if-bits-w.false
+    let t = search_asked _ _ _ _ _ c.head_of-a.ensures c.if-a-ne0.false _ c.head_of-b.ensures c.if-b-ne0.false _ c.size_no-no.ensures c.if-no-ne0.false _ c.words_for-w.ensures c.if-bits-w.false in
+    (t.2, t.3, t.4)
+
+pub invariant_of-ps : goal.invariant_of-ps
+invariant_of-ps c = record { opens = (headed _ _ c.head_of-a.ensures c.if-a-ne0.false).facts }
+
+pub invariant_of-qs : goal.invariant_of-qs
+invariant_of-qs c = record { opens = (headed _ _ c.head_of-b.ensures c.if-b-ne0.false).facts }
 
 pub returns : goal.returns
 returns c =

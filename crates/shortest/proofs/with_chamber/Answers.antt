@@ -15,7 +15,7 @@ use Rattle.shortest.proofs.with_chamber.Goals as goal
 
 pub loop-i-init : goal.loop-i-init
 loop-i-init c =
-    (gather_start _ _ _ _ _ _ c.pairs_of.ensures.held _ c.requires.6 _ c.next_from-i.ensures, λ h. from_kept _ _ _ c.next_from-i.ensures (omega (arith, h, c.requires.2.enough, c.pairs_of.auto.bits)))
+    (gather_start _ _ _ _ _ _ c.pairs_of.ensures.held _ c.requires.4 _ c.next_from-i.ensures, λ h. from_kept _ _ _ c.next_from-i.ensures (omega (arith, h, c.requires.0.enough, c.pairs_of.auto.bits)))
 
 pub loop-i-smaller : goal.loop-i-smaller
 loop-i-smaller c = omega (arith, from_le _ _ _ c.next_from-i-in-loop-i.ensures, c.loop-i-test.true)
@@ -25,12 +25,12 @@ loop-i-preserved c =
     let t = c.loop-i-test.true in
     let exact = c.pairs_of.ensures.held in (
       gather_next _ _ _ _ _ _ exact _ _ _ _ c.next_from-i-in-loop-i.ensures
-          (gather_turn _ _ _ _ _ _ exact _ _ _ c.loop-i.invariant.0 t (c.loop-i.invariant.1 t) _ c.pair_at-v.ensures _ c.with_one-r.ensures),
-      λ h. from_kept _ _ _ c.next_from-i-in-loop-i.ensures (omega (arith, h, c.requires.2.enough, c.pairs_of.auto.bits)),
+          (gather_turn _ _ _ _ _ _ exact _ _ _ c.loop-i.invariant.0 t (c.loop-i.invariant.1 t) _ c.pair_at-v.ensures _ c.offered-r.ensures),
+      λ h. from_kept _ _ _ c.next_from-i-in-loop-i.ensures (omega (arith, h, c.requires.0.enough, c.pairs_of.auto.bits)),
     )
 
 pub returns : goal.returns
 returns c =
-    bounded_row c.args.p.now c.args.q.now _ _ _ _ c.requires.0 c.requires.1 c.args.k c.requires.4 c.requires.5 c.args.g c.requires.6 c.args.j c.requires.3 _
+    bounded_row c.args.p.words.now c.args.q.words.now _ _ _ _ c.args.p.opens c.args.q.opens c.args.k c.requires.2 c.requires.3 c.args.g c.requires.4 c.args.j c.requires.1 _
     (gather_end _ _ _ _ _ _ _ _ c.loop-i.invariant.0 c.loop-i-test.false
-    ∙ ap (λ (big : ℕ). search_of (gathered shorter c.args.k (row (small_for big full (points_of c.args.p.now) (points_of c.args.q.now)) (pair_at (points_of c.args.p.now) (points_of c.args.q.now)) c.args.j c.args.hp.n 0) (held c.args.g))) c.bound-largest.ensures)
+    ∙ ap (λ (big : ℕ). search_of (gathered shorter c.args.k (row (small_for big full (points_of c.args.p.words.now) (points_of c.args.q.words.now)) (pair_at (points_of c.args.p.words.now) (points_of c.args.q.words.now)) c.args.j c.args.p.n 0) (held c.args.g))) c.bound-largest.ensures)

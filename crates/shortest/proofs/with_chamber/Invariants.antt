@@ -11,7 +11,7 @@ use Rattle.shortest.proofs.SearchLaws.{Gathering}
 use Rattle.shortest.proofs.with_chamber.Given as goal
 
 abbrev pub invariant-loop-i : goal.invariant-loop-i
-invariant-loop-i l = Gathering (small_for l.largest full (points_of l.p) (points_of l.q)) (pair_at (points_of l.p) (points_of l.q)) l.k l.j l.hp.n l.initial.r l.r l.i × (l.i < l.hp.n → kept l.bits l.i ≡ true)
+invariant-loop-i l = Gathering (small_for l.largest full (points_of l.p.words.now) (points_of l.q.words.now)) (pair_at (points_of l.p.words.now) (points_of l.q.words.now)) l.k l.j l.p.n l.initial.r l.r l.i × (l.i < l.p.n → kept l.bits l.i ≡ true)
 
 abbrev pub decreases-loop-i : goal.decreases-loop-i
-decreases-loop-i l = l.hp.n - l.i
+decreases-loop-i l = l.p.n - l.i

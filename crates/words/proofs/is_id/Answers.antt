@@ -1,8 +1,9 @@
-use mathlib.Core.Path.{refl}
+-- `words::is_id` meets its contract. Assumes nothing.
+use Rattle.std.proofs.Common.{◌∙◌}
 use Rattle.words.specs.Range.{id_ok}
+use Rattle.words.proofs.ContainsLaws.{in_numbers}
 use Rattle.words.proofs.is_id.Goals as goal
 
--- src/lib.rt:147:1
 pub returns : goal.returns
 unfolding id_ok
-returns c = refl
+returns c = let s = c.new.ensures in c.contains.ensures.value ∙ in_numbers c.new.result _ _ _ s.start s.end s.exhausted

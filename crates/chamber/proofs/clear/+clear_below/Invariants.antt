@@ -7,10 +7,7 @@ use Rattle.chamber.specs.Clear.{Clears}
 use Rattle.chamber.proofs.clear.+clear_below.Given as goal
 
 abbrev pub decreases-clear_below : goal.decreases-clear_below
-decreases-clear_below l = level_of l.w.now l.n l.j
+decreases-clear_below l = level_of l.w.words.now l.w.n l.j
 
 abbrev pub invariant-loop-i : goal.invariant-loop-i
-invariant-loop-i l = Clears (profile_of l.grid) l.w l.n l.a l.b (λ k. (v : ℕ) × (l.first ≤ v) × (v < l.first + l.i) × Below l.w l.n (l.level - 1) v k)
-
-abbrev pub decreases-loop-i : goal.decreases-loop-i
-decreases-loop-i l = l.count - l.i
+invariant-loop-i l = Clears (profile_of l.grid) l.w.words.now l.w.n l.a l.b (λ k. (v : ℕ) × (l.first ≤ v) × (v < l.first + l.i) × Below l.w.words.now l.w.n (l.level - 1) v k)

@@ -10,4 +10,4 @@ pub returns-then-blocks_at : goal.returns-then-blocks_at
 returns-then-blocks_at c =
     let l = c in
     let s = l in
-    tells_no _ _ _ _ _ _ (order_of s.args.w.now s.args.n (s.args.first + l.loop-i.i)) (position_fits _ _ _ s.requires.0 (s.args.first + l.loop-i.i) _ (omega (arith, c.loop-i-test.true, s.requires.3)) refl) (sym c.blocks_at.ensures ∙ c.if-blocks_at.true)
+    tells_no _ _ _ _ _ _ (order_of s.args.w.words.now s.args.w.n (s.args.first + l.loop-i.i)) (position_fits _ _ _ s.args.w.opens (s.args.first + l.loop-i.i) _ (omega (arith, c.loop-i-test.true, s.requires.2)) refl) (sym c.blocks_at.ensures ∙ c.if-blocks_at.true)

@@ -9,7 +9,7 @@ overflow_add-total c =
     let l = c in
     let p = c.requires in
     let r = count_room _ _ _ _ _ _ l.loop-j.invariant.0 c.loop-j-test.true _ _ c.listed_of-found.ensures in
-    omega (arith, count_fits _ l.loop-j.total _ _ c.wider-total.ensures r p.0.n_le p.1.n_le)
+    omega (arith, count_fits _ l.loop-j.total _ _ c.wider-total.ensures r c.args.p.opens.n_le c.args.q.opens.n_le)
 
 pub loop-j-preserved : goal.loop-j-preserved
 loop-j-preserved c =
@@ -19,4 +19,4 @@ loop-j-preserved c =
 pub returns : goal.returns
 returns c =
     let s = c in
-    chamber_count_end _ _ _ _ _ _ c.loop-j.invariant.0 c.loop-j-test.false ∙ ap length (list_of_sheets s.args.largest s.args.terms _ _ _ _ _ _ _ s.requires.0 s.requires.1)
+    chamber_count_end _ _ _ _ _ _ c.loop-j.invariant.0 c.loop-j-test.false ∙ ap length (list_of_sheets s.args.largest s.args.terms _ _ _ _ _ _ _ s.args.p.opens s.args.q.opens)

@@ -1,6 +1,5 @@
 -- `many::all::count_all` meets its contract. The loop's invariant is `Counting`: what was counted, and what is left, is the list. Assumes nothing.
 use mathlib.Core.Path.{◌≡◌}
-use Prim.Native.Nat.{◌-◌}
 use lib.ListN.{length}
 use Rattle.sheet.specs.Places.{points_of}
 use Rattle.list.specs.RingList.{pair_by}
@@ -11,8 +10,5 @@ use Rattle.many.proofs.all.count_all.Given as goal
 
 abbrev pub invariant-loop-j : goal.invariant-loop-j
 invariant-loop-j l =
-    Counting (listed_to l.largest l.terms l.owners (points_of l.p) (points_of l.q)) (pair_by (profile_for l.terms) (points_of l.p) (points_of l.q)) l.hp.n l.hq.n l.total l.j
+    Counting (listed_to l.largest l.terms l.owners (points_of l.p.words.now) (points_of l.q.words.now)) (pair_by (profile_for l.terms) (points_of l.p.words.now) (points_of l.q.words.now)) l.p.n l.q.n l.total l.j
     × (length l.bits ≡ length l.initial.bits)
-
-abbrev pub decreases-loop-j : goal.decreases-loop-j
-decreases-loop-j l = l.hq.n - l.j

@@ -5,14 +5,20 @@ use lib.ListN.{set, get_or}
 use Rattle.list.specs.declared.Pair.{Pair}
 use Rattle.list.specs.Pairs.{none}
 use Rattle.many.specs.Many.{own_list}
-use Rattle.many.proofs.PairsLaws.{put, own_course, is_next, course_next, course_end, own_told}
+use Rattle.many.proofs.PairsLaws.{put, own_course, is_next, course_next, course_refused, course_end, own_told}
 use Rattle.many.proofs.batch.own_pairs.Goals as goal
+
+pub returns-in-Err : goal.returns-in-Err
+returns-in-Err c =
+    let a = c.args in
+    let k = c.in-Err.ensures in
+    own_told a.s.now a.key a.largest a.grid a.slots.now _ a.bits.now _ _ (course_refused _ _ _ _ a.bits.now a.slots.now _ k.0 k.1 _ c.refused.ensures _ k.2)
 
 pub loop-st-init : goal.loop-st-init
 loop-st-init c =
-    let f = c.own_first-st.ensures in
+    let f = c.in-Ok.ensures in
     let a = c.args in
-    (sym (ap (put a.slots.now (own_list a.s.now a.key a.largest a.grid)) f.started.none_yet), own_course _ _ _ _ _ _ _ _ f, c.own_first-st.auto.bits)
+    (sym (ap (put a.slots.now (own_list a.s.now a.key a.largest a.grid)) f.started.none_yet), own_course _ _ _ _ _ _ _ _ f, c.own_first.auto.bits)
 
 pub loop-st-preserved : goal.loop-st-preserved
 loop-st-preserved c =
@@ -31,5 +37,5 @@ returns c =
     let a = c.args in
     let v = c.loop-st.invariant in
     let f = c.finish.ensures in
-    let t = own_told a.s.now a.key a.largest a.grid a.slots.now _ a.bits.now _ _ (course_end _ _ _ _ _ _ _ _ a.slots.now refl _ _ v.1 c.loop-st-test.false _ _ (record { number_is = f.0; count_is = f.1; more_is = f.2; words = f.3 })) in
+    let t = own_told a.s.now a.key a.largest a.grid a.slots.now _ a.bits.now _ _ (course_end _ _ _ _ _ _ _ _ a.slots.now refl _ _ v.1 c.loop-st-test.false _ f.0 _ f.1) in
     (t.0, v.0 ∙ t.1, t.2)

@@ -1,28 +1,38 @@
 -- `many::check::checked_both` meets its contract, number by number. Assumes nothing.
 use mathlib.Core.Path.{refl, sym, ◌∙◌}
-use native.Mathlib.Omega.{arith}
-use Rattle.ring.proofs.HeadLaws.{headed}
-use Rattle.many.proofs.CheckLaws.{pairs_p, pairs_q, pairs_rest, pairs_served}
+use Rattle.ring.proofs.HeadLaws.{handed_on, heads_shut_p, heads_shut_q, heads_opened_both}
+use Rattle.many.proofs.CheckLaws.{pairs_shut, pairs_rest, pairs_served}
 use Rattle.many.proofs.check.checked_both.Goals as goal
 
-pub returns-then-a-ne0 : goal.returns-then-a-ne0
-returns-then-a-ne0 c =
+pub returns-in_err-ps : goal.returns-in_err-ps
+returns-in_err-ps c =
     let s = c.args in
-    let e = c.shut.ensures in
-    (e ∙ pairs_p _ s.q.now s.owners.now s.wanted s.len _ c.head_of-a.ensures c.if-a-ne0.true, λ z. absurd (c.if-a-ne0.true (sym e ∙ z)))
+    let k = c.in_err-ps.ensures in
+    handed_on c.from_residual.result _ _ _ c.from_residual.ensures.1 (pairs_shut _ _ s.owners.now s.wanted s.len _ (heads_shut_p _ _ _ k.0 k.1) k.1, k.1)
 
-pub returns-then-b-ne0 : goal.returns-then-b-ne0
-returns-then-b-ne0 c =
+pub returns-in_err-qs : goal.returns-in_err-qs
+returns-in_err-qs c =
     let s = c.args in
-    let e = c.shut-then-b-ne0.ensures in
-    (e ∙ pairs_q _ _ s.owners.now s.wanted s.len _ c.head_of-a.ensures c.if-a-ne0.false _ c.head_of-b.ensures c.if-b-ne0.true, λ z. absurd (c.if-b-ne0.true (sym e ∙ z)))
+    let k = c.in_err-qs.ensures in
+    handed_on c.from_residual-in_err-qs.result _ _ _ c.from_residual-in_err-qs.ensures.1
+    (pairs_shut _ _ s.owners.now s.wanted s.len _ (heads_shut_q _ _ c.in_ok-ps.ensures.0 _ k.0 k.1) k.1, k.1)
 
-pub words_for-w-requires : goal.words_for-w-requires
-words_for-w-requires c = omega (arith, (headed _ _ c.head_of-a.ensures c.if-a-ne0.false).facts.n_le)
+pub returns-then-no-ne0 : goal.returns-then-no-ne0
+returns-then-no-ne0 c =
+    let s = c.args in
+    let a = c.in_ok-ps.ensures in
+    let b = c.in_ok-qs.ensures in
+    let e = heads_opened_both _ _ _ _ _ _ _ _ a.0 a.1 c.in_ok-ps.ps.opens b.0 b.1 c.in_ok-qs.qs.opens in
+    (pairs_rest _ _ s.owners.now s.wanted s.len _ e refl _ c.words_for-words.ensures _ c.rest_no-no.ensures, c.if-no-ne0.true)
 
 pub returns : goal.returns
 returns c =
     let s = c.args in
-    let p = c.head_of-a.ensures in
-    let q = c.head_of-b.ensures in
-    (pairs_rest _ _ s.owners.now s.wanted s.len _ p c.if-a-ne0.false _ q c.if-b-ne0.false _ c.words_for-w.ensures _ c.rest_no.ensures, λ z. pairs_served _ _ s.owners.now s.wanted s.len _ p c.if-a-ne0.false _ q c.if-b-ne0.false _ c.words_for-w.ensures _ c.rest_no.ensures z _ _ refl refl)
+    let a = c.in_ok-ps.ensures in
+    let b = c.in_ok-qs.ensures in
+    let e = heads_opened_both _ _ _ _ _ _ _ _ a.0 a.1 c.in_ok-ps.ps.opens b.0 b.1 c.in_ok-qs.qs.opens in
+    let z = c.if-no-ne0.false in (
+      sym (pairs_rest _ _ s.owners.now s.wanted s.len _ e refl _ c.words_for-words.ensures _ c.rest_no-no.ensures) ∙ z,
+      record { p_is = a.1; q_is = b.1 },
+      pairs_served _ _ s.owners.now s.wanted s.len _ e refl _ c.words_for-words.ensures _ c.rest_no-no.ensures z,
+    )

@@ -11,8 +11,8 @@ use Rattle.many.proofs.cursor.advance.Given as goal
 
 abbrev pub invariant-loop-i : goal.invariant-loop-i
 invariant-loop-i l =
-    Going (listed_to l.largest l.terms l.owners (points_of l.p) (points_of l.q)) (pair_by (profile_for l.terms) (points_of l.p) (points_of l.q)) l.key l.hp.n l.hq.n l.initial.at l.initial.i l.initial.next l.bits l.at l.i l.next
+    Going (listed_to l.largest l.terms l.owners (points_of l.p.words.now) (points_of l.q.words.now)) (pair_by (profile_for l.terms) (points_of l.p.words.now) (points_of l.q.words.now)) l.key l.p.n l.q.n l.initial.at l.initial.i l.initial.next l.bits l.at l.i l.next
     × (length l.bits ≡ length l.initial.bits)
 
 abbrev pub decreases-loop-i : goal.decreases-loop-i
-decreases-loop-i l = l.hq.n - l.next
+decreases-loop-i l = l.q.n - l.next

@@ -5,7 +5,7 @@ use Rattle.many.proofs.CursorLaws.{Looks, Kept-at}
 use Rattle.many.proofs.cursor.late_from.Given as goal
 
 abbrev pub invariant-loop-x : goal.invariant-loop-x
-invariant-loop-x l = Looks (points_of l.p) (points_of l.q) l.key l.bits l.j l.hp.n l.i l.x × Kept-at l.bits l.hp.n l.x
+invariant-loop-x l = Looks (points_of l.p.words.now) (points_of l.q.words.now) l.key l.bits l.j l.p.n l.i l.x × Kept-at l.bits l.p.n l.x
 
 abbrev pub decreases-loop-x : goal.decreases-loop-x
-decreases-loop-x l = l.hp.n - l.x
+decreases-loop-x l = l.p.n - l.x

@@ -9,7 +9,7 @@ use Rattle.many.proofs.tally.given.Goals as goal
 pub count_all-count-requires : goal.count_all-count-requires
 count_all-count-requires c =
     let p = c.requires in
-    (p.0, p.1, p.2, lent_holds _ _ (omega (arith, p.0.n_le)) p.3)
+    (p.0, lent_holds _ _ (omega (arith, c.args.p.opens.n_le)) p.1)
 
 pub returns : goal.returns
 returns c =

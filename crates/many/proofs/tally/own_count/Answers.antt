@@ -4,19 +4,18 @@ use Rattle.many.specs.Many.{own_count_answer, own_count_bits}
 use Rattle.many.proofs.CheckLaws.{own_number, done_refused, done_given}
 use Rattle.many.proofs.tally.own_count.Goals as goal
 
-pub returns-then-c-ne0 : goal.returns-then-c-ne0
+pub returns-in-Err : goal.returns-in-Err
 unfolding own_count_answer own_count_bits
-returns-then-c-ne0 c =
-    let k = c.checked_own-c in
+returns-in-Err c =
     let s = c.args in
-    done_refused _ _ _ _ _ _ _ (k.ensures.0 ∙ own_number _ s.largest s.grid _) c.if-c-ne0.true c.refused.ensures
+    let k = c.in-Err.ensures in
+    done_refused _ _ _ _ _ _ _ (k.0 ∙ own_number _ s.largest s.grid _) k.1 c.refused.ensures
 
 pub returns : goal.returns
 unfolding own_count_answer own_count_bits
 returns c =
-    let k = c.checked_own-c in
-    let z = c.if-c-ne0.false in
-    let v = k.ensures.1 z in
     let s = c.args in
-    let g = c.given.ensures in
-    done_given _ _ _ _ _ _ (sym (k.ensures.0 ∙ own_number _ s.largest s.grid _) ∙ z) _ v.lent v.all g.0 _ g.1
+    let o = c.in-Ok.ensures in
+    let v = o.2 in
+    let g = rw (o.1.p_is, o.1.q_is) at c.given.ensures in
+    done_given _ _ _ _ _ _ (sym (own_number _ s.largest s.grid _) ∙ o.0) _ v.lent v.all g.0 _ g.1

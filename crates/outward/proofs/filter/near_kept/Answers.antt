@@ -9,7 +9,7 @@ pub loop-count-init : goal.loop-count-init
 loop-count-init c =
     let r = c in
     let k = c in
-    sifting_start _ _ _ _ c.requires.0 _ _ _ _ _ k.clear.ensures k.clear.auto.bits r.put_root-count.ensures.0 r.put_root-count.ensures.1 r.put_root-count.ensures.2
+    sifting_start _ _ _ _ c.args.w.opens _ _ _ _ _ k.clear.ensures k.clear.auto.bits r.put_root-count.ensures.0 r.put_root-count.ensures.1 r.put_root-count.ensures.2
 
 pub take_out-e-requires : goal.take_out-e-requires
 take_out-e-requires c =
@@ -17,17 +17,17 @@ take_out-e-requires c =
     let l = c in
     let p = l.requires in
     let g = l.loop-count.invariant.going in
-    (p.0, p.1, g.heap, c.loop-count-test.true, going_fits _ _ _ _ _ _ _ p.0 _ _ _ _ _ g, omega (arith, p.3, g.past.long, root-long))
+    (p.0, g.heap, c.loop-count-test.true, going_fits _ _ _ _ _ _ _ l.args.w.opens _ _ _ _ _ g, omega (arith, p.2, g.past.long, root-long))
 
 pub loop-count-smaller-then-is_shut : goal.loop-count-smaller-then-is_shut
 loop-count-smaller-then-is_shut c =
     let l = c in
-    sifting_less _ _ _ _ l.requires.0 _ _ _ _ _ _ l.loop-count.invariant _ _ c.take_out-e.ensures
+    sifting_less _ _ _ _ l.args.w.opens _ _ _ _ _ _ l.loop-count.invariant _ _ c.take_out-e.ensures
 
 pub loop-count-preserved-then-is_shut : goal.loop-count-preserved-then-is_shut
 loop-count-preserved-then-is_shut c =
     let l = c in
-    sifting_skip _ _ _ _ l.requires.0 _ _ _ _ _ _ l.loop-count.invariant _ _ c.take_out-e.ensures c.if-e-m.true (sym c.is_shut.ensures ∙ c.if-is_shut.true)
+    sifting_skip _ _ _ _ l.args.w.opens _ _ _ _ _ _ l.loop-count.invariant _ _ c.take_out-e.ensures c.if-e-w.true (sym c.is_shut.ensures ∙ c.if-is_shut.true)
 
 pub put_covered-count-requires : goal.put_covered-count-requires
 put_covered-count-requires c =
@@ -35,42 +35,41 @@ put_covered-count-requires c =
     let l = c in
     let p = l.requires in
     let t = c.take_out-e.ensures in
-    let u = c.if-e-m.true in (
+    let u = c.if-e-w.true in (
       p.0,
-      p.1,
-      (going_node _ _ _ _ _ _ _ p.0 _ _ _ _ _ l.loop-count.invariant.going _ _ t u).1,
+      (going_node _ _ _ _ _ _ _ l.args.w.opens _ _ _ _ _ l.loop-count.invariant.going _ _ t u).1,
       t.heap,
-      going_room _ _ _ _ _ _ _ p.0 _ _ _ _ _ l.loop-count.invariant.going _ _ t u,
-      omega (arith, p.3, l.loop-count.invariant.going.past.long, root-long, t.past.long),
+      going_room _ _ _ _ _ _ _ l.args.w.opens _ _ _ _ _ l.loop-count.invariant.going _ _ t u,
+      omega (arith, p.2, l.loop-count.invariant.going.past.long, root-long, t.past.long),
     )
 
-pub loop-count-smaller-then-e-m : goal.loop-count-smaller-then-e-m
-loop-count-smaller-then-e-m c =
+pub loop-count-smaller-then-e-w : goal.loop-count-smaller-then-e-w
+loop-count-smaller-then-e-w c =
     let l = c in
-    sifting_under _ _ _ _ l.requires.0 _ _ _ _ _ _ l.loop-count.invariant _ _ c.take_out-e.ensures c.if-e-m.true _ _ c.put_covered-count.ensures.0
+    sifting_under _ _ _ _ l.args.w.opens _ _ _ _ _ _ l.loop-count.invariant _ _ c.take_out-e.ensures c.if-e-w.true _ _ c.put_covered-count.ensures.0
 
-pub loop-count-preserved-then-e-m : goal.loop-count-preserved-then-e-m
-loop-count-preserved-then-e-m c =
+pub loop-count-preserved-then-e-w : goal.loop-count-preserved-then-e-w
+loop-count-preserved-then-e-w c =
     let l = c in
     let e = c in
     let y = c.put_covered-count.ensures in
-    sifting_open _ _ _ _ l.requires.0 _ _ _ _ _ _ l.loop-count.invariant _ _ c.take_out-e.ensures c.if-e-m.true _ _ y.0 (sym e.is_shut.ensures ∙ e.if-is_shut.false) y.1 y.3
+    sifting_open _ _ _ _ l.args.w.opens _ _ _ _ _ _ l.loop-count.invariant _ _ c.take_out-e.ensures c.if-e-w.true _ _ y.0 (sym e.is_shut.ensures ∙ e.if-is_shut.false) y.1 y.3
 
 pub loop-count-smaller : goal.loop-count-smaller
 loop-count-smaller c =
     let l = c in
-    sifting_less _ _ _ _ l.requires.0 _ _ _ _ _ _ l.loop-count.invariant _ _ c.take_out-e.ensures
+    sifting_less _ _ _ _ l.args.w.opens _ _ _ _ _ _ l.loop-count.invariant _ _ c.take_out-e.ensures
 
 pub loop-count-preserved : goal.loop-count-preserved
 loop-count-preserved c =
     let l = c in
     let t = c in
-    sifting_meet _ _ _ _ l.requires.0 _ _ _ _ _ _ l.loop-count.invariant _ _ c.take_out-e.ensures c.if-e-m.false _ t.consider_at.auto.bits t.consider_at.ensures
+    sifting_meet _ _ _ _ l.args.w.opens _ _ _ _ _ _ l.loop-count.invariant _ _ c.take_out-e.ensures c.if-e-w.false _ t.consider_at.auto.bits t.consider_at.ensures
 
 pub returns : goal.returns
 returns c =
     let cleared : length c.clear.new.bits ≡ length c.args.bits.now = c.clear.auto.bits in
     let l = c in
     let p = l.requires in
-    let e = sifting_end _ _ _ _ p.0 _ _ _ _ _ _ l.loop-count.invariant _ cleared c.loop-count-test.false in
+    let e = sifting_end _ _ _ _ l.args.w.opens _ _ _ _ _ _ l.loop-count.invariant _ cleared c.loop-count-test.false in
     (e.0, e.1, wiped_all _ _ _ _ _ _ l.put_root-count.ensures.2 l.loop-count.invariant.going.past c.wipe.ensures)

@@ -13,7 +13,7 @@ use Rattle.outward.proofs.order.first_points.Goals as goal
 pub loop-count-init : goal.loop-count-init
 loop-count-init c =
     let r = c in
-    (giving_start _ _ _ _ c.requires.0 _ _ _ r.put_root-count.ensures.0 r.put_root-count.ensures.1 r.put_root-count.ensures.2, omega arith)
+    (giving_start _ _ _ _ c.args.w.opens _ _ _ r.put_root-count.ensures.0 r.put_root-count.ensures.1 r.put_root-count.ensures.2, omega arith)
 
 pub take_out-e-requires : goal.take_out-e-requires
 take_out-e-requires c =
@@ -22,7 +22,10 @@ take_out-e-requires c =
     let l = c in
     let p = l.requires in
     let g = l.loop-count.invariant.0.going in
-    (p.0, p.1, g.heap, waits, going_fits _ _ _ _ _ _ _ p.0 _ _ _ _ _ g, omega (arith, p.3, g.past.long, root-long))
+    (p.0, g.heap, waits, going_fits _ _ _ _ _ _ _ l.args.w.opens _ _ _ _ _ g, omega (arith, p.2, g.past.long, root-long))
+
+pub overflow_sub-e : goal.overflow_sub-e
+overflow_sub-e c = (going_node _ _ _ _ _ _ _ c.args.w.opens _ _ _ _ _ c.loop-count.invariant.0.going _ _ c.take_out-e.ensures c.if-e-w.true).0
 
 pub put_covered-count-requires : goal.put_covered-count-requires
 put_covered-count-requires c =
@@ -30,39 +33,38 @@ put_covered-count-requires c =
     let l = c in
     let p = l.requires in
     let t = c.take_out-e.ensures in
-    let u = c.if-e-m.true in (
+    let u = c.if-e-w.true in (
       p.0,
-      p.1,
-      (going_node _ _ _ _ _ _ _ p.0 _ _ _ _ _ l.loop-count.invariant.0.going _ _ t u).1,
+      (going_node _ _ _ _ _ _ _ l.args.w.opens _ _ _ _ _ l.loop-count.invariant.0.going _ _ t u).1,
       t.heap,
-      going_room _ _ _ _ _ _ _ p.0 _ _ _ _ _ l.loop-count.invariant.0.going _ _ t u,
-      omega (arith, p.3, l.loop-count.invariant.0.going.past.long, root-long, t.past.long),
+      going_room _ _ _ _ _ _ _ l.args.w.opens _ _ _ _ _ l.loop-count.invariant.0.going _ _ t u,
+      omega (arith, p.2, l.loop-count.invariant.0.going.past.long, root-long, t.past.long),
     )
 
-pub loop-count-smaller-then-e-m : goal.loop-count-smaller-then-e-m
-loop-count-smaller-then-e-m c =
+pub loop-count-smaller-then-e-w : goal.loop-count-smaller-then-e-w
+loop-count-smaller-then-e-w c =
     let l = c in
-    giving_under _ _ _ _ l.requires.0 _ _ _ _ _ l.loop-count.invariant.0 _ _ c.take_out-e.ensures c.if-e-m.true _ _ c.put_covered-count.ensures.0
+    giving_under _ _ _ _ l.args.w.opens _ _ _ _ _ l.loop-count.invariant.0 _ _ c.take_out-e.ensures c.if-e-w.true _ _ c.put_covered-count.ensures.0
 
-pub loop-count-preserved-then-e-m : goal.loop-count-preserved-then-e-m
-loop-count-preserved-then-e-m c =
+pub loop-count-preserved-then-e-w : goal.loop-count-preserved-then-e-w
+loop-count-preserved-then-e-w c =
     let l = c in
     let y = c.put_covered-count.ensures in
-    (giving_open _ _ _ _ l.requires.0 _ _ _ _ _ l.loop-count.invariant.0 _ _ c.take_out-e.ensures c.if-e-m.true _ _ y.0 y.1 y.3, l.loop-count.invariant.1)
+    (giving_open _ _ _ _ l.args.w.opens _ _ _ _ _ l.loop-count.invariant.0 _ _ c.take_out-e.ensures c.if-e-w.true _ _ y.0 y.1 y.3, l.loop-count.invariant.1)
 
 pub loop-count-smaller : goal.loop-count-smaller
 loop-count-smaller c =
     let l = c in
-    giving_less _ _ _ _ l.requires.0 _ _ _ _ _ l.loop-count.invariant.0 _ _ c.take_out-e.ensures
+    giving_less _ _ _ _ l.args.w.opens _ _ _ _ _ l.loop-count.invariant.0 _ _ c.take_out-e.ensures
 
 pub loop-count-preserved : goal.loop-count-preserved
 loop-count-preserved c =
     let wanted : c.loop-count.got < c.args.size = ltb-true c.loop-count.got c.args.size (and_right (ltb 0 c.loop-count.count) _ c.loop-count-test.true) in
     let l = c in
-    (giving_meet _ _ _ _ l.requires.0 _ _ _ _ _ l.loop-count.invariant.0 _ _ c.take_out-e.ensures (omega (arith, wanted, l.requires.2)) c.if-e-m.false, omega (arith, wanted))
+    (giving_meet _ _ _ _ l.args.w.opens _ _ _ _ _ l.loop-count.invariant.0 _ _ c.take_out-e.ensures (omega (arith, wanted, l.requires.1)) c.if-e-w.false, omega (arith, wanted))
 
 pub returns : goal.returns
 returns c =
     let l = c in
-    let e = giving_done _ _ _ _ l.requires.0 _ _ _ _ _ l.loop-count.invariant.0 _ l.loop-count.invariant.1 l.requires.2 c.loop-count-test.false in
+    let e = giving_done _ _ _ _ l.args.w.opens _ _ _ _ _ l.loop-count.invariant.0 _ l.loop-count.invariant.1 l.requires.1 c.loop-count-test.false in
     (e.0, e.1, wiped_all _ _ _ _ _ _ l.put_root-count.ensures.2 l.loop-count.invariant.0.going.past c.wipe.ensures)

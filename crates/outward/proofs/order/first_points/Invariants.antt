@@ -5,7 +5,7 @@ use Rattle.outward.proofs.OrderCode.{Giving}
 use Rattle.outward.proofs.order.first_points.Given as goal
 
 abbrev pub invariant-loop-count : goal.invariant-loop-count
-invariant-loop-count l = Giving l.w l.n l.m l.q l.initial.waiting l.waiting l.count l.at l.got × (l.got ≤ l.size)
+invariant-loop-count l = Giving l.w.words.now l.w.n l.w.m l.q l.initial.waiting l.waiting l.count l.at l.got × (l.got ≤ l.size)
 
 abbrev pub decreases-loop-count : goal.decreases-loop-count
-decreases-loop-count l = load l.w l.n l.m l.q l.waiting l.count
+decreases-loop-count l = load l.w.words.now l.w.n l.w.m l.q l.waiting l.count

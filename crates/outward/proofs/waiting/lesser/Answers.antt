@@ -10,4 +10,4 @@ pub returns-else-comes_before : goal.returns-else-comes_before
 returns-else-comes_before c = lesser_first _ _ _ _ _ _ _ c.if-j-count.true (sym c.comes_before.ensures ∙ c.if-comes_before.false)
 
 pub returns-else-j-count : goal.returns-else-j-count
-returns-else-j-count c = lesser_one _ _ _ _ _ _ _ c.requires.3 c.if-j-count.false
+returns-else-j-count c = lesser_one _ _ _ _ _ _ _ c.requires.2 c.if-j-count.false

@@ -4,7 +4,7 @@ use Rattle.outward.proofs.WaitingLaws.{Sunk}
 use Rattle.outward.proofs.waiting.sink.Given as goal
 
 abbrev pub invariant-loop-k : goal.invariant-loop-k
-invariant-loop-k l = Sunk l.w l.n l.m l.q l.x l.count l.initial.waiting l.waiting l.k
+invariant-loop-k l = Sunk l.w.words.now l.w.n l.w.m l.q l.x l.count l.initial.waiting l.waiting l.k
 
 abbrev pub decreases-loop-k : goal.decreases-loop-k
 decreases-loop-k l = l.count - l.k

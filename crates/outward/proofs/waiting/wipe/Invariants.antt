@@ -1,12 +1,8 @@
 -- `outward::waiting::wipe` meets its contract. The loop's invariant: the numbers before i are wiped. Assumes nothing.
 use mathlib.Core.Path.{◌≡◌}
-use Prim.Native.Nat.{◌-◌, ◌≤◌}
 use lib.ListN.{length}
 use Rattle.bits.specs.Set.{wiped}
 use Rattle.outward.proofs.waiting.wipe.Given as goal
 
 abbrev pub invariant-loop-i : goal.invariant-loop-i
-invariant-loop-i l = (l.i ≤ l.k) × (l.waiting ≡ wiped l.i l.initial.waiting) × (length l.waiting ≡ length l.initial.waiting)
-
-abbrev pub decreases-loop-i : goal.decreases-loop-i
-decreases-loop-i l = l.k - l.i
+invariant-loop-i l = (l.waiting ≡ wiped l.i l.initial.waiting) × (length l.waiting ≡ length l.initial.waiting)

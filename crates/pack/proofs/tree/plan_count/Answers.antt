@@ -1,11 +1,6 @@
-use borrow.Author.Tests.{lt-ltb, le-ltb}
-use Rattle.pack.specs.Tree.{plan_count}
+use mathlib.Core.Path.{◌∙◌}
+use Rattle.pack.proofs.TableLaws.{count_min}
 use Rattle.pack.proofs.tree.plan_count.Goals as goal
 
-pub returns-then-d : goal.returns-then-d
-unfolding plan_count
-returns-then-d c = rw (lt-ltb _ _ c.if-d.true)
-
 pub returns : goal.returns
-unfolding plan_count
-returns c = rw (le-ltb _ _ c.if-d.false)
+returns c = c.min.ensures ∙ count_min c.args.d

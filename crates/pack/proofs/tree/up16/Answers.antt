@@ -1,7 +1,7 @@
-use borrow.Author.Rules.{rules}
+use native.Mathlib.Omega.{arith}
 use Rattle.pack.specs.Tree.{up16}
 use Rattle.pack.proofs.tree.up16.Goals as goal
 
 pub returns : goal.returns
 unfolding up16
-returns c = search rules
+returns c = omega (arith, c.div_ceil.ensures)

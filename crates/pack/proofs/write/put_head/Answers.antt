@@ -1,25 +1,30 @@
-use mathlib.Core.Path.{◌∙◌}
+use mathlib.Core.Path.{ap, ◌∙◌}
+use mathlib.Core.List.{◌∷◌, []}
 use native.Mathlib.Omega.{arith}
-use lib.ListN.{length-set}
+use lib.IntN.{pos}
 use Rattle.words.proofs.Signs.{handed}
-use Rattle.pack.proofs.TableLaws.{plan_fits}
-use Rattle.pack.proofs.PackedLaws.{node_more, head_is}
+use Rattle.pack.proofs.TableLaws.{plan_fits, count_range}
+use Rattle.pack.proofs.PackedLaws.{head_put}
 use Rattle.pack.proofs.write.put_head.Goals as goal
 
-pub head_word-requires : goal.head_word-requires
-head_word-requires c =
-    let a = c in
-    let q = plan_fits a.args.n a.args.j a.args.d a.requires.0 a.requires.1 a.requires.2 in
-    (q.0, q.1, q.2, c.loop-f-test.true)
+pub word-requires : goal.word-requires
+word-requires c = let q = plan_fits c.args.n c.args.j c.args.d c.requires.0 c.requires.1 c.requires.2 in omega (arith, q.0)
 
-pub loop-f-preserved : goal.loop-f-preserved
-loop-f-preserved c =
-    let t = c in
-    let a = t in
-    let b = a in (
-      omega arith,
-      simp length-set a.loop-f.invariant.1,
-      λ p o e h.
-          node_more p o a.loop-f.out b.args.n b.args.j e b.args.d b.requires.2 b.requires.0 b.requires.1 a.loop-f.f _ (omega arith) (omega arith)
-          (handed c.head_word.type_inv (c.head_word.ensures ∙ head_is _ _ _ _ t.loop-f-test.true)) (a.loop-f.invariant.2 p o e h),
-    )
+pub word-requires-2 : goal.word-requires-2
+word-requires-2 c = let q = plan_fits c.args.n c.args.j c.args.d c.requires.0 c.requires.1 c.requires.2 in omega (arith, q.1, q.2)
+
+pub plan_count-requires : goal.plan_count-requires
+plan_count-requires c = let q = plan_fits c.args.n c.args.j c.args.d c.requires.0 c.requires.1 c.requires.2 in (q.1, omega (arith, q.1, q.2))
+
+pub word-requires-3 : goal.word-requires-3
+word-requires-3 c =
+    let q = plan_fits c.args.n c.args.j c.args.d c.requires.0 c.requires.1 c.requires.2 in
+    omega (arith, c.plan_count.ensures, (count_range c.args.d q.1).1)
+
+pub returns : goal.returns
+returns c = λ p o ok h.
+    let l = handed c.word.type_inv c.word.ensures in
+    let f = handed c.word-2.type_inv c.word-2.ensures in
+    let n = handed c.word-3.type_inv c.word-3.ensures ∙ ap pos c.plan_count.ensures in
+    head_put p o _ _ _ c.args.n c.args.j ok c.args.d c.requires.2 c.requires.0 c.requires.1 (omega arith)
+    (c.copy.ensures.after ∙ (λ i. l i ∷ f i ∷ n i ∷ [])) h

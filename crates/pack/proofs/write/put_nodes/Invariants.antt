@@ -1,7 +1,7 @@
 use mathlib.Core.Path.{◌≡◌}
 use mathlib.Core.Bool.{true}
 use mathlib.Core.List.{List}
-use Prim.Native.Nat.{◌≤◌, ◌<◌, ◌-◌, ◌*◌, ◌+◌}
+use Prim.Native.Nat.{◌<◌, ◌*◌, ◌+◌}
 use lib.IntN.{ℤ}
 use lib.ListN.{length}
 use Rattle.pack.specs.Tree.{plan_of}
@@ -11,7 +11,4 @@ use Rattle.pack.specs.Work.{Holds}
 use Rattle.pack.proofs.write.put_nodes.Given as goal
 
 abbrev pub invariant-loop-j : goal.invariant-loop-j
-invariant-loop-j l = (l.j ≤ l.m) × (length l.out ≡ length l.initial.out) × (l.j < l.m → l.d ≡ plan_of l.n l.j) × ((p o : List ℤ) → order_list_ok o l.n ≡ true → Holds l.initial.out (body_word p o l.n) (5 * l.n) → Holds l.out (body_word p o l.n) (5 * l.n + 7 * l.j))
-
-abbrev pub decreases-loop-j : goal.decreases-loop-j
-decreases-loop-j l = l.m - l.j
+invariant-loop-j l = (length l.out ≡ length l.initial.out) × (l.j < l.m → l.d ≡ plan_of l.n l.j) × ((p o : List ℤ) → order_list_ok o l.n ≡ true → Holds l.initial.out (body_word p o l.n) (5 * l.n) → Holds l.out (body_word p o l.n) (5 * l.n + 7 * l.j))

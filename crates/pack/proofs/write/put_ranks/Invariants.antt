@@ -1,6 +1,6 @@
 use mathlib.Core.Path.{◌≡◌}
 use mathlib.Core.List.{List}
-use Prim.Native.Nat.{◌≤◌, ◌-◌, ◌*◌}
+use Prim.Native.Nat.{◌*◌}
 use lib.IntN.{ℤ}
 use lib.ListN.{length}
 use Rattle.pack.specs.Packed.{body_word}
@@ -9,7 +9,4 @@ use Rattle.pack.proofs.PackedLaws.{Ranked}
 use Rattle.pack.proofs.write.put_ranks.Given as goal
 
 abbrev pub invariant-loop-k : goal.invariant-loop-k
-invariant-loop-k l = (l.k ≤ l.n) × (length l.out ≡ length l.initial.out) × ((p : List ℤ) → Holds l.initial.out (body_word p l.o l.n) (4 * l.n) → Ranked p l.o l.n (length l.initial.out) l.out l.k)
-
-abbrev pub decreases-loop-k : goal.decreases-loop-k
-decreases-loop-k l = l.n - l.k
+invariant-loop-k l = (length l.out ≡ length l.initial.out) × ((p : List ℤ) → Holds l.initial.out (body_word p l.o l.n) (4 * l.n) → Ranked p l.o l.n (length l.initial.out) l.out l.k)

@@ -1,43 +1,53 @@
-use mathlib.Core.Path.{refl, ◌∙◌}
+use mathlib.Core.Path.{◌≡◌, ap, ◌∙◌}
+use mathlib.Core.List.{◌∷◌, []}
 use native.Mathlib.Omega.{arith}
-use lib.ListN.{length-set}
+use Prim.Native.Nat.{◌+◌, ◌*◌, ◌-◌}
+use lib.IntN.{pos}
+use lib.ListN.{length, drop, length-drop}
+use lib.Seq.{length-take-le}
+use borrow.Rule.Slice.PartMut.{same_len_mid}
 use Rattle.words.proofs.Signs.{handed}
 use Rattle.pack.proofs.TableLaws.{plan_few}
-use Rattle.pack.proofs.PackedLaws.{sheet_size_lem, trail_start, trail_more, trail_done}
+use Rattle.pack.proofs.PackedLaws.{root_low, sheet_size_lem, trail_put}
 use Rattle.pack.proofs.write.put_trailer.Goals as goal
 
-pub loop-t-init : goal.loop-t-init
-loop-t-init c = (omega arith, refl, λ p o h. trail_start p o _ _ _ _ h)
+pub overflow_mul-span-2 : goal.overflow_mul-span-2
+overflow_mul-span-2 c = omega (arith, plan_few c.args.n, sheet_size_lem c.args.n)
 
-pub trailer_word-requires : goal.trailer_word-requires
-trailer_word-requires c = (omega arith, omega arith, omega (arith, plan_few c.args.n), omega arith)
+pub overflow_add-span : goal.overflow_add-span
+overflow_add-span c = omega (arith, plan_few c.args.n, sheet_size_lem c.args.n)
 
-pub overflow_mul-m : goal.overflow_mul-m
-overflow_mul-m c = omega (arith, plan_few c.args.n, sheet_size_lem c.args.n)
+pub offset_bounds-out-span : goal.offset_bounds-out-span
+offset_bounds-out-span c = omega (arith, plan_few c.args.n, sheet_size_lem c.args.n)
 
-pub overflow_add-n : goal.overflow_add-n
-overflow_add-n c = omega (arith, plan_few c.args.n, sheet_size_lem c.args.n)
+pub slice_bounds-copy-count : goal.slice_bounds-copy-count
+slice_bounds-copy-count c = omega (arith, plan_few c.args.n, sheet_size_lem c.args.n)
 
-pub overflow_add-n-in-loop-t : goal.overflow_add-n-in-loop-t
-overflow_add-n-in-loop-t c = omega (arith, plan_few c.args.n, sheet_size_lem c.args.n)
+pub slice_bounds-copy-start : goal.slice_bounds-copy-start
+slice_bounds-copy-start c = omega (arith, plan_few c.args.n, sheet_size_lem c.args.n)
 
-pub offset_bounds-out-n : goal.offset_bounds-out-n
-offset_bounds-out-n c = omega (arith, plan_few c.args.n, sheet_size_lem c.args.n)
+pub word-requires : goal.word-requires
+word-requires c = omega (arith, plan_few c.args.n, sheet_size_lem c.args.n)
 
-pub bounds-out-n : goal.bounds-out-n
-bounds-out-n c = omega (arith, plan_few c.args.n, sheet_size_lem c.args.n)
+pub word-requires-2 : goal.word-requires-2
+word-requires-2 c = omega (arith, c.root_word.ensures, root_low c.args.m)
 
-pub loop-t-preserved : goal.loop-t-preserved
-loop-t-preserved c =
-    let t = c in
-    let a = t in
-    let b = a in (
-      omega arith,
-      simp length-set a.loop-t.invariant.1,
-      λ p o h.
-          trail_more p o b.args.n b.args.form b.args.m b.args.edition a.loop-t.out a.loop-t.t _ b.requires.2 t.loop-t-test.true (a.loop-t.invariant.1 ∙ b.requires.4)
-          (handed c.trailer_word.type_inv c.trailer_word.ensures) (a.loop-t.invariant.2 p o h),
-    )
+pub copy-requires : goal.copy-requires
+copy-requires c =
+    let a = 5 * c.args.n + 7 * c.args.m in
+    let w = c.args.out.now in
+    let l : length w ≡ a + 6 = omega (arith, sheet_size_lem c.args.n) in
+    let z : length w - a ≡ 6 = omega arith in
+    length-take-le (length w - a) (drop a w) (omega (arith, length-drop a w)) ∙ z
 
 pub returns : goal.returns
-returns c = λ p o h. trail_done p o _ _ _ c.loop-t.out c.loop-t.t c.loop-t-test.false (c.loop-t.invariant.1 ∙ c.requires.4) (c.loop-t.invariant.2 p o h)
+returns c = λ p o h.
+    let a = handed c.word.type_inv c.word.ensures in
+    let r = handed c.word-2.type_inv c.word-2.ensures ∙ ap pos c.root_word.ensures in
+    let n = handed c.word-3.type_inv c.word-3.ensures in
+    let m = handed c.word-4.type_inv c.word-4.ensures in
+    let e = handed c.word-5.type_inv c.word-5.ensures in
+    let f = handed c.word-6.type_inv c.word-6.ensures in
+    let q = c.copy.ensures in
+    trail_put p o c.args.n c.args.form c.args.m c.args.edition c.args.out.now _ _ c.requires.2 c.requires.4 (same_len_mid _ _ _ _ c.copy.auto.to)
+    (q.after ∙ (λ i. a i ∷ r i ∷ n i ∷ m i ∷ e i ∷ f i ∷ [])) h

@@ -7,8 +7,6 @@ keep_pairs-found-requires g c = (c.requires, c.loop-j-test.true, sixteen_hold c.
 
 pub put_chamber-at-requires-clause-opens : goal.put_chamber-at-requires-clause-opens
 put_chamber-at-requires-clause-opens g c = (
-  c.requires.p_opens,
-  c.requires.q_opens,
   c.loop-j-test.true,
   sixteen_hold c.requires _ (c.keep_pairs-found.auto.bits ∙ c.loop-j.invariant.1),
 )

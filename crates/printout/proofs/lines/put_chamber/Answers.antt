@@ -9,14 +9,14 @@ use Rattle.printout.proofs.lines.put_chamber.Goals as goal
 pub loop-i-init : goal.loop-i-init
 loop-i-init c =
     let s = c in
-    (refl, put_start _ _ _ _ _ _ _ s.requires.pairs_on _ _ c.next_from-i.ensures, λ h. from_kept _ _ _ c.next_from-i.ensures (omega (arith, h, s.requires.opens.3.enough)))
+    (refl, put_start _ _ _ _ _ _ _ s.requires.pairs_on _ _ c.next_from-i.ensures, λ h. from_kept _ _ _ c.next_from-i.ensures (omega (arith, h, s.requires.opens.1.enough)))
 
 pub put_pair-to-requires : goal.put_pair-to-requires
 put_pair-to-requires c =
     let l = c in
     let s = l in
     let t = c.loop-i-test.true in
-    (s.requires.opens.0, s.requires.opens.1, s.requires.opens.2, t, omega (arith, l.loop-i.invariant.0, s.requires.count_in_bounds, put_room _ _ _ _ _ _ _ s.requires.pairs_on _ _ _ _ l.loop-i.invariant.1 t (l.loop-i.invariant.2 t)))
+    (s.requires.opens.0, t, omega (arith, l.loop-i.invariant.0, s.requires.count_in_bounds, put_room _ _ _ _ _ _ _ s.requires.pairs_on _ _ _ _ l.loop-i.invariant.1 t (l.loop-i.invariant.2 t)))
 
 pub loop-i-smaller : goal.loop-i-smaller
 loop-i-smaller c = omega (arith, from_le _ _ _ c.next_from-i-in-loop-i.ensures, c.loop-i-test.true)
@@ -30,11 +30,11 @@ loop-i-preserved c =
       search rules,
       put_next _ _ _ _ _ _ _ s.requires.pairs_on _ _ _ _ _ c.next_from-i-in-loop-i.ensures
           (put_turn _ _ _ _ _ _ _ s.requires.pairs_on _ _ _ _ l.loop-i.invariant.1 t (l.loop-i.invariant.2 t) _ _ r.put_pair-to.ensures.grown r.put_pair-to.ensures.upper_bound),
-      λ h. from_kept _ _ _ c.next_from-i-in-loop-i.ensures (omega (arith, h, s.requires.opens.3.enough)),
+      λ h. from_kept _ _ _ c.next_from-i-in-loop-i.ensures (omega (arith, h, s.requires.opens.1.enough)),
     )
 
 pub returns-clause-grown : goal.returns-clause-grown
 returns-clause-grown c =
     let l = c in
     let s = l in
-    (put_end _ _ _ _ _ _ _ _ _ _ (points_many _ _ _ s.requires.opens.0) c.loop-i-test.false l.loop-i.invariant.1).0
+    (put_end _ _ _ _ _ _ _ _ _ _ (points_many _ _ _ s.args.p.opens) c.loop-i-test.false l.loop-i.invariant.1).0

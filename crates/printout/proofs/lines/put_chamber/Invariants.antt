@@ -10,7 +10,7 @@ use Rattle.printout.proofs.lines.put_chamber.Given as goal
 
 abbrev pub invariant-loop-i : goal.invariant-loop-i
 invariant-loop-i l =
-    (length l.out ≡ length l.initial.out) × Putting (points_of l.p) (points_of l.q) l.j l.hp.n l.at l.count l.initial.out l.out l.to l.i × (l.i < l.hp.n → kept l.bits l.i ≡ true)
+    (length l.out ≡ length l.initial.out) × Putting (points_of l.p.words.now) (points_of l.q.words.now) l.j l.p.n l.at l.count l.initial.out l.out l.to l.i × (l.i < l.p.n → kept l.bits l.i ≡ true)
 
 abbrev pub decreases-loop-i : goal.decreases-loop-i
-decreases-loop-i l = l.hp.n - l.i
+decreases-loop-i l = l.p.n - l.i

@@ -20,6 +20,12 @@ returns-then-bits-w c =
     let w = words_need _ _ _ (k.ensures.1 z).q_opens _ c.words_for-w.ensures in
     done_refused _ _ _ _ _ _ 24 (lent_short _ _ _ _ (pump_is _ _ c.args.k c.args.largest c.args.grid _ _ k.ensures.0) z (omega (arith, c.if-bits-w.true))) (λ i. omega arith) c.refused-then-bits-w.ensures
 
+pub invariant_of-ps : goal.invariant_of-ps
+invariant_of-ps c = record { opens = (c.checked-c.ensures.1 c.if-c-ne0.false).p_opens }
+
+pub invariant_of-qs : goal.invariant_of-qs
+invariant_of-qs c = record { opens = (c.checked-c.ensures.1 c.if-c-ne0.false).q_opens }
+
 pub returns : goal.returns
 unfolding pump_answer pump_bits
 returns c =

@@ -1,6 +1,5 @@
 -- `ranked::busiest::of_all` meets its contract. The loop's invariant is `Going`: what is left of the chambers. Assumes nothing.
 use mathlib.Core.Path.{◌≡◌}
-use Prim.Native.Nat.{◌-◌}
 use lib.ListN.{length}
 use Rattle.sheet.specs.Places.{points_of}
 use Rattle.list.specs.Contractor.{mine}
@@ -10,8 +9,5 @@ use Rattle.ranked.proofs.busiest.of_all.Given as goal
 
 abbrev pub invariant-loop-j : goal.invariant-loop-j
 invariant-loop-j l =
-    Going (mine l.terms.contractor l.owners) (row_rank l.largest l.terms (points_of l.p) (points_of l.q)) l.k l.hq.n l.g l.j
+    Going (mine l.terms.contractor l.owners) (row_rank l.largest l.terms (points_of l.p.words.now) (points_of l.q.words.now)) l.k l.q.n l.g l.j
     × (length l.bits ≡ length l.initial.bits)
-
-abbrev pub decreases-loop-j : goal.decreases-loop-j
-decreases-loop-j l = l.hq.n - l.j

@@ -8,7 +8,7 @@ use Rattle.ranked.proofs.visits.given.Goals as goal
 
 pub of_all-g-requires : goal.of_all-g-requires
 of_all-g-requires c =
-    (c.requires.0, c.requires.1, c.requires.2, lent_holds _ _ (omega (arith, c.requires.0.n_le)) c.requires.3, c.requires.4, c.requires.5, c.requires.6, c.requires.7)
+    (c.requires.0, lent_holds _ _ (omega (arith, c.args.p.opens.n_le)) c.requires.1, c.requires.2, c.requires.3, c.requires.4, c.requires.5)
 
 pub returns : goal.returns
 returns c =

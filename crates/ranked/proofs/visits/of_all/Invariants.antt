@@ -1,6 +1,5 @@
 -- `ranked::visits::of_all` meets its contract. The loop's invariant is `Visiting`: what is left of the list. Assumes nothing.
 use mathlib.Core.Path.{◌≡◌, refl}
-use Prim.Native.Nat.{◌-◌}
 use lib.ListN.{length}
 use Rattle.plane.specs.Point.{id_at}
 use Rattle.sheet.specs.Places.{points_of}
@@ -13,8 +12,5 @@ use Rattle.ranked.proofs.visits.of_all.Given as goal
 
 abbrev pub invariant-loop-j : goal.invariant-loop-j
 invariant-loop-j l =
-    Visiting (listed_to l.largest l.terms l.owners (points_of l.p) (points_of l.q)) (pair_by (profile_for l.terms) (points_of l.p) (points_of l.q)) (visit_of (points_of l.p) (points_of l.q) l.p_scores l.q_scores) (visit_pair (points_of l.p) (points_of l.q) l.p_scores l.q_scores) (id_at (points_of l.q)) (λ y x. refl) l.k l.hp.n l.hq.n l.g l.j
+    Visiting (listed_to l.largest l.terms l.owners (points_of l.p.words.now) (points_of l.q.words.now)) (pair_by (profile_for l.terms) (points_of l.p.words.now) (points_of l.q.words.now)) (visit_of (points_of l.p.words.now) (points_of l.q.words.now) l.p_scores l.q_scores) (visit_pair (points_of l.p.words.now) (points_of l.q.words.now) l.p_scores l.q_scores) (id_at (points_of l.q.words.now)) (λ y x. refl) l.k l.p.n l.q.n l.g l.j
     × (length l.bits ≡ length l.initial.bits)
-
-abbrev pub decreases-loop-j : goal.decreases-loop-j
-decreases-loop-j l = l.hq.n - l.j

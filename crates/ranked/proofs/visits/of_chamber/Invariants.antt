@@ -10,7 +10,7 @@ use Rattle.ranked.proofs.visits.of_chamber.Given as goal
 
 abbrev pub invariant-loop-i : goal.invariant-loop-i
 invariant-loop-i l =
-    Picking (small_for l.largest l.terms (points_of l.p) (points_of l.q)) (pair_by (profile_for l.terms) (points_of l.p) (points_of l.q)) (with_score (points_of l.p) l.p_scores l.own) l.k l.j l.hp.n l.initial.r l.r l.i
+    Picking (small_for l.largest l.terms (points_of l.p.words.now) (points_of l.q.words.now)) (pair_by (profile_for l.terms) (points_of l.p.words.now) (points_of l.q.words.now)) (with_score (points_of l.p.words.now) l.p_scores l.own) l.k l.j l.p.n l.initial.r l.r l.i
 
 abbrev pub decreases-loop-i : goal.decreases-loop-i
-decreases-loop-i l = l.hp.n - l.i
+decreases-loop-i l = l.p.n - l.i

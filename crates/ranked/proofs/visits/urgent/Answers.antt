@@ -32,7 +32,13 @@ pub given-requires : goal.given-requires
 given-requires c =
     let v = c.checked-c.ensures.1 c.if-c-ne0.false in
     let z = last_served _ _ _ _ _ _ _ c.last_no-no.ensures c.if-no-ne0.false in
-    (v.p_opens, v.q_opens, record { two = refl; all = refl }, part_long _ _ z.2 ∙ c.words_for-w.ensures, z.0, z.1, v.some, v.most)
+    (record { two = refl; all = refl }, part_long _ _ z.2 ∙ c.words_for-w.ensures, z.0, z.1, v.some, v.most)
+
+pub invariant_of-ps : goal.invariant_of-ps
+invariant_of-ps c = record { opens = (c.checked-c.ensures.1 c.if-c-ne0.false).p_opens }
+
+pub invariant_of-qs : goal.invariant_of-qs
+invariant_of-qs c = record { opens = (c.checked-c.ensures.1 c.if-c-ne0.false).q_opens }
 
 pub returns : goal.returns
 unfolding urgent_answer urgent_bits urgent_of asked_list

@@ -7,11 +7,11 @@ use Rattle.ring.proofs.PageLaws.{of_two}
 use Rattle.ring.proofs.least.counted.Goals as goal
 
 pub pairs_of-found-requires : goal.pairs_of-found-requires
-pairs_of-found-requires c = let p = c.requires in (p.0, p.1, of_two _ refl _ _, p.2, p.3)
+pairs_of-found-requires c = let p = c.requires in (of_two _ refl _ _, p.0, p.1)
 
 pub returns : goal.returns
 returns c =
     let k = c in
     let s = k in
-    let many = pairs_partners _ _ _ _ _ _ s.requires.0 s.requires.1 _ s.requires.2 _ _ k.pairs_of-found.ensures in
+    let many = pairs_partners _ _ _ _ _ _ s.args.p.opens s.args.q.opens _ s.requires.0 _ _ k.pairs_of-found.ensures in
     (c.lesser.ensures ∙ ap (smaller s.args.t) many, c.clear.ensures ∙ ap none k.pairs_of-found.auto.bits)

@@ -9,12 +9,12 @@ use Rattle.ring.proofs.pages.given.Goals as goal
 pub made_on-d-requires : goal.made_on-d-requires
 made_on-d-requires c =
     let p = c.requires in
-    (p.0, p.1, p.2, lent_holds _ _ (omega (arith, p.0.n_le)) p.3, p.4)
+    (p.0, lent_holds _ _ (omega (arith, c.args.p.opens.n_le)) p.1, p.2)
 
 pub returns : goal.returns
 returns c =
     let m = c.made_on-d in
     let p = c.requires in (
-      page_given_lem p.0 p.1 _ p.4 _ _ _ p.2 _ p.3 _ m.ensures _ c.source_of-source.ensures _ c.page_from-page.ensures,
+      page_given_lem c.args.p.opens c.args.q.opens _ p.2 _ _ _ p.0 _ p.1 _ m.ensures _ c.source_of-source.ensures _ c.page_from-page.ensures,
       c.clear.ensures ∙ ap none m.auto.bits,
     )

@@ -5,7 +5,7 @@ use Rattle.sheet.specs.Nodes.{level_of}
 use Rattle.seeds.proofs.guess.leaf_near.Given as goal
 
 abbrev pub invariant-loop-level : goal.invariant-loop-level
-invariant-loop-level l = (l.at < l.m) × (l.level ≡ level_of l.w l.n l.at)
+invariant-loop-level l = (l.at < l.w.m) × (l.level ≡ level_of l.w.words.now l.w.n l.at)
 
 abbrev pub decreases-loop-level : goal.decreases-loop-level
 decreases-loop-level l = l.level

@@ -5,9 +5,9 @@ use Rattle.seeds.proofs.guess.node_near.Goals as goal
 pub away-least-requires : goal.away-least-requires
 away-least-requires c =
     let p = c.requires in
-    (p.1, box_fits _ _ _ p.0 _ _ (omega (arith, p.2, p.3)) c.box_at.ensures)
+    (p.0, box_fits _ _ _ c.args.w.opens _ _ (omega (arith, p.1, p.2)) c.box_at.ensures)
 
 pub away-d-requires : goal.away-d-requires
 away-d-requires c =
     let p = c.requires in
-    (p.1, box_fits _ _ _ p.0 _ _ (omega (arith, c.loop-k-test.true, p.3)) c.box_at-in-loop-k.ensures)
+    (p.0, box_fits _ _ _ c.args.w.opens _ _ (omega (arith, c.loop-k-test.true, p.2)) c.box_at-in-loop-k.ensures)

@@ -10,13 +10,10 @@ use Rattle.seeds.specs.Covers.{On, Deals}
 use Rattle.seeds.proofs.walks.+walk_node.Given as goal
 
 abbrev pub decreases-walk_node : goal.decreases-walk_node
-decreases-walk_node l = level_of l.w.now l.n l.j
+decreases-walk_node l = level_of l.w.words.now l.w.n l.j
 
 abbrev pub invariant-loop-i : goal.invariant-loop-i
 invariant-loop-i l =
-    Lined (Known (On l.w l.n) l.initial.xs l.initial.ys l.initial.on.line.count) l.xs l.ys l.on.line.count
-    × Deals (Known (On l.w l.n) l.initial.xs l.initial.ys l.initial.on.line.count) l.w l.n l.q (λ k. (v : ℕ) × (l.first ≤ v) × (v < l.first + l.i) × Below l.w l.n (l.level - 1) v k) l.initial.bits l.bits
+    Lined (Known (On l.w.words.now l.w.n) l.initial.so.line) l.so.line
+    × Deals (Known (On l.w.words.now l.w.n) l.initial.so.line) l.w.words.now l.w.n l.q (λ k. (v : ℕ) × (l.first ≤ v) × (v < l.first + l.i) × Below l.w.words.now l.w.n (l.level - 1) v k) l.initial.bits l.bits
     × (length l.bits ≡ length l.initial.bits)
-
-abbrev pub decreases-loop-i : goal.decreases-loop-i
-decreases-loop-i l = l.count - l.i

@@ -5,10 +5,9 @@ use Rattle.seeds.proofs.LineLaws.{line_dropped_by}
 use Rattle.seeds.proofs.CoverLaws.{retries_none, retries_gone}
 use Rattle.seeds.proofs.walks.retry.Goals as goal
 
-pub spot_dropper-requires : goal.spot_dropper-requires
-spot_dropper-requires c = let p = c.requires in (p.1, spot_fits _ _ _ p.0 _ _ p.2 c.spot_at-z.ensures, p.4)
+pub spot_by-requires : goal.spot_by-requires
+spot_by-requires c = (c.requires.0, spot_fits _ _ _ c.args.w.opens _ _ c.requires.1 c.spot_at-z.ensures)
 
-pub returns-then-spot_dropper-count : goal.returns-then-spot_dropper-count
-returns-then-spot_dropper-count c =
-    let s = c in
-    retries_gone _ _ _ _ _ _ _ _ (omega (arith, s.requires.2, s.requires.3.enough)) c.remove.ensures c.spot_at-z.ensures (line_dropped_by _ _ _ _ _ _ c.if-spot_dropper-count.true c.spot_dropper.ensures) (retries_none _ _ _ _)
+pub returns-then-spot_by-line : goal.returns-then-spot_by-line
+returns-then-spot_by-line c =
+    retries_gone _ _ _ _ _ _ _ _ (omega (arith, c.requires.1, c.requires.2.enough)) c.remove.ensures c.spot_at-z.ensures (line_dropped_by _ _ _ _ c.if-spot_by-line.true c.spot_by.ensures) (retries_none _ _ _ _)

@@ -7,7 +7,7 @@ use Rattle.seeds.specs.Covers.{Retries}
 use Rattle.seeds.proofs.walks.retry_all.Given as goal
 
 abbrev pub invariant-loop-i : goal.invariant-loop-i
-invariant-loop-i l = Retries (Among l.xs l.ys l.line.count) l.w l.q l.initial.bits l.bits × (length l.bits ≡ length l.initial.bits)
+invariant-loop-i l = Retries (Among l.line) l.w.words.now l.q l.initial.bits l.bits × (length l.bits ≡ length l.initial.bits)
 
 abbrev pub decreases-loop-i : goal.decreases-loop-i
-decreases-loop-i l = l.n - l.i
+decreases-loop-i l = l.w.n - l.i

@@ -1,12 +1,11 @@
 use mathlib.Core.Path.{◌∙◌}
-use native.Mathlib.Omega.{arith}
 use Rattle.sheet.proofs.BoxLaws.{around_more, around_one}
 use Rattle.sheet.proofs.boxes.tightest.Goals as goal
 
 pub loop-i-init : goal.loop-i-init
-loop-i-init c = (omega arith, c.part-o.ensures ∙ around_one _ _ _ _)
+loop-i-init c = c.part-o.ensures ∙ around_one _ _ _ _
 
 pub loop-i-preserved : goal.loop-i-preserved
 loop-i-preserved c =
     let l = c in
-    (omega arith, around_more _ _ _ _ _ c.around-o.ensures l.loop-i.invariant.1 c.part-p.ensures)
+    around_more _ _ _ _ _ c.around-o.ensures l.loop-i.invariant c.part.ensures

@@ -1,4 +1,3 @@
-use borrow.Author.Rules.{rules}
 use mathlib.Core.Path.{refl, sym, ap, ◌∙◌}
 use native.Mathlib.Omega.{arith}
 use Rattle.sheet.proofs.NodeLaws.{due_more, node_is, rule_run}
@@ -8,14 +7,14 @@ use Rattle.sheet.proofs.nodes.table_ok.Goals as goal
 
 pub loop-j-init : goal.loop-j-init
 unfolding due_of
-loop-j-init c = (search rules, refl, all_none _)
+loop-j-init c = (refl, all_none _)
 
 pub returns-then-not-node_ok : goal.returns-then-not-node_ok
 unfolding table_ok
 returns-then-not-node_ok c =
     let t = c in
     let a = t in
-    let p = node_is _ _ _ _ _ _ a.loop-j.invariant.1 c.node_ok.ensures in
+    let p = node_is _ _ _ _ _ _ a.loop-j.invariant.0 c.node_ok.ensures in
     all_stop _ _ _ t.loop-j-test.true (p ∙ c.if-not-node_ok.true)
 
 pub due_next-d-requires : goal.due_next-d-requires
@@ -26,12 +25,8 @@ loop-j-preserved c =
     let e = c in
     let t = e in
     let a = t in
-    let p = node_is _ _ _ _ _ _ a.loop-j.invariant.1 e.node_ok.ensures in (
-      omega arith,
-      c.due_next-d.ensures ∙ ap (due_next _ _ _) a.loop-j.invariant.1 ∙ sym (due_more _ _ _),
-      all_more _ _ a.loop-j.invariant.2 (p ∙ e.if-not-node_ok.false),
-    )
+    let p = node_is _ _ _ _ _ _ a.loop-j.invariant.0 e.node_ok.ensures in (c.due_next-d.ensures ∙ ap (due_next _ _ _) a.loop-j.invariant.0 ∙ sym (due_more _ _ _), all_more _ _ a.loop-j.invariant.1 (p ∙ e.if-not-node_ok.false))
 
 pub returns : goal.returns
 unfolding table_ok
-returns c = all_done _ _ _ c.loop-j.invariant.0 c.loop-j-test.false c.loop-j.invariant.2
+returns c = all_done _ _ _ c.loop-j.auto.j-end c.loop-j-test.false c.loop-j.invariant.1

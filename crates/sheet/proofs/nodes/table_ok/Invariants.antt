@@ -1,12 +1,8 @@
 use mathlib.Core.Path.{◌≡◌}
 use mathlib.Core.Bool.{true}
-use Prim.Native.Nat.{◌≤◌, ◌-◌}
 use Rattle.words.specs.All.{all_b}
 use Rattle.sheet.specs.Nodes.{node_ok, due_of}
 use Rattle.sheet.proofs.nodes.table_ok.Given as goal
 
 abbrev pub invariant-loop-j : goal.invariant-loop-j
-invariant-loop-j l = (l.j ≤ l.m) × (l.d ≡ due_of l.s l.n l.j) × (all_b l.j (node_ok l.s l.n l.m) ≡ true)
-
-abbrev pub decreases-loop-j : goal.decreases-loop-j
-decreases-loop-j l = l.m - l.j
+invariant-loop-j l = (l.d ≡ due_of l.s l.n l.j) × (all_b l.j (node_ok l.s l.n l.m) ≡ true)

@@ -1,13 +1,11 @@
-use borrow.Author.Rules.{rules}
 use mathlib.Core.Path.{sym, ◌∙◌}
-use native.Mathlib.Omega.{arith}
 use Rattle.words.proofs.AllLaws.{all_none, all_more, all_stop, all_done}
 use Rattle.sheet.specs.Order.{order_ok}
 use Rattle.sheet.proofs.order.order_ok.Goals as goal
 
 -- src/order.rt:21:5
 pub loop-i-init : goal.loop-i-init
-loop-i-init c = (search rules, all_none _)
+loop-i-init c = all_none _
 
 -- src/order.rt:23:13
 pub returns-then-not-place_ok : goal.returns-then-not-place_ok
@@ -20,9 +18,9 @@ returns-then-not-place_ok c =
 pub loop-i-preserved : goal.loop-i-preserved
 loop-i-preserved c =
     let t = c in
-    (omega arith, all_more _ _ t.loop-i.invariant.1 (sym c.place_ok.ensures ∙ c.if-not-place_ok.false))
+    all_more _ _ t.loop-i.invariant (sym c.place_ok.ensures ∙ c.if-not-place_ok.false)
 
 -- src/order.rt:16:1
 pub returns : goal.returns
 unfolding order_ok
-returns c = all_done _ _ _ c.loop-i.invariant.0 c.loop-i-test.false c.loop-i.invariant.1
+returns c = all_done _ _ _ c.loop-i.auto.i-end c.loop-i-test.false c.loop-i.invariant

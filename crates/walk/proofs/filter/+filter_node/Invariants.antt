@@ -10,10 +10,7 @@ use Rattle.walk.proofs.FilterCode.{Rounds}
 use Rattle.walk.proofs.filter.+filter_node.Given as goal
 
 abbrev pub decreases-filter_node : goal.decreases-filter_node
-decreases-filter_node l = level_of l.w.now l.n l.j
+decreases-filter_node l = level_of l.w.words.now l.w.n l.j
 
 abbrev pub invariant-loop-i : goal.invariant-loop-i
-invariant-loop-i l = Rounds l.w l.n l.q (l.level - 1) l.first l.count l.initial.bits l.initial.c.opened l.bits l.c.opened l.i × Tries l.bits l.n l.latest l.c.line.last l.c.line.count × (length l.latest ≡ length l.initial.latest)
-
-abbrev pub decreases-loop-i : goal.decreases-loop-i
-decreases-loop-i l = l.count - l.i
+invariant-loop-i l = Rounds l.w.words.now l.w.n l.q (l.level - 1) l.first l.count l.initial.bits l.initial.c.opened l.bits l.c.opened l.i × Tries l.bits l.w.n l.latest l.c.line.last l.c.line.count × (length l.latest ≡ length l.initial.latest)

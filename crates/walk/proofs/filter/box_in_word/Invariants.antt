@@ -15,7 +15,7 @@ abbrev pub test : List ℤ → Spot → Boxed → ℕ → Bool
 test w q o i = drops_box q (spot_of w i) o
 
 abbrev pub invariant-loop-rest : goal.invariant-loop-rest
-invariant-loop-rest l = Sift l.bits (test l.w l.q l.o) l.n l.k l.rest
+invariant-loop-rest l = Sift l.bits (test l.w.words.now l.q l.o) l.w.n l.k l.rest
 
 abbrev pub decreases-loop-rest : goal.decreases-loop-rest
 decreases-loop-rest l = l.rest

@@ -10,7 +10,7 @@ consider_at-on-requires c =
     let l = c in
     let s = l in
     let p = s.requires in
-    (p.0, p.1, position_fits _ _ _ p.0 (s.args.first + l.loop-i.i) _ (omega (arith, p.2, c.loop-i-test.true)) c.order_at-at.ensures, still_holds _ _ _ l.loop-i.invariant.0.long p.3, l.loop-i.invariant.1)
+    (p.0, position_fits _ _ _ s.args.w.opens (s.args.first + l.loop-i.i) _ (omega (arith, p.1, c.loop-i-test.true)) c.order_at-at.ensures, still_holds _ _ _ l.loop-i.invariant.0.long p.2, l.loop-i.invariant.1)
 
 pub loop-i-preserved : goal.loop-i-preserved
 loop-i-preserved c =

@@ -5,9 +5,9 @@ use Rattle.walk.proofs.filter.kept_by.Goals as goal
 pub returns-then-grid : goal.returns-then-grid
 returns-then-grid c =
     let s = c in
-    keeps_every _ _ _ _ s.requires.0.n_is _ _ c.if-grid.true c.fill.ensures
+    keeps_every _ _ _ _ s.args.w.opens.n_is _ _ c.if-grid.true c.fill.ensures
 
 pub returns : goal.returns
 returns c =
     let s = c in
-    keeps_half _ _ _ _ s.requires.0.n_is _ _ _ c.if-grid.false c.filter_kept.ensures.0 c.filter_kept.ensures.1
+    keeps_half _ _ _ _ s.args.w.opens.n_is _ _ _ c.if-grid.false c.filter_kept.ensures.0 c.filter_kept.ensures.1

@@ -1,7 +1,7 @@
 -- `walk::filter::seek_all` meets its contract. The loop's invariant is `Seek`: the words before k are asked. Assumes nothing.
 use mathlib.Core.Bool.{Bool}
 use mathlib.Core.List.{List}
-use Prim.Native.Nat.{ℕ, ◌+◌, ◌-◌, ◌*◌, ◌<◌}
+use Prim.Native.Nat.{ℕ}
 use lib.IntN.{ℤ}
 use Rattle.plane.specs.declared.Spot.{Spot}
 use Rattle.plane.specs.declared.Boxed.{Boxed}
@@ -15,7 +15,4 @@ abbrev pub test : List ℤ → Spot → Boxed → ℕ → Bool
 test w q o i = drops_box q (spot_of w i) o
 
 abbrev pub invariant-loop-k : goal.invariant-loop-k
-invariant-loop-k l = Seek l.bits (test l.w l.q l.o) l.n l.k × (64 * l.k < l.n + 64)
-
-abbrev pub decreases-loop-k : goal.decreases-loop-k
-decreases-loop-k l = l.n - 64 * l.k
+invariant-loop-k l = Seek l.bits (test l.w.words.now l.q l.o) l.w.n l.k

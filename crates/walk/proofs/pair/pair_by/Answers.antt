@@ -13,14 +13,14 @@ pub size_of-requires : goal.size_of-requires
 size_of-requires c =
     let b = c in
     let s = b in
-    (subst SpotIn (sym b.spot_at-a.ensures) (spot_in s.requires.1 _ s.requires.2), subst SpotIn (sym b.spot_at-b.ensures) (spot_in s.requires.0 _ s.requires.3))
+    (subst SpotIn (sym b.spot_at-a.ensures) (spot_in s.args.q.opens _ s.requires.0), subst SpotIn (sym b.spot_at-b.ensures) (spot_in s.args.p.opens _ s.requires.1))
 
 pub returns : goal.returns
 returns c =
     let i = c in
     let b = i in
     let s = b in
-    pair_made (profile_of s.args.grid) (points_of s.args.p.now) (points_of s.args.q.now) s.args.j s.args.i _ _ _ _ _ i.id_at.ensures i.id_at-2.ensures
-    (b.spot_at-a.ensures ∙ sym (spot_of_lem _ _ (omega (arith, s.requires.1.n_is, s.requires.2))))
-    (b.spot_at-b.ensures ∙ sym (spot_of_lem _ _ (omega (arith, s.requires.0.n_is, s.requires.3))))
+    pair_made (profile_of s.args.grid) (points_of s.args.p.words.now) (points_of s.args.q.words.now) s.args.j s.args.i _ _ _ _ _ i.id_at.ensures i.id_at-2.ensures
+    (b.spot_at-a.ensures ∙ sym (spot_of_lem _ _ (omega (arith, s.args.q.opens.n_is, s.requires.0))))
+    (b.spot_at-b.ensures ∙ sym (spot_of_lem _ _ (omega (arith, s.args.p.opens.n_is, s.requires.1))))
     c.size_of.ensures

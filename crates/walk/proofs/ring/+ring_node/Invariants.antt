@@ -7,10 +7,7 @@ use Rattle.walk.proofs.RingCode.{Rounds}
 use Rattle.walk.proofs.ring.+ring_node.Given as goal
 
 abbrev pub decreases-ring_node : goal.decreases-ring_node
-decreases-ring_node l = level_of l.w.now l.n l.j
+decreases-ring_node l = level_of l.w.words.now l.w.n l.j
 
 abbrev pub invariant-loop-i : goal.invariant-loop-i
-invariant-loop-i l = Rounds (profile_of l.grid) l.set l.w l.n l.a l.b (l.level - 1) l.first l.count l.initial.c l.c l.i
-
-abbrev pub decreases-loop-i : goal.decreases-loop-i
-decreases-loop-i l = l.count - l.i
+invariant-loop-i l = Rounds (profile_of l.grid) l.set l.w.words.now l.w.n l.a l.b (l.level - 1) l.first l.count l.initial.c l.c l.i

@@ -10,7 +10,7 @@ pub hits-requires : goal.hits-requires
 hits-requires c =
     let s = c in
     let p = s.requires in
-    (p.0, p.1, p.2, position_fits _ _ _ p.0 (s.args.first + c.loop-i.i) _ (omega (arith, p.3, c.loop-i-test.true)) c.order_at-k.ensures)
+    (p.0, p.1, position_fits _ _ _ s.args.w.opens (s.args.first + c.loop-i.i) _ (omega (arith, p.2, c.loop-i-test.true)) c.order_at-k.ensures)
 
 pub returns-then-hits : goal.returns-then-hits
 returns-then-hits c = let l = c in leaf_hit _ _ _ _ _ _ _ _ _ l.loop-i.i _ c.loop-i-test.true c.order_at-k.ensures (sym c.hits.ensures ∙ c.if-hits.true) l.loop-i.invariant

@@ -1,11 +1,7 @@
 -- `walk::ring::ring_places` meets its contract. The loop's invariant is `Leaf`: what is left to do of the leaf's places. Assumes nothing.
-use Prim.Native.Nat.{◌-◌}
 use Rattle.plane.specs.Profile.{profile_of}
 use Rattle.walk.proofs.RingCode.{Leaf}
 use Rattle.walk.proofs.ring.ring_places.Given as goal
 
 abbrev pub invariant-loop-i : goal.invariant-loop-i
-invariant-loop-i l = Leaf (profile_of l.grid) l.set l.w l.n l.a l.b l.first l.count l.opened l.i
-
-abbrev pub decreases-loop-i : goal.decreases-loop-i
-decreases-loop-i l = l.count - l.i
+invariant-loop-i l = Leaf (profile_of l.grid) l.set l.w.words.now l.w.n l.a l.b l.first l.count l.opened l.i

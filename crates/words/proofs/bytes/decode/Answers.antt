@@ -26,7 +26,7 @@ kept out₀ out i v h l e =
 
 pub loop-i-init : goal.loop-i-init
 unfolding words_of
-loop-i-init c = (refl, omega arith, refl, refl)
+loop-i-init c = (refl, refl, refl)
 
 pub loop-i-preserved : goal.loop-i-preserved
 unfolding word_at
@@ -36,7 +36,6 @@ loop-i-preserved c =
     let i = l.loop-i.i in
     let inside : i < length out = omega (arith, l) in (
       simp length-set l.loop-i.invariant.0,
-      omega arith,
-      stored l.args.bytes.now out i _ inside l.loop-i.invariant.2 (to_z-of_z {w = w32} record { sfits = c.word_le.type_inv } ∙ c.word_le.ensures),
-      kept l.args.out.now out i _ inside l.loop-i.invariant.0 l.loop-i.invariant.3,
+      stored l.args.bytes.now out i _ inside l.loop-i.invariant.1 (to_z-of_z {w = w32} record { sfits = c.word_le.type_inv } ∙ c.word_le.ensures),
+      kept l.args.out.now out i _ inside l.loop-i.invariant.0 l.loop-i.invariant.2,
     )

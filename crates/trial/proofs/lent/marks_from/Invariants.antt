@@ -1,9 +1,0 @@
--- `trial::lent::marks_from` is safe and ends. Assumes nothing.
-use Rattle.std.proofs.Common.{◌≤◌, length}
-use Rattle.trial.proofs.lent.marks_from.Given as goal
-
-abbrev pub invariant-loop-k : goal.invariant-loop-k
-invariant-loop-k l = l.k ≤ length l.numbers
-
-abbrev pub decreases-loop-k : goal.decreases-loop-k
-decreases-loop-k l = l.k
