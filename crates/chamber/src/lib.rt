@@ -2,6 +2,7 @@
 #![tactic(auto)]
 
 mod clear;
+pub mod number;
 
 ghost use Rattle.std.specs.Prelude.{◌≡◌, not, ◌&&◌, ◌||◌, ◌<◌, leb, ltb};
 ghost use Rattle.plane.specs.Rule.{SpotIn, same_spot};

@@ -69,7 +69,7 @@ fn with_found(d: Draft, size: usize, v: Pair) -> Draft
 }
 
 // Whether the pair of position j of Q and position i of P is after the key.
-fn is_late(p: Sheet<'_>, q: Sheet<'_>, key: Key, j: usize, i: usize) -> bool
+pub fn is_late(p: Sheet<'_>, q: Sheet<'_>, key: Key, j: usize, i: usize) -> bool
     requires { (j < q.n) × (i < p.n) }
     ensures { result ≡ follows key (key_of (pair_at (points_of p.entry.words.now) (points_of q.entry.words.now) j i)) }
 {

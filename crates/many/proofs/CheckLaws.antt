@@ -35,12 +35,6 @@ use Rattle.many.specs.Checked.{Served}
 
 -- ---- the first of some numbers
 
-pub first_two : (a b : ℕ) → (a ≡ 0 → ⊥) → a ≡ first (a ∷ b ∷ [])
-first_two a b ne = sym (first_stops a (b ∷ []) ne)
-
-pub first_other : (a b : ℕ) → a ≡ 0 → b ≡ first (a ∷ b ∷ [])
-first_other a b e = sym (first_passes a (b ∷ []) e ∙ first_last b)
-
 -- one more before those whose first is known
 pub many_first_more : (a c r s : ℕ) (l : List ℕ) → a ≡ c → r ≡ first l → s ≡ first (a ∷ r ∷ []) → s ≡ first (c ∷ l)
 unfolding first

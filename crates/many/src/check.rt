@@ -1,14 +1,13 @@
 // What a call is refused by, and else its sheets.
-ghost use Rattle.std.specs.Prelude.{◌≡◌, ◌≢◌, [], ◌∷◌, MatchResult};
-ghost use Rattle.words.specs.First.{first};
+ghost use Rattle.std.specs.Prelude.{◌≡◌, ◌≢◌, MatchResult};
 ghost use Rattle.ring.specs.Answers.{Both};
 ghost use Rattle.ring.specs.Lent.{bits_no};
-ghost use Rattle.ring.specs.Numbers.{grid_no};
 ghost use Rattle.ring.specs.Page.{key_no};
-ghost use Rattle.many.specs.Many.{largest_no, rest_no, pairs_no, own_pairs_no};
+ghost use Rattle.many.specs.Many.{rest_no, pairs_no, own_pairs_no};
 ghost use Rattle.many.specs.Checked.{Served};
 
 use crate::Wanted;
+use chamber::number::{first_of, grid_no, largest_no};
 use list::Key;
 use sheet::Sheet;
 
@@ -20,39 +19,12 @@ pub(crate) struct Checked<'a> {
     pub words: usize,
 }
 
-// The first of two numbers that is not 0.
-fn first_of(a: u32, b: u32) -> u32
-    ensures { result ≡ first (a ∷ b ∷ []) }
-{
-    if a != 0 { a } else { b }
-}
-
-// 29 where the street grid is asked of a sheet of form 2, or 0.
-fn grid_no(p: &[i32], q: &[i32], grid: bool) -> u32
-    ensures { result ≡ grid_no grid p.now q.now }
-{
-    if grid & (sheet::is_second(p) | sheet::is_second(q)) {
-        return 29;
-    }
-    0
-}
-
 // 9 for a key out of range, or 0.
 fn key_no(key: Key) -> u32
     ensures { result ≡ key_no key }
 {
     if !((key.q <= 2000000000) & (key.p <= 2000000000)) {
         return 9;
-    }
-    0
-}
-
-// 40 for a largest size that no pair of any list may have, or 0.
-fn largest_no(largest: u64) -> u32
-    ensures { result ≡ largest_no largest }
-{
-    if largest > 8_000_000_000_000_000_000 {
-        return 40;
     }
     0
 }

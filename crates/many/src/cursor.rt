@@ -1,9 +1,8 @@
 // From one pair of a list to the next, in its order.
-ghost use Rattle.std.specs.Prelude.{◌≡◌, ◌≤◌, ◌<◌};
+ghost use Rattle.std.specs.Prelude.{◌≤◌, ◌<◌};
 ghost use Rattle.sheet.specs.Places.{points_of};
 ghost use Rattle.bits.specs.Set.{Holds};
-ghost use Rattle.list.specs.Pairs.{key_of, follows};
-ghost use Rattle.list.specs.RingList.{pair_at, pair_by};
+ghost use Rattle.list.specs.RingList.{pair_by};
 ghost use Rattle.list.specs.Terms.{profile_for};
 ghost use Rattle.join.specs.Sheets.{Alone};
 ghost use Rattle.chamber.specs.Sized.{listed_to};
@@ -18,18 +17,6 @@ pub(crate) struct Cursor {
     pub at: usize,
     pub i: usize,
     pub next: usize,
-}
-
-// Whether the pair of position j of Q and position i of P is after the key.
-fn is_late(p: Sheet<'_>, q: Sheet<'_>, key: Key, j: usize, i: usize) -> bool
-    requires { (j < q.n) × (i < p.n) }
-    ensures { result ≡ follows key (key_of (pair_at (points_of p.entry.words.now) (points_of q.entry.words.now) j i)) }
-{
-    let v = Key {
-        q: q.id_at(j),
-        p: p.id_at(i),
-    };
-    list::is_after(key, v)
 }
 
 // The first chamber whose id is not below the key's, or their number.
@@ -53,7 +40,7 @@ fn late_from(p: Sheet<'_>, q: Sheet<'_>, key: Key, j: usize, i: usize, bits: &[u
     let mut x = seeds::scan::next_from(bits, i);
     // Kept: each step goes to the next kept bit: the loop counts no index.
     while x < n {
-        if is_late(p, q, key, j, x) {
+        if join::is_late(p, q, key, j, x) {
             return x;
         }
         x = seeds::scan::next_from(bits, x + 1);

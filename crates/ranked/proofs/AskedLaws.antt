@@ -7,17 +7,13 @@ use Prim.Native.Nat.{ℕ, ◌≤◌, ◌<◌}
 use lib.IntN.{ℤ}
 use Rattle.words.specs.First.{first}
 use Rattle.words.proofs.FirstLaws.{first_passes, first_stops, first_last, first_front, none_applies}
-use Rattle.sheet.specs.declared.Size.{Size}
 use Rattle.sheet.specs.Layout.{points}
 use Rattle.sheet.specs.Open.{Opens, sheet_no}
 use Rattle.bits.specs.Set.{words_for}
 use Rattle.list.specs.Pages.{size_no, contractor_no, owners_no}
 use Rattle.list.proofs.PageLaws.{size_fits}
-use Rattle.ring.specs.declared.Head.{Head}
-use Rattle.ring.specs.Answers.{head_of}
 use Rattle.ring.specs.Lent.{need, bits_no}
 use Rattle.ring.specs.Numbers.{grid_no}
-use Rattle.ring.proofs.HeadLaws.{headed, head_number}
 use Rattle.ring.proofs.LentLaws.{bits_short, bits_enough}
 use Rattle.many.specs.Many.{largest_no}
 use Rattle.many.proofs.CheckLaws.{first_without, many_undivided, no_bytes}
@@ -28,29 +24,29 @@ use Rattle.ranked.specs.Ranks.{Ready}
 -- ---- two sheets, and what is asked of them
 
 module _ (P Q : List ℤ) (o : List ℕ) (a : Question) where
-  pub asked_p : (h : Head) → h ≡ head_of P → (h.number ≡ 0 → ⊥) → h.number ≡ asked_no P Q o a
+  pub asked_p : (k : ℕ) → k ≡ sheet_no P → (k ≡ 0 → ⊥) → k ≡ asked_no P Q o a
   unfolding asked_no
-  asked_p h e ne = let n = head_number P h e in n ∙ sym (first_stops (sheet_no P) _ (λ z. ne (n ∙ z)))
+  asked_p k e ne = e ∙ sym (first_stops (sheet_no P) _ (λ z. ne (e ∙ z)))
 
-  module _ (h : Head) (e : h ≡ head_of P) (z : h.number ≡ 0) where
-    pub asked_q : (g : Head) → g ≡ head_of Q → (g.number ≡ 0 → ⊥) → g.number ≡ asked_no P Q o a
+  module _ (z : sheet_no P ≡ 0) where
+    pub asked_q : (k : ℕ) → k ≡ sheet_no Q → (k ≡ 0 → ⊥) → k ≡ asked_no P Q o a
     unfolding asked_no
-    asked_q g f ne = let n = head_number Q g f in n ∙ sym (first_passes (sheet_no P) _ (headed P h e z).opens ∙ first_stops (sheet_no Q) _ (λ x. ne (n ∙ x)))
+    asked_q k e ne = e ∙ sym (first_passes (sheet_no P) _ z ∙ first_stops (sheet_no Q) _ (λ x. ne (e ∙ x)))
 
-    module _ (g : Head) (f : g ≡ head_of Q) (y : g.number ≡ 0) (r : ℕ)
-        (d : r ≡ first (contractor_no false a.contractor ∷ owners_no a.contractor o g.n ∷ grid_no a.grid P Q ∷ size_no a.k ∷ largest_no a.largest ∷ [])) where
+    module _ (y : sheet_no Q ≡ 0) (q : List ℤ) (q_is : q ≡ Q) (nq mq : ℕ) (f : Opens q nq mq) (r : ℕ)
+        (d : r ≡ first (contractor_no false a.contractor ∷ owners_no a.contractor o nq ∷ grid_no a.grid P Q ∷ size_no a.k ∷ largest_no a.largest ∷ [])) where
       pub asked_rest : r ≡ asked_no P Q o a
       unfolding asked_no
       asked_rest =
-          d ∙ ap (λ (n : ℕ). first (contractor_no false a.contractor ∷ owners_no a.contractor o n ∷ grid_no a.grid P Q ∷ size_no a.k ∷ largest_no a.largest ∷ [])) (headed Q g f y).n_is
-          ∙ sym (first_passes (sheet_no P) _ (headed P h e z).opens ∙ first_passes (sheet_no Q) _ (headed Q g f y).opens)
+          d ∙ ap (λ (n : ℕ). first (contractor_no false a.contractor ∷ owners_no a.contractor o n ∷ grid_no a.grid P Q ∷ size_no a.k ∷ largest_no a.largest ∷ [])) (sym f.n_is ∙ ap points q_is)
+          ∙ sym (first_passes (sheet_no P) _ z ∙ first_passes (sheet_no Q) _ y)
 
-      pub asked_ready : r ≡ 0 → (hp hq : Size) → hp ≡ record { n = h.n; m = h.m } → hq ≡ record { n = g.n; m = g.m } → Ready P Q hp hq a.k
-      asked_ready x hp hq eh eg =
+      pub asked_ready : r ≡ 0 → (p : List ℤ) → p ≡ P → (np mp : ℕ) → Opens p np mp → Ready P Q (record { n = np; m = mp }) (record { n = nq; m = mq }) a.k
+      asked_ready x p p_is np mp e =
           let s = size_fits a.k ((none_applies _).0 (sym d ∙ x) 3) in
           record {
-            p_opens = subst (λ (s : Size). Opens P s.n s.m) (sym eh) (headed P h e z).facts;
-            q_opens = subst (λ (s : Size). Opens Q s.n s.m) (sym eg) (headed Q g f y).facts;
+            p_opens = subst (λ (w : List ℤ). Opens w np mp) p_is e;
+            q_opens = subst (λ (w : List ℤ). Opens w nq mq) q_is f;
             some = s.0;
             most = s.1;
           }

@@ -156,21 +156,11 @@ fn refused(number: u32) -> Busy
 pub fn busiest(p: &[i32], q: &[i32], owners: &[u8], asked: Question, bits: &mut [u64]) -> Busy
     ensures { (result ≡ busy_answer p.now q.now owners.now asked (length bits.old)) × (bits.new ≡ busy_bits p.now q.now owners.now asked bits.old) }
 {
-    let c = crate::check::checked(p, q, owners, asked);
-    if c.number != 0 {
-        return refused(c.number);
-    }
-    let ps = Sheet {
-        words: p,
-        n: c.hp.n,
-        m: c.hp.m,
+    let c = match crate::check::checked(p, q, owners, asked) {
+        Ok(c) => c,
+        Err(no) => return refused(no),
     };
-    let qs = Sheet {
-        words: q,
-        n: c.hq.n,
-        m: c.hq.m,
-    };
-    let w = bits::words_for(ps.n);
+    let w = bits::words_for(c.p.n);
     if bits.len() < w {
         return refused(24);
     }
@@ -181,8 +171,8 @@ pub fn busiest(p: &[i32], q: &[i32], owners: &[u8], asked: Question, bits: &mut 
         grid: asked.grid,
     };
     given(
-        ps,
-        qs,
+        c.p,
+        c.q,
         owners,
         terms,
         asked.largest,
@@ -210,21 +200,11 @@ pub fn busiest_pumps(
         contractor: 2,
         grid,
     };
-    let c = crate::check::checked(p, q, b"", asked);
-    if c.number != 0 {
-        return refused(c.number);
-    }
-    let ps = Sheet {
-        words: p,
-        n: c.hp.n,
-        m: c.hp.m,
+    let c = match crate::check::checked(p, q, b"", asked) {
+        Ok(c) => c,
+        Err(no) => return refused(no),
     };
-    let qs = Sheet {
-        words: q,
-        n: c.hq.n,
-        m: c.hq.m,
-    };
-    let w = bits::words_for(qs.n);
+    let w = bits::words_for(c.q.n);
     if bits.len() < w {
         return refused(24);
     }
@@ -234,5 +214,5 @@ pub fn busiest_pumps(
         own: false,
         grid,
     };
-    given(qs, ps, b"", terms, largest, k, &mut bits[..w])
+    given(c.q, c.p, b"", terms, largest, k, &mut bits[..w])
 }

@@ -285,22 +285,12 @@ pub fn urgent(
 ) -> Urgent
     ensures { (result ≡ urgent_answer p.now q.now owners.now p_scores.now q_scores.now asked (length bits.old)) × (bits.new ≡ urgent_bits p.now q.now owners.now p_scores.now q_scores.now asked bits.old) }
 {
-    let c = crate::check::checked(p, q, owners, asked);
-    if c.number != 0 {
-        return refused(c.number);
-    }
-    let ps = Sheet {
-        words: p,
-        n: c.hp.n,
-        m: c.hp.m,
+    let c = match crate::check::checked(p, q, owners, asked) {
+        Ok(c) => c,
+        Err(no) => return refused(no),
     };
-    let qs = Sheet {
-        words: q,
-        n: c.hq.n,
-        m: c.hq.m,
-    };
-    let w = bits::words_for(ps.n);
-    let no = last_no(p_scores, ps.n, q_scores, qs.n, w, bits.len());
+    let w = bits::words_for(c.p.n);
+    let no = last_no(p_scores, c.p.n, q_scores, c.q.n, w, bits.len());
     if no != 0 {
         return refused(no);
     }
@@ -311,8 +301,8 @@ pub fn urgent(
         grid: asked.grid,
     };
     given(
-        ps,
-        qs,
+        c.p,
+        c.q,
         owners,
         p_scores,
         q_scores,

@@ -6,7 +6,7 @@
 --     ring_pages_list        following the answers from (0, 0), whatever their sizes from 1 to 16, gives the list
 --     given_by_points   sheets with the same points give the same pairs, number and end mark of every page of any terms
 -- Assumes nothing.
-use mathlib.Core.Path.{◌≡◌, refl, sym, ap, ap₂, ◌∙◌}
+use mathlib.Core.Path.{◌≡◌, refl, sym, ap, ◌∙◌}
 use mathlib.Core.Bool.{Bool, true, false, not, ◌&&◌, ◌||◌, true≢false}
 use mathlib.Core.List.{List, [], ◌∷◌, ◌++◌}
 use Prim.Native.Nat.{ℕ, ◌*◌, ◌≤◌, ◌<◌}
@@ -16,7 +16,7 @@ use lib.IntN.{ℤ}
 use lib.ListN.{length, take, drop}
 use borrow.Author.Tests.{le-leb}
 use Rattle.words.specs.First.{given, first}
-use Rattle.words.proofs.FirstLaws.{none_applies, first_passes, first_stops, first_last, first_front, given_no, given_yes, given_failed, answer_given, answer_refused, answer_number}
+use Rattle.words.proofs.FirstLaws.{none_applies, first_passes, first_stops, first_last, first_front, given_no, given_failed, answer_given, answer_refused, answer_number}
 use Rattle.words.specs.Range.{last_id}
 use Rattle.words.specs.Word.{num}
 use Rattle.sheet.specs.Layout.{edition, second, points, nodes}
@@ -111,16 +111,6 @@ module _ (P Q : List ℤ) (o : List ℕ) (n : ℕ) (a : Request) where
       pub request_asked : m ≡ 0 → (r : ℕ) → r ≡ asked_no P Q a.grid a.key a.size a.threshold → r ≡ request_no P Q o n a
       unfolding request_no asked_no
       request_asked y r f = f ∙ sym (first_passes (contractor_no false a.contractor) _ (sym d ∙ z) ∙ first_passes (owners_no a.contractor o n) _ (sym e ∙ y))
-
--- what is asked of the two forms
-module _ (g : Bool) (P Q : List ℤ) (s t : Bool) (e : s ≡ second P) (f : t ≡ second Q) where
-  pub forms_second : (g && (s || t)) ≡ true → 29 ≡ grid_no g P Q
-  unfolding grid_no
-  forms_second h = sym (given_yes 29 (ap₂ (λ (x y : Bool). g && (x || y)) (sym e) (sym f) ∙ h))
-
-  pub forms_first : (g && (s || t)) ≡ false → 0 ≡ grid_no g P Q
-  unfolding grid_no
-  forms_first h = sym (given_no 29 (ap₂ (λ (x y : Bool). g && (x || y)) (sym e) (sym f) ∙ h))
 
 -- 29 is not given of the circle
 pub circle_any_form : (P Q : List ℤ) → grid_no false P Q ≡ 0

@@ -2,7 +2,6 @@
 ghost use Rattle.std.specs.Prelude.{◌≡◌, ◌≤◌, length};
 ghost use Rattle.bits.specs.Set.{words_for, none};
 ghost use Rattle.join.specs.Sheets.{Alone};
-ghost use Rattle.ring.specs.Numbers.{grid_no};
 ghost use Rattle.ring.specs.Page.{asked_no, request_no, source_of, page_given, page_refused, page_answer, page_bits};
 
 use crate::Paged;
@@ -40,16 +39,6 @@ pub(crate) fn refused(number: u32) -> Paged
     }
 }
 
-// The number that a request of a profile is refused by for the forms of its sheets: 29 where one is of form 2 and the profile is the street grid's, or 0.
-pub(crate) fn grid_no(p: &[i32], q: &[i32], grid: bool) -> u32
-    ensures { result ≡ grid_no grid p.now q.now }
-{
-    if grid & (sheet::is_second(p) | sheet::is_second(q)) {
-        return 29;
-    }
-    0
-}
-
 // The number that a request of an undivided list is refused by, of sheets that open: 29 by their forms, 9 by its key, 10 by its size, 21 by its threshold, or 0.
 pub(crate) fn asked_no(
     p: &[i32],
@@ -61,7 +50,7 @@ pub(crate) fn asked_no(
 ) -> u32
     ensures { result ≡ asked_no p.now q.now grid key size threshold }
 {
-    let form = grid_no(p, q, grid);
+    let form = chamber::number::grid_no(p, q, grid);
     if form != 0 {
         return form;
     }

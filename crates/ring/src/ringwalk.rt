@@ -10,7 +10,7 @@ pub fn ring_walk(p: &[i32], q: &[i32], j: usize, i: usize, grid: bool) -> Result
     ensures { result ≡ walked p.now q.now j i grid }
 {
     let (ps, qs) = crate::open::heads_of(p, q)?;
-    let form = crate::pages::grid_no(p, q, grid);
+    let form = chamber::number::grid_no(p, q, grid);
     if form != 0 {
         return Err(form);
     }

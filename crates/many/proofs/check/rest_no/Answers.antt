@@ -1,12 +1,13 @@
 -- `many::check::rest_no` meets its contract: one number after the other. Assumes nothing.
 use mathlib.Core.Path.{sym, ◌∙◌}
 use Rattle.words.proofs.FirstLaws.{first_last}
-use Rattle.many.specs.Many.{rest_no}
+use Rattle.ring.specs.Numbers.{grid_no}
+use Rattle.many.specs.Many.{largest_no, rest_no}
 use Rattle.many.proofs.CheckLaws.{many_first_more}
 use Rattle.many.proofs.check.rest_no.Goals as goal
 
 pub returns : goal.returns
-unfolding rest_no
+unfolding grid_no largest_no rest_no
 returns c =
     let g = c.bits_no-g.ensures ∙ sym (first_last _) in
     let f = many_first_more _ _ _ _ _ c.largest_no-f.ensures g c.first_of.ensures in
