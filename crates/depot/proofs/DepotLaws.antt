@@ -1,5 +1,5 @@
 -- What taking a form decides and leaves. Assumes nothing.
-use mathlib.Core.Path.{◌≡◌, refl, ap, ap₂, ◌∙◌}
+use mathlib.Core.Path.{◌≡◌, refl, sym, ap, ap₂, ◌∙◌}
 use mathlib.Core.Bool.{Bool, true, false, ◌||◌}
 use mathlib.Core.List.{List, [], ◌∷◌, ◌++◌}
 use Prim.Native.Nat.{ℕ, ◌≤◌, ◌<◌}
@@ -47,6 +47,16 @@ pub key_any : (l : List Form) (f : Form) → list_any (λ g. same_form g f) l �
 unfolding key_in
 key_any [] f = refl
 key_any (g ∷ l) f = ap (λ (x : Bool). same_form g f || x) (key_any l f)
+
+or_assoc : (x y z : Bool) → ((x || y) || z) ≡ (x || (y || z))
+or_assoc true y z = refl
+or_assoc false y z = refl
+
+-- the key stands in one of two lists
+pub key_append : (a b : List Form) (f : Form) → key_in (a ++ b) f ≡ (key_in a f || key_in b f)
+unfolding key_in
+key_append [] b f = refl
+key_append (g ∷ a) b f = ap (λ (x : Bool). same_form g f || x) (key_append a b f) ∙ sym (or_assoc (same_form g f) (key_in a f) (key_in b f))
 
 module _ (d : Depot) (l : List Form) (f : Form) where
   pub said_11 : length l < d.held → Err 11 ≡ (stored d l f).outcome

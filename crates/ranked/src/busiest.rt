@@ -91,7 +91,9 @@ fn of_chamber(
         id: q.id_at(j),
         pairs: found as u32,
     };
-    g.offered(k, v, ByPairs)
+    let mut r = g;
+    r.offered(k, v, ByPairs);
+    r
 }
 
 // The k busiest of all chambers, one after the other.

@@ -83,24 +83,24 @@ fn of_pair(
     j: usize,
     i: usize,
     score: u64,
-    g: Firsts<Visit>,
-) -> Firsts<Visit>
-    requires { (terms.own ≡ false) × (j < q.n) × (i < p.n) × (1 ≤ k) × (k ≤ 16) × HeldVisits k g }
-    ensures { result ≡ tops_of (gathered ahead k (map (scored score) (row (small_for largest terms (points_of p.entry.words.now) (points_of q.entry.words.now)) (pair_by (profile_for terms) (points_of p.entry.words.now) (points_of q.entry.words.now)) j 1 i)) (held_visits g)) }
+    g: &mut Firsts<Visit>,
+)
+    requires { (terms.own ≡ false) × (j < q.n) × (i < p.n) × (1 ≤ k) × (k ≤ 16) × HeldVisits k g.old }
+    ensures { g.new ≡ tops_of (gathered ahead k (map (scored score) (row (small_for largest terms (points_of p.entry.words.now) (points_of q.entry.words.now)) (pair_by (profile_for terms) (points_of p.entry.words.now) (points_of q.entry.words.now)) j 1 i)) (held_visits g.old)) }
 {
     let pair = walk::pair::pair_by(p, q, j, i, terms.grid);
     if largest < pair.size {
-        return g;
+        return;
     }
     let v = Visit { pair, score };
     if !g.enters(k, v, ByScore) {
-        return g;
+        return;
     }
     let x = walk::ring::pair_walk_by(p, q, j, i, terms.grid);
     if !walk::clear_after(x) {
-        return g;
+        return;
     }
-    g.offered(k, v, ByScore)
+    g.offered(k, v, ByScore);
 }
 
 // The pairs of the chamber at position j, which has this score, one candidate after the other.
@@ -126,7 +126,7 @@ fn of_chamber(
     // Kept: each step goes to the next kept bit: the loop counts no index.
     while i < n {
         let score = own + u64::from(p_scores[i]);
-        r = of_pair(p, q, terms, largest, k, j, i, score, r);
+        of_pair(p, q, terms, largest, k, j, i, score, &mut r);
         i = bits::next_from(bits, i + 1);
     }
     r

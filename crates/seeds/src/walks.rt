@@ -172,6 +172,7 @@ pub(crate) fn walk_node(w: Sheet<'_>, q: Spot, j: usize, bits: &mut [u64], so: &
 }
 
 // The candidate at position i is tried once more: where a dropper drops it by now it is none any more.
+#[inline(always)]
 fn retry(w: Sheet<'_>, q: Spot, i: usize, bits: &mut [u64], line: &Line)
     requires { SpotIn q × (i < w.n) × Holds bits.old w.n }
     ensures { Retries (Among line.now) w.entry.words.now q bits.old bits.new }

@@ -78,7 +78,7 @@ fn with_chamber(
     // Kept: each step goes to the next kept bit: the loop counts no index.
     while i < n {
         let v = walk::pair::pair_at(p, q, j, i);
-        r = r.offered(k, v, BySize);
+        r.offered(k, v, BySize);
         i = seeds::scan::next_from(bits, i + 1);
     }
     r

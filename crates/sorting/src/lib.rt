@@ -74,14 +74,14 @@ impl<T: Copy> Firsts<T> {
         r
     }
 
-    // The value v is offered to those held, of which the first k stay: one that does not stand before the last of k is dropped at once.
-    pub fn offered<O: Comparison<T>>(self, k: usize, v: T, order: O) -> Self
-        requires { (1 ≤ k) × (k ≤ 16) × HeldFirsts O.before O.unused k self }
-        ensures { result ≡ firsts_of O.unused (take k (put_by O.before v (held_firsts self))) }
+    // The value v is offered to those held, of which the first k stay: one that does not stand before the last of k is dropped at once, and nothing is moved for it.
+    pub fn offered<O: Comparison<T>>(&mut self, k: usize, v: T, order: O)
+        requires { (1 ≤ k) × (k ≤ 16) × HeldFirsts O.before O.unused k self.old }
+        ensures { self.new ≡ firsts_of O.unused (take k (put_by O.before v (held_firsts self.old))) }
     {
         if !self.enters(k, v, order) {
-            return self;
+            return;
         }
-        self.put(self.count.min(k - 1), v, order)
+        *self = self.put(self.count.min(k - 1), v, order);
     }
 }

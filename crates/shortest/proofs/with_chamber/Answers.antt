@@ -25,7 +25,7 @@ loop-i-preserved c =
     let t = c.loop-i-test.true in
     let exact = c.pairs_of.ensures.held in (
       gather_next _ _ _ _ _ _ exact _ _ _ _ c.next_from-i-in-loop-i.ensures
-          (gather_turn _ _ _ _ _ _ exact _ _ _ c.loop-i.invariant.0 t (c.loop-i.invariant.1 t) _ c.pair_at-v.ensures _ c.offered-r.ensures),
+          (gather_turn _ _ _ _ _ _ exact _ _ _ c.loop-i.invariant.0 t (c.loop-i.invariant.1 t) _ c.pair_at-v.ensures _ c.offered.ensures),
       λ h. from_kept _ _ _ c.next_from-i-in-loop-i.ensures (omega (arith, h, c.requires.0.enough, c.pairs_of.auto.bits)),
     )
 

@@ -20,7 +20,7 @@ loop-i-preserved c =
     let t = c.loop-i-test.true in
     let sure = pick_sure c.args.largest c.args.terms _ _ _ _ c.args.p.opens _ _ c.candidates.ensures in
     let score = pick_score _ _ _ c.args.p.opens _ c.requires.3 c.args.own (pair_by (profile_for c.args.terms) (points_of c.args.p.words.now) (points_of c.args.q.words.now)) c.args.j l.i t refl _ _ c.from.ensures refl in
-    pick_next _ _ _ _ _ _ _ _ sure _ _ _ c.next_from-i-in-loop-i.ensures (pick_turn _ _ _ _ _ _ _ l.r l.i l.invariant t _ score _ c.of_pair-r.ensures)
+    pick_next _ _ _ _ _ _ _ _ sure _ _ _ c.next_from-i-in-loop-i.ensures (pick_turn _ _ _ _ _ _ _ l.r l.i l.invariant t _ score _ c.of_pair.ensures)
 
 pub returns : goal.returns
 returns c = pick_end _ _ _ _ _ _ _ _ _ c.loop-i.invariant c.loop-i-test.false
