@@ -1,11 +1,11 @@
 """What the papers name, held to what is there: links, paths of files, modules and functions, files of definitions and laws.
 
-Papers are README.md, tests/README.md and docs/*.md. Of docs/CHANGES.md, docs/PORT.md, docs/DESIGN-PASS.md and docs/LOOK-BACK.md only the links are held: they say what was so at each landing, before the port and before the design pass, and names go later.
+Papers are README.md, tests/README.md and docs/*.md. Of docs/CHANGES.md, docs/PORT.md and docs/DESIGN-PASS.md only the links are held: they say what was so at each landing, before the port and before the design pass, and names go later.
 """
 import os
 import re
 
-HISTORY = ("docs/CHANGES.md", "docs/PORT.md", "docs/DESIGN-PASS.md", "docs/LOOK-BACK.md")
+HISTORY = ("docs/CHANGES.md", "docs/PORT.md", "docs/DESIGN-PASS.md")
 LINK = re.compile(r"\[[^\]\n]*\]\(([^)\s]+)\)|^\[[^\]\n]+\]: (\S+)$", re.M)
 QUOTED = re.compile(r"`([^`\n]+)`")
 # `walk` proofs/WalkLaws, FilterCode
